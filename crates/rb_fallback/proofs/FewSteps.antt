@@ -13,10 +13,11 @@ use Rattle.rb_fallback.specs.Alias.{Aim, aims, no_text, no_package, aim, target_
 use Rattle.rb_fallback.specs.Search.{Decided, Setting, Step, found, goes, bundles_of, follow, is_long, level, setting, step, step_of}
 use Rattle.rb_fallback.specs.Steps.{HasFewSteps, go_steps, level_steps, search_steps, trail_length}
 use Rattle.rb_fallback.specs.declared.fault.LookError.{LookError}
+use Rattle.rb_fallback.specs.inner.LevelResult.{Whole}
 use Rattle.rb_fallback.proofs.Budgets.{step_at, steps_at}
 use Rattle.rb_fallback.proofs.Follows.{filled_all}
 use Rattle.rb_fallback.proofs.Links.{level_is, walk_of_whole}
-use Rattle.rb_fallback.proofs.Paths.{Whole, aim_is_filled}
+use Rattle.rb_fallback.proofs.Paths.{aim_is_filled}
 
 -- ---- the names of a trail
 begins_length : (n : List ℕ) (t : Trail) → trail_length (begins n t) ≤ suc (trail_length t)
@@ -29,7 +30,7 @@ onward_length k go (goes_to m) h = h m
 onward_length k go end h = omega arith
 onward_length k go bad h = omega arith
 
-within_length : (k : ℕ) (bundles : Bundles) (parents : ParentsOf) (n : List ℕ) → trail_length (trail_within k bundles parents n) ≤ k
+pub within_length : (k : ℕ) (bundles : Bundles) (parents : ParentsOf) (n : List ℕ) → trail_length (trail_within k bundles parents n) ≤ k
 unfolding trail_within
 within_length zero bundles parents n = omega arith
 within_length (suc k) bundles parents n =

@@ -6,9 +6,9 @@ use Rattle.rb_tree.specs.Resource.{Resource}
 use Rattle.rb_tree.specs.Path.{segments, IsPath}
 use Rattle.rb_parents.specs.Trail.{Bundles, ParentsOf, trail}
 use Rattle.rb_fallback.specs.Answers.{bounded_answer_of}
-use Rattle.rb_fallback.specs.Search.{Hit, Setting, Step, found, search, is_long, go_on, bundles_of, setting}
+use Rattle.rb_fallback.specs.Search.{Hit, Setting, Step, found, goes, search, is_long, go_on, bundles_of, setting}
 use Rattle.rb_fallback.specs.Steps.{go_steps, search_steps, trail_length}
-use Rattle.rb_fallback.specs.inner.Budget.{search_within, spend, within}
+use Rattle.rb_fallback.specs.inner.Budget.{after_step, search_within, spend, within}
 use Rattle.rb_fallback.specs.inner.Steps.{GoesOn, GoesLong, IsOutcome}
 use Rattle.rb_fallback.specs.declared.fault.BoundedError.{BoundedError}
 use Rattle.rb_fallback.specs.declared.fault.BoundedError.TheVariants as bounded
@@ -116,6 +116,11 @@ module _ {left : Option ℕ} {most i : ℕ} {s : Setting} {in_icu : Bool} {n p :
         (sym (long_end most i s long.in_icu long.name long.rest f more long.long e))
         ∙ level_answer long.onto
 
+    -- what follows the step of the first level
+    pub rest_answer : {r : Result Step LookError} → step_at s in_icu n (segments p) ≡ r
+        → within later (go_steps (λ q m ts. search_steps (most - (i + 1)) s q m ts) r) (go_on (λ q m ts. search (most - (i + 1)) s q m ts) r) ≡ answer
+    rest_answer e = level_answer e
+
 -- no level is left
 pub within_end : (left : Option ℕ) (k : ℕ) (s : Setting) (in_icu : Bool) (n : List ℕ) (ss : List (List ℕ)) → k ≡ 0
     → search_within left k s in_icu n ss ≡ Err (bounded.Search fault.TooManyAliases)
@@ -131,6 +136,21 @@ within_long left k j s in_icu n ss e f =
     ap (λ x. within left x (search k s in_icu n ss)) (steps_long k s in_icu n ss f)
     ∙ ap (within left 0) (search_long k j s in_icu n ss e f)
     ∙ within_none left (Err fault.PathTooLong)
+
+-- ---- the first level, once its step is known
+module _ (left : Option ℕ) (s : Setting) (r : Result Step LookError) where
+  pub after_found : (hit : Hit) → r ≡ Ok (found hit) → Ok hit ≡ after_step left s r
+  after_found hit e = sym (within_none left (Ok hit)) ∙ ap (after_step left s) (sym e)
+
+  pub after_err : (f : LookError) → r ≡ Err f → Err (bounded.Search f) ≡ after_step left s r
+  after_err f e = sym (within_none left (Err f)) ∙ ap (after_step left s) (sym e)
+
+  pub after_next : (in_icu : Bool) (n : List ℕ) (ss : List (List ℕ)) → r ≡ Ok (goes in_icu n ss)
+      → search_within left 255 s in_icu n ss ≡ after_step left s r
+  after_next in_icu n ss e = ap (after_step left s) (sym e)
+
+  pub after_long : GoesLong r → Err (bounded.Search fault.PathTooLong) ≡ after_step left s r
+  after_long g = sym (within_long left 255 254 s g.in_icu g.name g.rest (omega arith) g.long) ∙ ap (after_step left s) (sym g.onto)
 
 -- an error that a `?` returns
 pub answer_err : {N : Type 0} (tree : N → Resource) (x : Result (Found N) BoundedError) (f : BoundedError) → IsErrAnd x (λ e. e ≡ f)

@@ -5,8 +5,10 @@ pub mod AppendedUnits
 pub mod PathBuffers
 pub mod Follows
 pub mod Links
+pub mod StopReads
 pub mod Levels
 pub mod NeverBadPath
+pub mod GivenStops
 mod Budgets
-mod FewSteps
+pub mod FewSteps
 pub mod Stretches

@@ -5,21 +5,21 @@ use Rattle.rb_tree.specs.Resource.{Resource, alias}
 use Rattle.rb_tree.specs.SourceTree.{SourceTree}
 use Rattle.rb_tree.specs.Parts.{units_of, kind_of}
 use Rattle.rb_tree.specs.Path.{segments}
-use Rattle.rb_tree.specs.Walk.{Walked, ends, links, gone, behind, stop_of, rest_of, link}
+use Rattle.rb_tree.specs.Walk.{Walked, ends, links, gone, behind, stop_of, rest_of, link, end}
 use Rattle.rb_tree.specs.Ending.{stop_at, RestIs}
 use Rattle.rb_tree.specs.declared.ending.Ending.{Ending}
 use Rattle.rb_tree.specs.declared.ending.Ending.TheVariants.{End, Link, Gone}
-use Rattle.rb_parents.specs.Trail.{Bundles, ParentsOf, Trail, names, trail, stops}
+use Rattle.rb_parents.specs.Trail.{Bundles, Trail, names, stops}
 use Rattle.rb_fallback.specs.Alias.{target}
-use Rattle.rb_fallback.specs.Search.{Decided, walk_of, unless_gone, decide, by_stops, by_trail, level, step, step_of, follow}
-use Rattle.rb_fallback.specs.inner.LevelResult.{IsAliasAt, IsLevelResult}
+use Rattle.rb_fallback.specs.Search.{Decided, walk_of, unless_gone, decide, by_stops, by_trail, found, step, step_of, follow}
+use Rattle.rb_fallback.specs.inner.LevelResult.{IsAliasAt, IsLevelResult, Whole}
 use Rattle.rb_fallback.specs.declared.fault.LookError.{LookError}
 use Rattle.rb_fallback.specs.declared.fault.LookError.TheVariants as fault
 use Rattle.rb_fallback.specs.declared.level.LevelResult.{LevelResult}
 use Rattle.rb_fallback.specs.declared.search.Outcome.{Outcome}
 use Rattle.rb_fallback.specs.declared.search.SearchState.{SearchState}
 use Rattle.rb_fallback.specs.inner.Steps.{IsFollowed, IsOutcome}
-use Rattle.rb_fallback.proofs.Paths.{Whole, walk_whole}
+use Rattle.rb_fallback.proofs.Paths.{walk_whole}
 
 -- ---- the deciding walk is that of its stop
 abbrev walk_in : Option Decided → Walked
@@ -92,26 +92,22 @@ alias_at tree (Link n cut) (ends t) e = cc
 alias_at tree (Link n cut) gone e = cc
 
 -- the deciding walk of a level goes through the whole path
-module _ (bundles : Bundles) (parents : ParentsOf) (n : List ℕ) {N : Type 0} {tree : N → Resource} {h : LevelResult N} {path : List ℕ}
-    {head : Option (List ℕ)} {node : N} {cut : ℕ} (decided : IsLevelResult tree h path (level bundles parents n (segments path)) head)
-    (ending : h.ending ≡ Link node cut) where
-  level_walk : walk_of (bundles h.actual) (segments path) ≡ decided.walked
-  level_walk = level_is bundles (trail bundles parents n) (segments path) (record { stop = h.actual; walked = decided.walked }) decided.decides
-
+module _ {N : Type 0} {tree : N → Resource} {h : LevelResult N} {path : List ℕ} {r : Result Decided LookError} {head : Option (List ℕ)} {node : N}
+    {cut : ℕ} (decided : IsLevelResult tree h path r head) (ending : h.ending ≡ Link node cut) where
   level_link : IsLink (tree node) path cut decided.walked
   level_link =
       link_of (tree node) path cut decided.walked (sym (ap (stop_at tree) ending) ∙ decided.stop)
       (subst (λ x. RestIs x path (rest_of decided.walked)) ending decided.rest)
-      (subst (λ w. Whole w (segments path)) level_walk (walk_of_whole (bundles h.actual) (segments path)))
+      decided.whole
 
   -- what `follow_alias` gives, whatever was walked to the alias and is left, is the step of the level
   pub follow_link : {q : List ℕ} (in_icu : Bool) (valid : List ℕ) (x : Result Bool LookError) (p : SearchState) → q ≡ path
       → ((walked rest : List (List ℕ)) → walked ++ rest ≡ segments q → rest ≡ segments (drop (behind cut) q)
       → IsFollowed x p (follow rest (target (units_of (tree node)) in_icu valid walked)))
-      → IsFollowed x p (step in_icu valid (level bundles parents n (segments path)))
+      → IsFollowed x p (step in_icu valid r)
   follow_link in_icu valid x p same f =
       let l = level_link in
-      let is : step in_icu valid (level bundles parents n (segments path)) ≡ follow l.rest (target (units_of (tree node)) in_icu valid l.walked) =
+      let is : step in_icu valid r ≡ follow l.rest (target (units_of (tree node)) in_icu valid l.walked) =
       ap (step in_icu valid) decided.decides
       ∙ ap (λ w. step_of in_icu valid h.actual w) l.is
       ∙ ap (λ us. follow l.rest (target us in_icu valid l.walked)) (sym (ap units_of l.same)) in
@@ -120,10 +116,20 @@ module _ (bundles : Bundles) (parents : ParentsOf) (n : List ℕ) {N : Type 0} {
 
 -- what ends a level is its step, also if the path is known as another one
 pub outcome_at : {N : Type 0} (tree : N → Resource) (d : LevelResult N) (x : Result (Outcome N) LookError) (to : SearchState) (in_icu : Bool) (valid : List ℕ)
-    (b : Bundles) (ps : ParentsOf) (n : List ℕ) (head : Option (List ℕ)) (q p : List ℕ) → q ≡ p
-    → ((b : Bundles) (ps : ParentsOf) (n : List ℕ) (head : Option (List ℕ)) → IsLevelResult tree d q (level b ps n (segments q)) head
-    → IsOutcome tree x to (step in_icu valid (level b ps n (segments q))))
-    → IsLevelResult tree d p (level b ps n (segments p)) head → IsOutcome tree x to (step in_icu valid (level b ps n (segments p)))
-outcome_at tree d x to in_icu valid b ps n head q p same f h =
-    subst (λ (y : List ℕ). IsOutcome tree x to (step in_icu valid (level b ps n (segments y)))) same
-    (f b ps n head (subst (λ (y : List ℕ). IsLevelResult tree d y (level b ps n (segments y)) head) (sym same) h))
+    (r : Result Decided LookError) (head : Option (List ℕ)) (q p : List ℕ) → q ≡ p
+    → ((r : Result Decided LookError) (head : Option (List ℕ)) → IsLevelResult tree d q r head → IsOutcome tree x to (step in_icu valid r))
+    → IsLevelResult tree d p r head → IsOutcome tree x to (step in_icu valid r)
+outcome_at tree d x to in_icu valid r head q p same f h = f r head (subst (λ (y : List ℕ). IsLevelResult tree d y r head) (sym same) h)
+
+-- ---- a deciding walk that ends at a tree
+ends_at : (w : Walked) (t : Resource) → end t ≡ stop_of w → w ≡ ends t
+ends_at (ends u) t e = let same : t ≡ u = cc in ap ends (sym same)
+ends_at (links us walked rest) t e = cc
+ends_at gone t e = cc
+
+pub found_step : {N : Type 0} (tree : N → Resource) (h : LevelResult N) (path : List ℕ) (r : Result Decided LookError) (head : Option (List ℕ))
+    (node : N) (in_icu : Bool) (valid : List ℕ) → IsLevelResult tree h path r head → h.ending ≡ End node
+    → step in_icu valid r ≡ Ok (found (record { tree = tree node; actual = h.actual }))
+found_step tree h path r head node in_icu valid d e =
+    ap (step in_icu valid) d.decides
+    ∙ ap (step_of in_icu valid h.actual) (ends_at d.walked (tree node) (sym (ap (stop_at tree) e) ∙ d.stop))

@@ -8,8 +8,8 @@ use Rattle.rb_fallback.specs.Alias.{Target, leads, bad_text, bad_package, target
 use Rattle.rb_fallback.specs.Answers.{bounded_answer_of}
 use Rattle.rb_fallback.specs.Search.{Decided, decide, by_stops, by_trail, level, Step, found, goes, follow, step, step_of}
 use Rattle.rb_fallback.specs.Search.{Hit, Setting, bundles_of, go_on, is_long, search}
-use Rattle.rb_fallback.specs.Steps.{search_steps, searched}
-use Rattle.rb_fallback.specs.inner.Budget.{search_within, within}
+use Rattle.rb_fallback.specs.Steps.{go_steps, search_steps, searched}
+use Rattle.rb_fallback.specs.inner.Budget.{after_step, search_within, within}
 use Rattle.rb_fallback.specs.declared.fault.BoundedError.{BoundedError}
 use Rattle.rb_fallback.specs.declared.fault.BoundedError.TheVariants as bounded
 use Rattle.rb_fallback.specs.declared.found.Found.{Found}
@@ -66,22 +66,38 @@ search_never (suc k) s in_icu n ss e = by (λ p m ts f. search_never k s p m ts 
         let no_level = trail_never bundles (trail bundles s.parents n) ss in
         go_never (λ p m ts. search k s p m ts) (step_at s in_icu n ss) g (step_never in_icu s.valid (level bundles s.parents n ss) no_level) f
 
+-- ---- with a limit on its steps
+searched_never : (r : Result Hit LookError) → (r ≡ Err fault.BadPath → ⊥) → searched r ≡ Err (bounded.Search fault.BadPath) → ⊥
+searched_never (Ok hit) h g = cc
+searched_never (Err f) h g = let same : f ≡ fault.BadPath = cc in h (ap Err same)
+
+if_never : (b : Bool) (r : Result Hit LookError) → (r ≡ Err fault.BadPath → ⊥)
+    → cond b (Err bounded.TooManySteps) (searched r) ≡ Err (bounded.Search fault.BadPath) → ⊥
+if_never true r h g = cc
+if_never false r h g = searched_never r h g
+
+within_never : (left : Option ℕ) (taken : ℕ) (r : Result Hit LookError) → (r ≡ Err fault.BadPath → ⊥)
+    → within left taken r ≡ Err (bounded.Search fault.BadPath) → ⊥
+within_never None taken r h g = searched_never r h g
+within_never (Some left) taken r h g = if_never (nat_lt left taken) r h g
+
 -- nor does a search with a limit on its steps
 pub answer_never : {N : Type 0} (tree : N → Resource) (x : Result (Found N) BoundedError) (left : Option ℕ) (k : ℕ) (s : Setting) (in_icu : Bool)
     (n : List ℕ) (ss : List (List ℕ)) → bounded_answer_of tree x ≡ search_within left k s in_icu n ss → x ≡ Err (bounded.Search fault.BadPath) → ⊥
 answer_never tree x left k s in_icu n ss e f =
     within_never left (search_steps k s in_icu n ss) (search k s in_icu n ss) (search_never k s in_icu n ss) (sym e ∙ ap (bounded_answer_of tree) f)
-  where
-    searched_never : (r : Result Hit LookError) → (r ≡ Err fault.BadPath → ⊥) → searched r ≡ Err (bounded.Search fault.BadPath) → ⊥
-    searched_never (Ok hit) h g = cc
-    searched_never (Err f) h g = let same : f ≡ fault.BadPath = cc in h (ap Err same)
 
-    if_never : (b : Bool) (r : Result Hit LookError) → (r ≡ Err fault.BadPath → ⊥)
-        → cond b (Err bounded.TooManySteps) (searched r) ≡ Err (bounded.Search fault.BadPath) → ⊥
-    if_never true r h g = cc
-    if_never false r h g = searched_never r h g
+-- nor does what follows the first level
+pub after_never : {N : Type 0} (tree : N → Resource) (x : Result (Found N) BoundedError) (left : Option ℕ) (s : Setting) (in_icu : Bool)
+    (valid : List ℕ) (d : Decided) → bounded_answer_of tree x ≡ after_step left s (step in_icu valid (Ok d)) → x ≡ Err (bounded.Search fault.BadPath) → ⊥
+after_never tree x left s in_icu valid d e f =
+    let r = step in_icu valid (Ok d) in
+    within_never left (go_steps (λ p m ts. search_steps 255 s p m ts) r) (go_on (λ p m ts. search 255 s p m ts) r)
+    (go_never (λ p m ts. search 255 s p m ts) r (λ p m ts. search_never 255 s p m ts) (λ g. walked_never in_icu valid d.stop d.walked g))
+    (sym e ∙ ap (bounded_answer_of tree) f)
 
-    within_never : (left : Option ℕ) (taken : ℕ) (r : Result Hit LookError) → (r ≡ Err fault.BadPath → ⊥)
-        → within left taken r ≡ Err (bounded.Search fault.BadPath) → ⊥
-    within_never None taken r h g = searched_never r h g
-    within_never (Some left) taken r h g = if_never (nat_lt left taken) r h g
+-- a search without a limit never runs out of steps
+pub searched_always : {N : Type 0} (tree : N → Resource) (x : Result (Found N) BoundedError) (a : Result Hit LookError)
+    → bounded_answer_of tree x ≡ searched a → x ≡ Err bounded.TooManySteps → ⊥
+searched_always tree x (Ok hit) e f = let never : Err bounded.TooManySteps ≡ searched (Ok hit) = sym (ap (bounded_answer_of tree) f) ∙ e in cc
+searched_always tree x (Err g) e f = let never : Err bounded.TooManySteps ≡ searched (Err g) = sym (ap (bounded_answer_of tree) f) ∙ e in cc

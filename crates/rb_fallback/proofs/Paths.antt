@@ -10,12 +10,9 @@ use Rattle.rb_locales.specs.Locale.{name}
 use Rattle.rb_fallback.specs.Alias.{Aim, aims, no_text, is_plain, aim, plain_aim, packaged, located, named, with_path}
 use Rattle.rb_fallback.specs.AliasPaths.{are_filled}
 use Rattle.rb_fallback.specs.Search.{is_long}
+use Rattle.rb_fallback.specs.inner.LevelResult.{Whole}
 
 -- ---- the segments walked and those left are all
-abbrev pub Whole : Walked → List (List ℕ) → Type 0
-Whole (links us walked rest) ss = walked ++ rest ≡ ss
-Whole w ss = Unit {0}
-
 after_whole : (s : List ℕ) (w : Walked) (ss : List (List ℕ)) → Whole w ss → Whole (after s w) (s ∷ ss)
 after_whole s (links us walked rest) ss h = ap (λ l. s ∷ l) h
 after_whole s w ss h = tt

@@ -11,6 +11,7 @@ use Rattle.rb_tree.specs.declared.ending.Ending.TheVariants.{End, Link, Gone}
 use Rattle.rb_parents.specs.Trail.{Bundles, is_stop, stops_at, stop_tree, stops}
 use Rattle.rb_fallback.specs.Search.{Decided, walk_of, unless_gone, decide, first_of}
 use Rattle.rb_fallback.specs.inner.LevelResult.{DecidingWalk, IsEnding}
+use Rattle.rb_fallback.proofs.Paths.{walk_whole}
 
 pub first_on : (o : Option (List ℕ)) (all : List (List ℕ)) (n : List ℕ) → o ≡ first_of all → Some (unwrap_or o n) ≡ first_of (all ++ n ∷ [])
 first_on o [] n e = ap (λ x. Some (unwrap_or x n)) e
@@ -29,16 +30,16 @@ decide_on : (b : Bundles) (all : List (List ℕ)) (n : List ℕ) (ss : List (Lis
 decide_on b [] n ss = refl
 decide_on b (m ∷ all) n ss = ap (unless_gone m (walk_of (b m) ss)) (decide_on b all n ss) ∙ skips m (walk_of (b m) ss) (decide b all ss) _
 
-not_gone : (w : Walked) (n : List ℕ) (o : Option Decided) → (stop_of w ≡ nowhere → ⊥) → unless_gone n w o ≡ Some (record { stop = n; walked = w })
+pub not_gone : (w : Walked) (n : List ℕ) (o : Option Decided) → (stop_of w ≡ nowhere → ⊥) → unless_gone n w o ≡ Some (record { stop = n; walked = w })
 not_gone gone n o h = absurd (h refl)
 not_gone w n o h = refl
 
-is_gone : (w : Walked) (n : List ℕ) (o : Option Decided) → nowhere ≡ stop_of w → unless_gone n w o ≡ o
+pub is_gone : (w : Walked) (n : List ℕ) (o : Option Decided) → nowhere ≡ stop_of w → unless_gone n w o ≡ o
 is_gone gone n o h = refl
 is_gone w n o h = cc
 
 -- the tree that a stop has is that of its bundle
-abbrev tree_in : Option SourceTree → Option Resource
+abbrev pub tree_in : Option SourceTree → Option Resource
 tree_in None = None
 tree_in (Some b) = Some b.tree
 
@@ -50,10 +51,10 @@ same_walk : (o : Option SourceTree) (ss : List (List ℕ)) → walk_of o ss ≡ 
 same_walk None ss = refl
 same_walk (Some b) ss = refl
 
-stop_walk : (o : Option SourceTree) (t : Resource) (ss : List (List ℕ)) → tree_in o ≡ Some t → walk_of o ss ≡ walk t ss
+pub stop_walk : (o : Option SourceTree) (t : Resource) (ss : List (List ℕ)) → tree_in o ≡ Some t → walk_of o ss ≡ walk t ss
 stop_walk o t ss e = same_walk o ss ∙ ap (λ x. walk_in x ss) e
 
-stop_some : (o : Option SourceTree) (t : Resource) → stop_tree o ≡ Some t → (stops_at o ≡ true) × (tree_in o ≡ Some t)
+pub stop_some : (o : Option SourceTree) (t : Resource) → stop_tree o ≡ Some t → (stops_at o ≡ true) × (tree_in o ≡ Some t)
 stop_some None t e = cc
 stop_some (Some b) t e = by (stops_at (Some b)) refl e
   where
@@ -84,12 +85,14 @@ module _ {N : Type 0} (tree : N → Resource) (b : Bundles) (path : List ℕ) (a
   ending_first (End m) t none is stop rest = record {
     walked = walk t (segments path);
     decides = one_on t none is ∙ not_gone (walk t (segments path)) n None (λ z. let never : stop_at tree (End m) ≡ nowhere = stop ∙ z in cc);
+    whole = walk_whole t (segments path);
     stop = stop;
     rest = rest;
   }
   ending_first (Link m k) t none is stop rest = record {
     walked = walk t (segments path);
     decides = one_on t none is ∙ not_gone (walk t (segments path)) n None (λ z. let never : stop_at tree (Link m k) ≡ nowhere = stop ∙ z in cc);
+    whole = walk_whole t (segments path);
     stop = stop;
     rest = rest;
   }
@@ -98,6 +101,7 @@ module _ {N : Type 0} (tree : N → Resource) (b : Bundles) (path : List ℕ) (a
   decided_on x a d = record {
     walked = d.walked;
     decides = decide_on b all n (segments path) ∙ ap (λ o. or_later o (unless_gone n (walk_of (b n) (segments path)) None)) d.decides;
+    whole = d.whole;
     stop = d.stop;
     rest = d.rest;
   }

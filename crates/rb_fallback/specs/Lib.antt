@@ -1,6 +1,7 @@
 pub mod Limits
 pub mod Alias
 pub mod Search
+pub mod Stops
 pub mod Steps
 pub mod Answers
 pub mod Words

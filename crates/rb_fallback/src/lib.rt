@@ -11,6 +11,7 @@ mod path;
 mod path_buffer;
 mod search;
 mod steps;
+mod stops;
 mod watch;
 mod words;
 
@@ -19,5 +20,6 @@ pub use fault::{AliasFault, BoundedError, LookError};
 pub use found::Found;
 pub use limits::{LEVEL_LIMIT, PATH_LIMIT};
 pub use path::rest_behind;
-pub use search::{look, look_watched, look_within};
+pub use search::{look, look_from, look_watched, look_within};
+pub use stops::Stops;
 pub use watch::{Visit, Watch};

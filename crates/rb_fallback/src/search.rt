@@ -1,20 +1,24 @@
-ghost use Rattle.std.specs.Prelude.{◌≡◌, ◌↔◌, ◌==◌, ◌+◌, ◌++◌, ℕ, List, Option};
-ghost use Rattle.std.specs.Prelude.{Err, IfOk, Some, drop, false, if◌then◌else◌};
+ghost use Rattle.std.specs.Prelude.{◌≡◌, ◌≤◌, ◌↔◌, ◌==◌, ◌+◌, ◌++◌, ℕ, List, Option, Result};
+ghost use Rattle.std.specs.Prelude.{Err, IfOk, Some, drop, false, length, if◌then◌else◌};
 ghost use Rattle.rb_tree.specs.Parts.{kind_of, units_of};
 ghost use Rattle.rb_tree.specs.declared.kind.Kind.TheVariants as Kinds;
 ghost use Rattle.rb_tree.specs.Path.{IsPath, segments};
 ghost use Rattle.rb_tree.specs.Walk.{behind};
 ghost use Rattle.rb_parents.specs.Family.{parent_of};
-ghost use Rattle.rb_parents.specs.Trail.{Bundles, ParentsOf, trail};
+ghost use Rattle.rb_parents.specs.Trail.{trail};
 ghost use Rattle.rb_fallback.specs.Alias.{target};
 ghost use Rattle.rb_fallback.specs.Answers.{answer_of, bounded_answer_of};
-ghost use Rattle.rb_fallback.specs.Search.{bundles_of, first_stop, follow, level, look_up, setting};
-ghost use Rattle.rb_fallback.specs.Search.{setting_of, step};
+ghost use Rattle.rb_fallback.specs.Limits.{path_limit};
+ghost use Rattle.rb_fallback.specs.Search.{Decided, bundles_of, first_stop, follow, level, look_up};
+ghost use Rattle.rb_fallback.specs.Search.{setting, setting_of, step};
 ghost use Rattle.rb_fallback.specs.Steps.{look_up_within, trail_length};
-ghost use Rattle.rb_fallback.specs.inner.Budget.{search_within};
+ghost use Rattle.rb_fallback.specs.Stops.{AreStopsOf};
+ghost use Rattle.rb_fallback.specs.inner.Budget.{after_step, search_within};
 ghost use Rattle.rb_fallback.specs.inner.LevelResult.{IsAliasAt, IsLevel, IsLevelResult};
+ghost use Rattle.rb_fallback.specs.inner.LevelResult.{IsSomeResult};
 ghost use Rattle.rb_fallback.specs.inner.Steps.{IsFollowed, IsFor, IsOutcome};
 ghost use Rattle.rb_fallback.specs.declared.fault.BoundedError.TheVariants as Bounded;
+ghost use Rattle.rb_fallback.specs.declared.fault.LookError.{LookError};
 ghost use Rattle.rb_fallback.specs.declared.fault.LookError.TheVariants as Faults;
 
 use crate::alias::read_alias;
@@ -24,6 +28,7 @@ use crate::level::{LevelResult, level};
 use crate::limits::{LEVEL_LIMIT, PATH_LIMIT};
 use crate::path_buffer::PathBuffer;
 use crate::steps::left_after;
+use crate::stops::{Stops, level_from};
 use crate::watch::Watch;
 use rb_locales::Name;
 use rb_parents::{Parents, Shelf};
@@ -89,11 +94,9 @@ fn end_level<N: Node, W: Watch>(
 ) -> Result<Outcome<N>, LookError>
     requires path { IsPath state.old.path }
     requires alias { IsAliasAt N.tree decided.ending }
-    ensures outcome { (b : Bundles) → (ps : ParentsOf) → (n : List ℕ) → (head : Option (List ℕ))
-        → IsLevelResult N.tree decided state.old.path
-        (level b ps n (segments state.old.path)) head
-        → IsOutcome N.tree result state.new
-        (step state.old.icudata valid.now (level b ps n (segments state.old.path))) }
+    ensures outcome { (r : Result Decided LookError) → (head : Option (List ℕ))
+        → IsLevelResult N.tree decided state.old.path r head
+        → IsOutcome N.tree result state.new (step state.old.icudata valid.now r) }
     ensures valid { IfOk result (IsFor valid.now) }
 {
     match decided.ending {
@@ -186,6 +189,50 @@ fn search_on<'a, S: Shelf<'a>, I: Shelf<'a, N = S::N>, W: Watch>(
     Err(BoundedError::Search(LookError::TooManyAliases))
 }
 
+/// Ends the first level of a search, and continues where an alias leads, in at most `left` steps;
+/// `None` is no limit.
+fn search_after<'a, S: Shelf<'a>, I: Shelf<'a, N = S::N>, W: Watch>(
+    own: S,
+    icu: I,
+    parents: &Parents,
+    decided: LevelResult<S::N>,
+    path: &[u8],
+    left: Option<u64>,
+    watch: &mut W,
+) -> Result<Found<S::N>, BoundedError>
+    requires path { IsPath path.now }
+    requires short { length path.now ≤ path_limit }
+    requires walk { IsSomeResult S.N.tree decided path.now }
+    ensures answer { (r : Result Decided LookError) → (head : Option (List ℕ))
+        → IsLevelResult S.N.tree decided path.now r head
+        → bounded_answer_of S.N.tree result ≡ after_step left
+        (setting_of (S.bundles own) (I.bundles icu) (parent_of parents.now) decided.first)
+        (step false decided.first r) }
+    ensures valid { IfOk result (λ f. f.valid ≡ decided.first) }
+{
+    let valid = decided.first;
+    // An item needs no copy of the path.
+    if let Ending::End(node) = decided.ending {
+        let actual = decided.actual;
+        return Ok(Found {
+            node,
+            actual,
+            valid,
+        });
+    }
+    let mut state = SearchState {
+        icudata: false,
+        name: decided.actual,
+        path: PathBuffer::of(path),
+    };
+    let outcome = end_level(decided, &valid, &mut state, watch)?;
+    match outcome {
+        Outcome::Found(found) => Ok(found),
+        Outcome::Next => search_on(own, icu, parents, &valid, &mut state, left, watch),
+        Outcome::TooLong => Err(BoundedError::Search(LookError::PathTooLong)),
+    }
+}
+
 /// Looks a path up in at most `left` steps; `None` is no limit. The steps of a level are subtracted
 /// after the level was searched.
 fn search_from<'a, S: Shelf<'a>, I: Shelf<'a, N = S::N>, W: Watch>(
@@ -215,18 +262,7 @@ fn search_from<'a, S: Shelf<'a>, I: Shelf<'a, N = S::N>, W: Watch>(
     let reached = level(own, parents, name, path, &mut names, watch);
     let left = left_after(left, names, path)?;
     let decided = reached?;
-    let valid = decided.first;
-    let mut state = SearchState {
-        icudata: false,
-        name: *name,
-        path: PathBuffer::of(path),
-    };
-    let outcome = end_level(decided, &valid, &mut state, watch)?;
-    match outcome {
-        Outcome::Found(found) => Ok(found),
-        Outcome::Next => search_on(own, icu, parents, &valid, &mut state, left, watch),
-        Outcome::TooLong => Err(BoundedError::Search(LookError::PathTooLong)),
-    }
+    search_after(own, icu, parents, decided, path, left, watch)
 }
 
 /// Looks a path up from a name, in the bundles `own` and, where an alias leads there, in `icu`.
@@ -319,4 +355,45 @@ pub fn look_within<'a, S: Shelf<'a>, I: Shelf<'a, N = S::N>>(
         (λ f. first_stop (S.bundles own) (parent_of parents.now) name.now ≡ Some f.valid) }
 {
     search_from(own, icu, parents, name, path, Some(steps), &mut ())
+}
+
+/// Looks a path up as `look` does from the name whose stops are given. Only the stops up to the one
+/// that decides are read.
+///
+/// The errors are those of `look` from a name whose trail is valid. Allocates nothing.
+///
+/// ```rust
+/// let found = look_from(stops, shelf, shelf, &parents, b"menu/open")?;
+/// // What `look` finds from the name whose stops these are.
+/// ```
+pub fn look_from<'a, T: Stops<'a>, S: Shelf<'a, N = T::N>, I: Shelf<'a, N = T::N>>(
+    stops: T,
+    own: S,
+    icu: I,
+    parents: &Parents,
+    path: &[u8],
+) -> Result<Found<T::N>, LookError>
+    ensures bad_path { (result ≡ Err Faults.BadPath) ↔ (IsPath path.now → ⊥) }
+    ensures answer { (name : List ℕ)
+        → AreStopsOf (T.stop stops) (S.bundles own) (parent_of parents.now) name
+        → IsPath path.now → answer_of T.N.tree result
+        ≡ look_up (S.bundles own) (I.bundles icu) (parent_of parents.now) name
+        (segments path.now) }
+    ensures valid { (name : List ℕ)
+        → AreStopsOf (T.stop stops) (S.bundles own) (parent_of parents.now) name
+        → IfOk result (λ f. first_stop (S.bundles own) (parent_of parents.now) name
+        ≡ Some f.valid) }
+{
+    if !path_ok(path) {
+        return Err(LookError::BadPath);
+    }
+    if path.len() > PATH_LIMIT {
+        return Err(LookError::PathTooLong);
+    }
+    let decided = level_from(stops, path)?;
+    match search_after(own, icu, parents, decided, path, None, &mut ()) {
+        Ok(found) => Ok(found),
+        Err(BoundedError::Search(fault)) => Err(fault),
+        Err(BoundedError::TooManySteps) => unreachable!(),
+    }
 }

@@ -1,7 +1,7 @@
 -- For proofs only: a search with this many steps left, or, at None, without a limit.
 use Rattle.std.specs.Prelude.{◌-◌, ℕ, List, Bool, nat_lt, Option, Some, None, Result, Ok, Err, if◌then◌else◌}
-use Rattle.rb_fallback.specs.Search.{Hit, Setting, search}
-use Rattle.rb_fallback.specs.Steps.{if_within, search_steps, searched}
+use Rattle.rb_fallback.specs.Search.{Hit, Setting, Step, go_on, search}
+use Rattle.rb_fallback.specs.Steps.{go_steps, if_within, search_steps, searched}
 use Rattle.rb_fallback.specs.declared.fault.BoundedError.{BoundedError}
 use Rattle.rb_fallback.specs.declared.fault.BoundedError.TheVariants as bounded
 use Rattle.rb_fallback.specs.declared.fault.LookError.{LookError}
@@ -17,3 +17,7 @@ within (Some left) taken answer = if_within left taken answer
 
 abbrev pub search_within : Option ℕ → ℕ → Setting → Bool → List ℕ → List (List ℕ) → Result Hit BoundedError
 search_within left k s in_icu n ss = within left (search_steps k s in_icu n ss) (search k s in_icu n ss)
+
+-- what follows the step of the first level
+abbrev pub after_step : Option ℕ → Setting → Result Step LookError → Result Hit BoundedError
+after_step left s r = within left (go_steps (λ p m ts. search_steps 255 s p m ts) r) (go_on (λ p m ts. search 255 s p m ts) r)

@@ -1,6 +1,5 @@
 use Rattle.std.proofs.Common.{Ok, Err, refl, subst}
-use Rattle.rb_tree.specs.Path.{segments}
-use Rattle.rb_fallback.specs.Search.{level, step}
+use Rattle.rb_fallback.specs.Search.{step}
 use Rattle.rb_fallback.specs.inner.LevelResult.{IsAliasAt}
 use Rattle.rb_fallback.specs.inner.Steps.{IsFollowed}
 use Rattle.rb_fallback.proofs.Levels.{outcome_err}
@@ -14,25 +13,25 @@ pub follow_alias-requires-clause-alias : goal.follow_alias-requires-clause-alias
 follow_alias-requires-clause-alias g c = subst (IsAliasAt g.N.Node.tree) c.in-Link.is c.requires.alias
 
 pub returns-in_err-follow_alias-in-Link-clause-outcome : goal.returns-in_err-follow_alias-in-Link-clause-outcome
-returns-in_err-follow_alias-in-Link-clause-outcome g c = λ b ps n head h.
+returns-in_err-follow_alias-in-Link-clause-outcome g c = λ r head h.
     let p = c.args.state.now in
     let new = c.follow_alias.new.state in
     let e = c.in_err-follow_alias-in-Link.field-0.0 in
-    let met = follow_link b ps n h c.in-Link.is p.icudata c.args.valid.now (Err e) new refl c.in_err-follow_alias-in-Link.ensures in
-    outcome_err g.N.Node.tree c.from_residual.result e new (step p.icudata c.args.valid.now (level b ps n (segments p.path))) c.from_residual.ensures.1 met
+    let met = follow_link h c.in-Link.is p.icudata c.args.valid.now (Err e) new refl c.in_err-follow_alias-in-Link.ensures in
+    outcome_err g.N.Node.tree c.from_residual.result e new (step p.icudata c.args.valid.now r) c.from_residual.ensures.1 met
 
 pub returns-then-branch-clause-outcome : goal.returns-then-branch-clause-outcome
-returns-then-branch-clause-outcome g c = λ b ps n head h.
+returns-then-branch-clause-outcome g c = λ r head h.
     let p = c.args.state.now in
     let new = c.follow_alias.new.state in
     let fits = c.in_ok-follow_alias-in-Link.field-0 in
-    subst (λ v. IsFollowed (Ok v) new (step p.icudata c.args.valid.now (level b ps n (segments p.path)))) c.if-branch.true
-    (follow_link b ps n h c.in-Link.is p.icudata c.args.valid.now (Ok fits) new refl c.in_ok-follow_alias-in-Link.ensures)
+    subst (λ v. IsFollowed (Ok v) new (step p.icudata c.args.valid.now r)) c.if-branch.true
+    (follow_link h c.in-Link.is p.icudata c.args.valid.now (Ok fits) new refl c.in_ok-follow_alias-in-Link.ensures)
 
 pub returns-else-branch-clause-outcome : goal.returns-else-branch-clause-outcome
-returns-else-branch-clause-outcome g c = λ b ps n head h.
+returns-else-branch-clause-outcome g c = λ r head h.
     let p = c.args.state.now in
     let new = c.follow_alias.new.state in
     let fits = c.in_ok-follow_alias-in-Link.field-0 in
-    subst (λ v. IsFollowed (Ok v) new (step p.icudata c.args.valid.now (level b ps n (segments p.path)))) c.if-branch.false
-    (follow_link b ps n h c.in-Link.is p.icudata c.args.valid.now (Ok fits) new refl c.in_ok-follow_alias-in-Link.ensures)
+    subst (λ v. IsFollowed (Ok v) new (step p.icudata c.args.valid.now r)) c.if-branch.false
+    (follow_link h c.in-Link.is p.icudata c.args.valid.now (Ok fits) new refl c.in_ok-follow_alias-in-Link.ensures)

@@ -1,7 +1,7 @@
 use Rattle.std.proofs.Common.{Ok, ap, sym, ◌∙◌, subst, arith}
 use Rattle.rb_tree.specs.Path.{segments}
 use Rattle.rb_parents.specs.Family.{parent_of}
-use Rattle.rb_fallback.specs.Search.{bundles_of, first_stop, setting_of, step}
+use Rattle.rb_fallback.specs.Search.{bundles_of, first_stop, level, setting_of, step}
 use Rattle.rb_fallback.specs.inner.Steps.{IsOutcome, GoesOn, GoesLong}
 use Rattle.rb_fallback.proofs.Budgets.{step_at}
 use Rattle.rb_fallback.proofs.Levels.{answer_err, err_answer, found_answer, level_less, long_answer, next_level, within_end}
@@ -25,7 +25,7 @@ returns-in_err-outcome-clause-answer g c =
     let ps = parent_of c.args.parents.now in
     answer_err g.S.N.Node.tree c.from_residual-in_err-outcome.result _ c.from_residual-in_err-outcome.ensures.1
     ∙ err_answer c.loop-level.invariant (omega arith) c.as_slice-path.ensures.short c.level_at-reached.ensures.names c.as_slice-path.ensures.path c.in_ok-left.ensures
-    (c.in_err-outcome.ensures.outcome b ps p.name (first_stop b ps p.name) c.in_ok-decided.ensures.level)
+    (c.in_err-outcome.ensures.outcome (level b ps p.name (segments p.path)) (first_stop b ps p.name) c.in_ok-decided.ensures.level)
 
 pub returns-in-Found-clause-answer : goal.returns-in-Found-clause-answer
 returns-in-Found-clause-answer g c =
@@ -35,7 +35,7 @@ returns-in-Found-clause-answer g c =
     let s = setting_of (g.S.Shelf.bundles c.args.own) (g.I.Shelf.bundles c.args.icu) ps c.args.valid.now in
     let met =
     subst (λ o. IsOutcome g.S.N.Node.tree (Ok o) c.end_level.new.state (step_at s p.icudata p.name (segments p.path))) c.in-Found.is
-    (c.in_ok-outcome.ensures.outcome b ps p.name (first_stop b ps p.name) c.in_ok-decided.ensures.level) in
+    (c.in_ok-outcome.ensures.outcome (level b ps p.name (segments p.path)) (first_stop b ps p.name) c.in_ok-decided.ensures.level) in
     found_answer c.loop-level.invariant (omega arith) c.as_slice-path.ensures.short c.level_at-reached.ensures.names c.as_slice-path.ensures.path c.in_ok-left.ensures met
 
 pub returns-in-TooLong-clause-answer : goal.returns-in-TooLong-clause-answer
@@ -46,7 +46,7 @@ returns-in-TooLong-clause-answer g c =
     let s = setting_of (g.S.Shelf.bundles c.args.own) (g.I.Shelf.bundles c.args.icu) ps c.args.valid.now in
     let met : GoesLong (step_at s p.icudata p.name (segments p.path)) =
     subst (λ o. IsOutcome g.S.N.Node.tree (Ok o) c.end_level.new.state (step_at s p.icudata p.name (segments p.path))) c.in-TooLong.is
-    (c.in_ok-outcome.ensures.outcome b ps p.name (first_stop b ps p.name) c.in_ok-decided.ensures.level) in
+    (c.in_ok-outcome.ensures.outcome (level b ps p.name (segments p.path)) (first_stop b ps p.name) c.in_ok-decided.ensures.level) in
     long_answer c.loop-level.invariant (omega arith) c.as_slice-path.ensures.short c.level_at-reached.ensures.names c.as_slice-path.ensures.path c.in_ok-left.ensures met
     c.next_fault.ensures
 
@@ -58,7 +58,7 @@ loop-level-preserved g c =
     let s = setting_of (g.S.Shelf.bundles c.args.own) (g.I.Shelf.bundles c.args.icu) ps c.args.valid.now in
     let met : GoesOn c.end_level.new.state (step_at s p.icudata p.name (segments p.path)) =
     subst (λ o. IsOutcome g.S.N.Node.tree (Ok o) c.end_level.new.state (step_at s p.icudata p.name (segments p.path))) c.in-Next.is
-    (c.in_ok-outcome.ensures.outcome b ps p.name (first_stop b ps p.name) c.in_ok-decided.ensures.level) in
+    (c.in_ok-outcome.ensures.outcome (level b ps p.name (segments p.path)) (first_stop b ps p.name) c.in_ok-decided.ensures.level) in
     let on = next_level c.loop-level.invariant (omega arith) c.as_slice-path.ensures.short c.level_at-reached.ensures.names c.as_slice-path.ensures.path c.in_ok-left.ensures in
     on c.end_level.new.state met
 
