@@ -1,6 +1,6 @@
 -- The files of a package as its bundles, and the index of all applications as the files of each.
 use Rattle.std.proofs.Common.{◌≡◌, ◌≢◌, ℕ, Bool, true, false, List, [], ◌∷◌, ◌++◌, length, Option, Some, None, Result, Ok, Err, is_some, option_map}
-use Rattle.std.proofs.Common.{option_copied, map, nat_le, ◌+◌, ◌≤◌, ◌<◌, cond, IfErr, IfNone, Bor, refl, sym, ◌∙◌, ap, arith}
+use Rattle.std.proofs.Common.{option_copied, map, nat_le, ◌+◌, ◌≤◌, ◌<◌, cond, IfErr, IfNone, IfSome, Bor, refl, sym, ◌∙◌, ap, arith}
 use Rattle.std.specs.Option.{unwrap_or}
 use Rattle.std.specs.Map.{lookup, set_value, remove_entry, keys_of}
 use Rattle.std.specs.Str.{bytes_eq}
@@ -215,6 +215,10 @@ module _ {S : Type 0} {stored : Stored} {icudata : Files} (rows : Rows S) (e : r
 pub if_none : {A P Q : Type 0} (r : Option A) → (P → Q) → IfNone r P → IfNone r Q
 if_none None f h = f h
 if_none (Some a) f h = tt
+
+pub if_some : {A : Type 0} {P Q : A → Type 0} (r : Option A) → ((a : A) → P a → Q a) → IfSome r P → IfSome r Q
+if_some None f h = tt
+if_some (Some a) f h = f a h
 
 pub lent_files : {S : Type 0} (r : Option (Bor (IndexMap (List ℕ) (List ℕ) S))) → files_lent r ≡ entries_of (option_copied r)
 lent_files None = refl

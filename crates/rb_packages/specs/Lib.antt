@@ -3,6 +3,7 @@ pub mod App
 pub mod Words
 pub mod Shelf
 pub mod Packages
+pub mod Positions
 pub mod Release
 pub mod LentItem
 pub mod Lent

@@ -1,5 +1,6 @@
 ghost use Rattle.std.specs.Prelude.{◌≡◌, ◌-◌, ◌^◌, ◌+◌, [], ◌∷◌, ◌++◌, Some, None, IfOk, IfErr};
-ghost use Rattle.std.specs.Prelude.{IfNone, OnOk, OnErr, IsTrue, true, false, length, min, is_some};
+ghost use Rattle.std.specs.Prelude.{IfNone, IfSome, OnOk, OnErr, IsTrue, true, false, length, min};
+ghost use Rattle.std.specs.Prelude.{is_some, slice_get};
 ghost use Rattle.std.specs.Prelude.{option_map, if◌then◌else◌};
 ghost use Rattle.std.specs.Map.{lookup, set_value, remove_entry};
 ghost use Rattle.std.specs.Str.{bytes_eq};
@@ -185,6 +186,18 @@ pub(crate) fn bundle<'a>(owned: &'a Owned, app: &App, name: &Name) -> Option<&'a
 {
     let bundles = owned.get(app)?;
     bundles::bundle(bundles, name)
+}
+
+/// Returns the index of an application that has bundles.
+pub(crate) fn index_of(owned: &Owned, app: &App) -> Option<usize>
+    ensures found { IfSome result (λ i. slice_get (files_by_app owned.now.entries) i
+        ≡ Some (app.now, files_at app.now owned.now.entries)) }
+    ensures none { IfNone result (files_at app.now owned.now.entries ≡ []) }
+{
+    let Some((index, _, _)) = owned.get_full(app) else {
+        return None;
+    };
+    Some(index)
 }
 
 /// Makes the first changes of an application, or none if memory runs out.

@@ -1,5 +1,6 @@
 ghost use Rattle.std.specs.Prelude.{◌≡◌, ◌+◌, ◌-◌, ◌^◌, ℕ, [], ◌∷◌, ◌++◌, List, Some, None, IfOk};
-ghost use Rattle.std.specs.Prelude.{IfErr, OnOk, OnErr, map, length, min, option_map};
+ghost use Rattle.std.specs.Prelude.{IfErr, IfNone, IfSome, OnOk, OnErr, map, length, min, option_map};
+ghost use Rattle.std.specs.Prelude.{slice_get};
 ghost use Rattle.std.specs.Map.{set_value, remove_entry};
 ghost use Rattle.std.specs.Str.{bytes_eq};
 ghost use Rattle.rb_format.specs.File.{source_tree_of};
@@ -7,6 +8,7 @@ ghost use Rattle.rb_packages.specs.Shelf.{bundle_at, replaced, removed};
 ghost use Rattle.rb_packages.specs.Packages.{icudata_files, icudata_of, files_of, list_of, file_at};
 ghost use Rattle.rb_packages.specs.Packages.{install_fault, load_fault, IsJudged, OthersStay};
 ghost use Rattle.rb_packages.specs.Lent.{files_in, bundles_lent};
+ghost use Rattle.rb_packages.specs.Positions.{files_at_index};
 ghost use Rattle.rb_packages.specs.Release.{edited};
 ghost use Rattle.rb_packages.specs.Usage.{bytes_of, apps_of, more_apps, AreThereOnce};
 
@@ -239,6 +241,28 @@ impl Packages {
         AppShelf {
             bundles: self.owned.get(app),
         }
+    }
+
+    /// Returns the index of an application that has bundles. A change of any application's bundles
+    /// may change it.
+    pub fn app_index(&self, app: &App) -> Option<usize>
+        ensures found { IfSome result (λ i. slice_get self.now.owned i
+            ≡ Some (app.now, files_of app.now self.now)) }
+        ensures none { IfNone result (files_of app.now self.now ≡ []) }
+    {
+        owned::index_of(&self.owned, app)
+    }
+
+    /// Returns a reference to the bundles of the application at an index, which has none if no
+    /// application is there.
+    pub fn shelf_at(&self, index: usize) -> AppShelf<'_>
+        ensures { files_in result ≡ files_at_index self.now index }
+    {
+        let bundles = match self.owned.get_index(index) {
+            Some((_, bundles)) => Some(bundles),
+            None => None,
+        };
+        AppShelf { bundles }
     }
 
     pub fn icu_shelf(&self) -> AppShelf<'_>

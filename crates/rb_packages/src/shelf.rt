@@ -1,9 +1,12 @@
-ghost use Rattle.std.specs.Prelude.{◌≡◌, option_map};
+ghost use Rattle.std.specs.Prelude.{◌≡◌, None, IfNone, IfSome, option_map};
+ghost use Rattle.std.specs.Map.{lookup};
+ghost use Rattle.std.specs.Str.{bytes_eq};
 ghost use Rattle.rb_parents.specs.Shelf.{bundle_of};
 ghost use Rattle.rb_packages.specs.Shelf.{bundle_at};
 ghost use Rattle.rb_packages.specs.Packages.{shelf_of};
 ghost use Rattle.rb_packages.specs.Lent.{files_in, bundles_lent, LendsRoot};
 ghost use Rattle.rb_packages.specs.LentItem.{lent_tree};
+ghost use Rattle.rb_packages.specs.Positions.{IsIndexOf, name_at, tree_at};
 
 use crate::bundles::Bundles;
 use crate::lent::LentItem;
@@ -29,6 +32,49 @@ impl<'a> Shelf<'a> for AppShelf<'a> {
             Some(bundles) => bundle_in(bundles, name),
             None => None,
         }
+    }
+}
+
+impl<'a> AppShelf<'a> {
+    /// Returns the index of the bundle with this name.
+    pub fn index_of(self, name: &Name) -> Option<usize>
+        ensures found { IfSome result (IsIndexOf (files_in self.entry) name.now) }
+        ensures none { IfNone result (lookup (bytes_eq name.now) (files_in self.entry) ≡ None) }
+    {
+        match self.bundles {
+            Some(bundles) => index_in(bundles, name),
+            None => None,
+        }
+    }
+
+    /// Returns the name of the bundle at an index.
+    pub fn name_at(self, index: usize) -> Option<Name>
+        ensures { result ≡ name_at (files_in self.entry) index }
+    {
+        match self.bundles?.get_index(index) {
+            Some((name, _)) => Some(*name),
+            None => None,
+        }
+    }
+
+    /// Returns the root of the bundle at an index.
+    pub fn root_at(self, index: usize) -> Option<LentItem<'a>>
+        ensures { option_map lent_tree result ≡ tree_at (files_in self.entry) index }
+    {
+        match self.bundles?.get_index(index) {
+            Some((_, stored)) => Some(stored.root()),
+            None => None,
+        }
+    }
+}
+
+fn index_in(bundles: &Bundles, name: &Name) -> Option<usize>
+    ensures found { IfSome result (IsIndexOf bundles.now.entries name.now) }
+    ensures none { IfNone result (lookup (bytes_eq name.now) bundles.now.entries ≡ None) }
+{
+    match bundles.get_full(name) {
+        Some((index, _, _)) => Some(index),
+        None => None,
     }
 }
 
