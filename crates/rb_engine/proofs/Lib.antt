@@ -2,6 +2,7 @@ pub mod OneFile
 pub mod Histories
 pub mod StepLemmas
 pub mod Lookups
+pub mod Opening
 pub mod Starting
 pub mod Keeping
 pub mod Bounded

@@ -1,5 +1,5 @@
--- Defines the model of an engine: its packages and the explicit parents, where a bundle's file counts as its source
--- tree.
+-- Defines the model of an engine: its packages, the explicit parents and its version, where a bundle's file counts as
+-- its source tree.
 use Rattle.std.specs.Prelude.{◌≡◌, ℕ, List, ◌∷◌, ◌++◌}
 use Rattle.rb_tree.specs.SourceTree.{SourceTree}
 use Rattle.rb_parser.specs.Source.{IsGoodSource}
@@ -14,6 +14,7 @@ use Rattle.rb_engine.specs.History.{State}
 pub record Kept : Type 0 where
   pub packages : Stored
   pub parents : List (List ℕ × List ℕ)
+  pub version : ℕ
 
 -- packages and parents, as each application sees them
 abbrev pub state_over : ParentsOf → Stored → State

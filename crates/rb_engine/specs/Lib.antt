@@ -11,4 +11,7 @@ pub mod Steps
 pub mod Words
 pub mod LookFaults
 pub mod LookResponse
+pub mod Version
+pub mod OpenLocale
 pub mod ReadFaults
+pub mod inner

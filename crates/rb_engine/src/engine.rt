@@ -17,6 +17,8 @@ ghost use Rattle.rb_engine.specs.Source.{Reads, change_request};
 ghost use Rattle.rb_engine.specs.Change.{files_after, Removes};
 ghost use Rattle.rb_engine.specs.Place.{place_of as place_at};
 ghost use Rattle.rb_engine.specs.Steps.{takes_more, takes_more_from};
+ghost use Rattle.rb_engine.specs.Version.{is_current, next_version};
+ghost use Rattle.rb_engine.specs.OpenLocale.{IsOpenLocale, RefusesAll};
 ghost use Rattle.rb_engine.specs.declared.request.Request.TheVariants.{Remove as Removal};
 ghost use Rattle.rb_engine.specs.declared.request.Request.TheVariants.{List as Listing};
 ghost use Rattle.rb_engine.specs.LookResponse.{look_response};
@@ -26,6 +28,7 @@ ghost use Rattle.rb_engine.specs.declared.request.Payload.{Payload};
 use crate::app_shelves::AppShelves;
 use crate::brought::Brought;
 use crate::handle::{self, Change};
+use crate::open_locale::{OpenLocale, Stale, look_opened, open_at};
 use crate::place::{Place, place_of};
 use crate::request::{LookFault, Payload, Reply, Request, TooManySteps};
 use crate::same_name::same_name;
@@ -48,6 +51,8 @@ use std::marker::Model;
 pub struct Engine {
     packages: Packages,
     parents: Parents,
+    /// Rises with each change, up to the maximum.
+    version: u64,
 }
 
 impl Model for Engine {
@@ -55,7 +60,11 @@ impl Model for Engine {
 
     ghost coded = { Prim.hlevel codes };
 
-    ghost view = { λ e. record { packages = e.packages; parents = family_pairs e.parents } };
+    ghost view = { λ e. record {
+      packages = e.packages;
+      parents = family_pairs e.parents;
+      version = e.version;
+    } };
 }
 
 impl Engine {
@@ -79,7 +88,11 @@ impl Engine {
     {
         let mut packages = Packages::new(alloc, state);
         load_all(alloc, &mut packages, icudata)?;
-        Ok(Engine { packages, parents })
+        Ok(Engine {
+            packages,
+            parents,
+            version: 0,
+        })
     }
 
     /// Handles one request: parses a text and writes it as a file, or takes a file; then accepts
@@ -95,6 +108,7 @@ impl Engine {
     pub fn handle(&mut self, alloc: Global, request: Request) -> Reply
         ensures step { Step (state_of self.old) (Requests request) (Replies result)
             (state_of self.new) }
+        ensures version { result ≡ Reply.Done → self.new.version ≡ next_version self.old.version }
         ensures unchanged { result ≢ Reply.Done → self.new ≡ self.old }
     {
         match request {
@@ -136,6 +150,7 @@ impl Engine {
         ensures step { Step (state_of self.old)
             (Requests (change_request change app.now locale.now payload)) (Replies result)
             (state_of self.new) }
+        ensures version { result ≡ Reply.Done → self.new.version ≡ next_version self.old.version }
         ensures unchanged { result ≢ Reply.Done → self.new ≡ self.old }
     {
         match Brought::read_payload(alloc, app, locale, payload) {
@@ -160,13 +175,18 @@ impl Engine {
             ≡ apps_of self.old.packages + more_apps (files_of brought.0.app self.old.packages) }
         ensures others { OthersStay brought.0.app self.old.packages self.new.packages }
         ensures parents { self.new.parents ≡ self.old.parents }
+        ensures version { result ≡ Reply.Done → self.new.version ≡ next_version self.old.version }
         ensures unchanged { result ≢ Reply.Done → self.new ≡ self.old }
         ensures memory { change ≡ Change.Replace → result ≢ Reply.Memory }
     {
         let (place, bundle) = brought.into_parts();
         match change {
-            Change::Install => handle::install(&mut self.packages, &place, bundle),
-            Change::Replace => handle::replace(&mut self.packages, &place, bundle),
+            Change::Install => {
+                handle::install(&mut self.packages, &mut self.version, &place, bundle)
+            }
+            Change::Replace => {
+                handle::replace(&mut self.packages, &mut self.version, &place, bundle)
+            }
         }
     }
 
@@ -178,10 +198,11 @@ impl Engine {
         ensures removed { Removes
             (place_at app.now locale.now) result self.old.packages self.new.packages }
         ensures parents { self.new.parents ≡ self.old.parents }
+        ensures version { result ≡ Reply.Done → self.new.version ≡ next_version self.old.version }
         ensures unchanged { result ≢ Reply.Done → self.new ≡ self.old }
         ensures memory { result ≢ Reply.Memory }
     {
-        handle::remove(&mut self.packages, app, locale)
+        handle::remove(&mut self.packages, &mut self.version, app, locale)
     }
 
     /// Lists the names of an application's bundles, like `handle`: `Names`, `BadApp`, `Reserved` or
@@ -245,9 +266,16 @@ impl Engine {
             ≡ edited draft.edits (files_of draft.app self.old.packages)) }
         ensures others { OthersStay draft.app self.old.packages self.new.packages }
         ensures parents { self.new.parents ≡ self.old.parents }
+        ensures version { OnOk result (self.new.version ≡ next_version self.old.version) }
         ensures unchanged { OnErr result (self.new ≡ self.old) }
     {
-        self.packages.release(draft)
+        match self.packages.release(draft) {
+            Ok(()) => {
+                self.version = self.version.saturating_add(1);
+                Ok(())
+            }
+            Err(error) => Err(error),
+        }
     }
 
     /// Returns the length of the file that is stored under the incoming bundle's name.
@@ -278,7 +306,7 @@ impl Engine {
             (Looks app.now locale.now path.now) }
     {
         let place = place_of(app, locale)?;
-        look_at(&self.packages, &self.parents, &place, path)
+        look_in(&self.packages, &self.parents, &place, path)
     }
 
     /// Looks up like `look`, or returns `TooManySteps` if the lookup takes more than this many
@@ -302,9 +330,64 @@ impl Engine {
             ((state_of self.now).lists app.now) (place_at app.now locale.now) path.now ≡ true) }
     {
         match place_of(app, locale) {
-            Ok(place) => look_at_within(&self.packages, &self.parents, &place, path, steps),
+            Ok(place) => look_in_within(&self.packages, &self.parents, &place, path, steps),
             Err(fault) => Ok(Err(LookFault::from(fault))),
         }
+    }
+}
+
+/// Returns true if nothing has changed since an engine had the version that was read. Of the last
+/// version nobody can know.
+fn is_current(read: u64, now: u64) -> bool
+    ensures { result ≡ is_current read now }
+{
+    read == now && now < u64::MAX
+}
+
+impl Engine {
+    /// Opens a locale of an application for many lookups by `look_at`. Allocates nothing.
+    ///
+    /// Each change of the engine makes it stale, since a change of another application may move the
+    /// bundles, too. The errors are those of `look` that come before the path is walked: `BadApp`,
+    /// `Reserved`, `BadLocale`, `Chain`, `BadParent` and `NoBundle`.
+    ///
+    /// ```rust
+    /// let opened = engine.open_locale(b"shop", b"de_AT")?;
+    /// let found = engine.look_at(&opened, b"menu/open")??;
+    /// ```
+    pub fn open_locale(&self, app: &[u8], locale: &[u8]) -> Result<OpenLocale, LookFault>
+        ensures opened { IfOk result
+            (λ opened. IsOpenLocale opened self.now app.now locale.now) }
+        ensures version { IfOk result (λ opened. opened.version ≡ self.now.version) }
+        ensures refused { IfErr result (RefusesAll self.now app.now locale.now) }
+    {
+        match place_of(app, locale) {
+            Ok(place) => open_at(&self.packages, &self.parents, &place, self.version),
+            Err(fault) => Err(LookFault::from(fault)),
+        }
+    }
+
+    /// Looks a path up like `look` from a locale that was opened before, or returns `Stale` if the
+    /// engine has changed since. Allocates nothing.
+    ///
+    /// The search reads the bundles up to the one that decides; neither names nor the trail are
+    /// read again.
+    pub fn look_at(
+        &self,
+        opened: &OpenLocale,
+        path: &[u8],
+    ) -> Result<Result<Found<Item<'_>>, LookFault>, Stale>
+        ensures current { OnOk result (is_current opened.now.version self.now.version ≡ true) }
+        ensures stale { OnErr result (is_current opened.now.version self.now.version ≡ false) }
+        ensures answer { (app locale : List ℕ) → IsOpenLocale opened.now self.now app locale
+            → IfOk result (λ found. look_response tree_seen found
+            ≡ answer_over (state_of self.now).start ((state_of self.now).lists app)
+            (Looks app locale path.now)) }
+    {
+        if !is_current(opened.version, self.version) {
+            return Err(Stale);
+        }
+        Ok(look_opened(&self.packages, &self.parents, opened, path))
     }
 }
 
@@ -321,7 +404,7 @@ impl From<LookError> for LookFault {
     }
 }
 
-fn look_at<'a>(
+fn look_in<'a>(
     packages: &'a Packages,
     parents: &Parents,
     place: &Place,
@@ -338,7 +421,7 @@ fn look_at<'a>(
     }
 }
 
-fn look_at_within<'a>(
+fn look_in_within<'a>(
     packages: &'a Packages,
     parents: &Parents,
     place: &Place,

@@ -6,6 +6,7 @@ ghost use Rattle.rb_packages.specs.Usage.{apps_of, more_apps};
 ghost use Rattle.rb_engine.specs.Change.{Removes};
 ghost use Rattle.rb_engine.specs.Place.{place_of as place_at};
 ghost use Rattle.rb_engine.specs.Source.{Reads, Handles};
+ghost use Rattle.rb_engine.specs.Version.{next_version};
 ghost use Rattle.rb_engine.specs.declared.request.Payload.{Payload};
 ghost use Rattle.rb_engine.specs.declared.request.Request.TheVariants.{Install, Replace, Remove};
 ghost use Rattle.rb_engine.specs.declared.request.Request.TheVariants.{List as Lists};
@@ -37,7 +38,12 @@ impl From<PackFault> for Reply {
     }
 }
 
-pub(crate) fn install(packages: &mut Packages, place: &Place, bundle: Bundle) -> Reply
+pub(crate) fn install(
+    packages: &mut Packages,
+    version: &mut u64,
+    place: &Place,
+    bundle: Bundle,
+) -> Reply
     ensures step { (app locale : List ℕ) → (payload : Payload)
         → Reads app locale payload (Ok (place.now, bundle))
         → Handles (Install app locale payload) result packages.old packages.new }
@@ -48,15 +54,25 @@ pub(crate) fn install(packages: &mut Packages, place: &Place, bundle: Bundle) ->
         → apps_of packages.new
         ≡ apps_of packages.old + more_apps (files_of place.now.app packages.old) }
     ensures others { OthersStay place.now.app packages.old packages.new }
-    ensures unchanged { result ≢ Reply.Done → packages.new ≡ packages.old }
+    ensures version { result ≡ Reply.Done → version.new ≡ next_version version.old }
+    ensures unchanged { result ≢ Reply.Done
+        → (packages.new ≡ packages.old) × (version.new ≡ version.old) }
 {
     match packages.install(&place.app, place.name, bundle) {
-        Ok(()) => Reply::Done,
+        Ok(()) => {
+            *version = version.saturating_add(1);
+            Reply::Done
+        }
         Err((fault, _)) => Reply::from(fault),
     }
 }
 
-pub(crate) fn replace(packages: &mut Packages, place: &Place, bundle: Bundle) -> Reply
+pub(crate) fn replace(
+    packages: &mut Packages,
+    version: &mut u64,
+    place: &Place,
+    bundle: Bundle,
+) -> Reply
     ensures step { (app locale : List ℕ) → (payload : Payload)
         → Reads app locale payload (Ok (place.now, bundle))
         → Handles (Replace app locale payload) result packages.old packages.new }
@@ -67,19 +83,26 @@ pub(crate) fn replace(packages: &mut Packages, place: &Place, bundle: Bundle) ->
         → apps_of packages.new
         ≡ apps_of packages.old + more_apps (files_of place.now.app packages.old) }
     ensures others { OthersStay place.now.app packages.old packages.new }
-    ensures unchanged { result ≢ Reply.Done → packages.new ≡ packages.old }
+    ensures version { result ≡ Reply.Done → version.new ≡ next_version version.old }
+    ensures unchanged { result ≢ Reply.Done
+        → (packages.new ≡ packages.old) × (version.new ≡ version.old) }
     ensures memory { result ≢ Reply.Memory }
 {
     match packages.replace(&place.app, &place.name, bundle) {
-        Ok(_) => Reply::Done,
+        Ok(_) => {
+            *version = version.saturating_add(1);
+            Reply::Done
+        }
         Err(_) => Reply::Absent,
     }
 }
 
-pub(crate) fn remove(packages: &mut Packages, app: &[u8], locale: &[u8]) -> Reply
+pub(crate) fn remove(packages: &mut Packages, version: &mut u64, app: &[u8], locale: &[u8]) -> Reply
     ensures step { Handles (Remove app.now locale.now) result packages.old packages.new }
     ensures removed { Removes (place_at app.now locale.now) result packages.old packages.new }
-    ensures unchanged { result ≢ Reply.Done → packages.new ≡ packages.old }
+    ensures version { result ≡ Reply.Done → version.new ≡ next_version version.old }
+    ensures unchanged { result ≢ Reply.Done
+        → (packages.new ≡ packages.old) × (version.new ≡ version.old) }
     ensures memory { result ≢ Reply.Memory }
 {
     let place = match place_of(app, locale) {
@@ -87,7 +110,10 @@ pub(crate) fn remove(packages: &mut Packages, app: &[u8], locale: &[u8]) -> Repl
         Err(fault) => return Reply::from(fault),
     };
     match packages.remove(&place.app, &place.name) {
-        Ok(_) => Reply::Done,
+        Ok(_) => {
+            *version = version.saturating_add(1);
+            Reply::Done
+        }
         Err(_) => Reply::Absent,
     }
 }

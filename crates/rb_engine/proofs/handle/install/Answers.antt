@@ -37,7 +37,7 @@ pub returns-clause-unchanged : goal.returns-clause-unchanged
 returns-clause-unchanged c other =
     elim c.match-install.branch [
       | in-Ok w ↦ absurd (other w.result-is)
-      | in-Err w ↦ w.in-Err.ensures.unchanged
+      | in-Err w ↦ (w.in-Err.ensures.unchanged, w.version-is)
     ]
 
 pub returns-clause-apps : goal.returns-clause-apps

@@ -11,7 +11,7 @@ use Rattle.rb_engine.specs.LookResponse.{look_response}
 use Rattle.rb_engine.specs.declared.request.LookFault.{LookFault}
 use Rattle.rb_engine.proofs.Bounded.{found_within, fault_within, more_steps, found_is, fault_is}
 use Rattle.rb_engine.proofs.Lookups.{IsTold}
-use Rattle.rb_engine.proofs.engine.look_at_within.Goals as goal
+use Rattle.rb_engine.proofs.engine.look_in_within.Goals as goal
 
 pub returns-in-Ok-clause-within : goal.returns-in-Ok-clause-within
 returns-in-Ok-clause-within c =

@@ -10,7 +10,7 @@ use Rattle.rb_engine.specs.Answer.{Response}
 use Rattle.rb_engine.specs.LookResponse.{look_response}
 use Rattle.rb_engine.specs.declared.request.LookFault.{LookFault}
 use Rattle.rb_engine.proofs.Lookups.{IsTold, lookup_is}
-use Rattle.rb_engine.proofs.engine.look_at.Goals as goal
+use Rattle.rb_engine.proofs.engine.look_in.Goals as goal
 
 pub returns-in-Ok : goal.returns-in-Ok
 returns-in-Ok c =

@@ -1,0 +1,215 @@
+//! A locale of an application that is read once and looked up from often.
+ghost use Rattle.std.specs.Prelude.{◌≡◌, ◌<◌, ◌≤◌, ◌+◌, ◌∷◌, ◌++◌, [], ℕ, List, Err, IfErr, IfOk};
+ghost use Rattle.std.specs.Prelude.{length, slice_get, true};
+ghost use Rattle.rb_tree.specs.Path.{is_path};
+ghost use Rattle.rb_parents.specs.Answers.{trail_of};
+ghost use Rattle.rb_parents.specs.Family.{parent_of};
+ghost use Rattle.rb_parents.specs.Trail.{is_stop, names, trail};
+ghost use Rattle.rb_views.specs.Seen.{tree_seen};
+ghost use Rattle.rb_packages.specs.Lent.{bundles_lent, files_in};
+ghost use Rattle.rb_packages.specs.Packages.{files_of, icudata_of, list_of, shelf_of};
+ghost use Rattle.rb_packages.specs.Positions.{files_at_index};
+ghost use Rattle.rb_packages.specs.Shelf.{bundle_at};
+ghost use Rattle.rb_fallback.specs.Limits.{path_limit};
+ghost use Rattle.rb_fallback.specs.Stops.{AreStopsOf};
+ghost use Rattle.rb_engine.specs.Answer.{Refuses, lookup_in};
+ghost use Rattle.rb_engine.specs.LookResponse.{look_response};
+ghost use Rattle.rb_engine.specs.OpenLocale.{opened_stop, stop_indices};
+ghost use Rattle.rb_engine.specs.inner.Opening.{HasStops};
+ghost use Rattle.rb_engine.specs.declared.request.LookFault.TheVariants as Faults;
+
+use crate::place::Place;
+use crate::request::LookFault;
+use crate::same_name::same_name;
+use rb_fallback::{Found, Stops, look_from};
+use rb_locales::Name;
+use rb_packages::{AppShelf, LentItem, Packages};
+use rb_parents::{Next, Parents, TRAIL_LIMIT, TrailFault, visit};
+use rb_views::Item;
+
+/// A locale of an application, opened for lookups: where the application's bundles are, and which
+/// of them are the stops of the locale's trail. This is plain data, which a program may store and
+/// copy. `Engine::look_at` trusts none of it.
+#[repr(C)]
+#[derive(Clone, Copy)]
+pub struct OpenLocale {
+    /// The version of the engine when the locale was opened.
+    pub version: u64,
+    /// The index of the application.
+    pub app: usize,
+    /// The number of stops.
+    pub count: usize,
+    /// The indices of the stops' bundles, followed by zeros.
+    pub stops: [usize; TRAIL_LIMIT],
+}
+
+/// The engine has changed since the locale was opened, so it has to be opened again.
+#[derive(Clone, Copy, Debug, PartialEq, Eq)]
+pub struct Stale;
+
+impl OpenLocale {
+    fn stop_index(&self, i: usize) -> Option<usize>
+        ensures { result ≡ slice_get (stop_indices self.now) i }
+    {
+        if i >= self.count {
+            return None;
+        }
+        self.stops.get(i).copied()
+    }
+
+    fn add_stop(&mut self, index: usize)
+        requires { self.old.count < 32 }
+        ensures stops { stop_indices self.new ≡ stop_indices self.old ++ index ∷ [] }
+        ensures count { self.new.count ≡ self.old.count + 1 }
+        ensures version { self.new.version ≡ self.old.version }
+    {
+        self.stops[self.count] = index;
+        self.count += 1;
+    }
+
+    /// Adds a name of the trail, which counts only if it is a stop.
+    fn add_name(&mut self, own: AppShelf<'_>, name: &Name, counts: bool)
+        requires { self.old.count < 32 }
+        ensures stops { (ns : List (List ℕ)) → counts ≡ is_stop (bundles_lent own.entry) name.now
+            → HasStops self.old (files_in own.entry) ns
+            → HasStops self.new (files_in own.entry) (ns ++ name.now ∷ []) }
+        ensures count { self.new.count ≤ self.old.count + 1 }
+        ensures version { self.new.version ≡ self.old.version }
+    {
+        if !counts {
+            return;
+        }
+        if let Some(index) = own.index_of(name) {
+            self.add_stop(index);
+        }
+    }
+}
+
+/// Reads the trail of a name, with the indices of its stops. The application isn't set.
+fn read_stops(
+    own: AppShelf<'_>,
+    parents: &Parents,
+    name: &Name,
+    version: u64,
+) -> Result<OpenLocale, TrailFault>
+    ensures stops { IfOk result (λ opened. (ns : List (List ℕ))
+        × (trail (bundles_lent own.entry) (parent_of parents.now) name.now ≡ names ns)
+        × HasStops opened (files_in own.entry) ns) }
+    ensures version { IfOk result (λ opened. opened.version ≡ version) }
+    ensures fault { IfErr result (λ e. trail (bundles_lent own.entry) (parent_of parents.now) name.now
+        ≡ trail_of (Err e)) }
+{
+    let mut opened = OpenLocale {
+        version,
+        app: 0,
+        count: 0,
+        stops: [0; TRAIL_LIMIT],
+    };
+    let mut here = *name;
+    for i in 0..TRAIL_LIMIT {
+        let (next, stop) = visit(own, parents, &here);
+        opened.add_name(own, &here, stop.is_some());
+        match next {
+            Next::Name(name) => here = name,
+            Next::End => return Ok(opened),
+            Next::Bad => return Err(TrailFault::BadParent),
+        }
+    }
+    Err(TrailFault::Chain)
+}
+
+impl From<TrailFault> for LookFault {
+    ghost use Rattle.rb_engine.specs.LookFaults.{trail_refusal};
+
+    ghost from_gives = { λ e f. f ≡ trail_refusal e };
+
+    fn from(fault: TrailFault) -> Self {
+        same_name!(fault: TrailFault => LookFault { Chain, BadParent })
+    }
+}
+
+/// Opens a locale of an application over the bundles of this version.
+pub(crate) fn open_at(
+    packages: &Packages,
+    parents: &Parents,
+    place: &Place,
+    version: u64,
+) -> Result<OpenLocale, LookFault>
+    ensures files { IfOk result (λ opened. files_at_index packages.now opened.app
+        ≡ files_of place.now.app packages.now) }
+    ensures stops { IfOk result (λ opened. AreStopsOf
+        (opened_stop opened (files_of place.now.app packages.now))
+        (bundle_at (list_of place.now.app packages.now)) (parent_of parents.now) place.now.name) }
+    ensures version { IfOk result (λ opened. opened.version ≡ version) }
+    ensures refused { IfErr result (λ e. (path : List ℕ) → is_path path ≡ true
+        → length path ≤ path_limit
+        → lookup_in (bundle_at (list_of place.now.app packages.now))
+        (bundle_at (icudata_of packages.now)) (parent_of parents.now) place.now.name path
+        ≡ Refuses e) }
+{
+    let own = packages.shelf(&place.app);
+    let mut opened = match read_stops(own, parents, &place.name, version) {
+        Ok(opened) => opened,
+        Err(fault) => return Err(LookFault::from(fault)),
+    };
+    if opened.count == 0 {
+        return Err(LookFault::NoBundle);
+    }
+    match packages.app_index(&place.app) {
+        Some(index) => {
+            opened.app = index;
+            Ok(opened)
+        }
+        None => Err(LookFault::NoBundle),
+    }
+}
+
+/// Looks a path up from an opened locale, over the bundles that its application has now.
+pub(crate) fn look_opened<'a>(
+    packages: &'a Packages,
+    parents: &Parents,
+    opened: &OpenLocale,
+    path: &[u8],
+) -> Result<Found<Item<'a>>, LookFault>
+    ensures { (name : List ℕ) → AreStopsOf
+        (opened_stop opened.now (files_at_index packages.now opened.now.app))
+        (bundle_at (shelf_of (files_at_index packages.now opened.now.app)))
+        (parent_of parents.now) name
+        → look_response tree_seen result ≡ lookup_in
+        (bundle_at (shelf_of (files_at_index packages.now opened.now.app)))
+        (bundle_at (icudata_of packages.now)) (parent_of parents.now) name path.now }
+{
+    let own = packages.shelf_at(opened.app);
+    let stops = OpenStops { own, opened };
+    match look_from(stops, own, packages.icu_shelf(), parents, path) {
+        Ok(found) => Ok(found.with_node(found.node.item())),
+        Err(error) => Err(LookFault::from(error)),
+    }
+}
+
+/// The stops of an opened locale over some bundles.
+#[derive(Clone, Copy)]
+pub(crate) struct OpenStops<'a, 'b> {
+    pub(crate) own: AppShelf<'a>,
+    pub(crate) opened: &'b OpenLocale,
+}
+
+impl<'a, 'b> Stops<'a> for OpenStops<'a, 'b> {
+    type N = LentItem<'a>;
+
+    ghost stop = { λ s i. opened_stop s.opened.now (files_in s.own) i };
+
+    fn root(self, i: usize) -> Option<LentItem<'a>> {
+        match self.opened.stop_index(i) {
+            Some(index) => self.own.root_at(index),
+            None => None,
+        }
+    }
+
+    fn name(self, i: usize) -> Option<Name> {
+        match self.opened.stop_index(i) {
+            Some(index) => self.own.name_at(index),
+            None => None,
+        }
+    }
+}
