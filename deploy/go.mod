@@ -8,4 +8,5 @@ require (
 	github.com/nats-io/nkeys v0.3.0
 	github.com/nats-io/nuid v1.0.1
 	golang.org/x/crypto v0.4.0
+	golang.org/x/sys v0.3.0
 )

@@ -4,9 +4,14 @@ package main
 
 import (
 	"errors"
+	"net"
+	"time"
 
 	"luvdregan.example/resb/deploy/internal/replica"
 )
+
+// peer is asked only over a shared log.
+var peer func(net.Conn) (gone bool, trip time.Duration)
 
 // openLog is there if the gateway is built with NATS' library.
 func openLog(s settings) (replica.SharedLog, error) {

@@ -157,6 +157,7 @@ func newGateway(leaving context.Context, s settings) (*gateway, error) {
 	options.Access, options.Audit = journalOf(access), journalOf(audit)
 	options.Version, options.Commit = version, commit
 	options.OpenAPI, options.Leaving, options.Inside = openAPI, leaving, s.inside != ""
+	options.Peer = peer
 	return &gateway{s, api.New(b, known, options), leaving, make(chan struct{}), access, audit}, nil
 }
 

@@ -44,7 +44,7 @@ need_program() {
 debian_module() {
     replaced=
     left_out=//
-    for library in github.com/mattn/go-sqlite3 github.com/nats-io/nats.go github.com/nats-io/nkeys github.com/nats-io/nuid golang.org/x/crypto; do
+    for library in github.com/mattn/go-sqlite3 github.com/nats-io/nats.go github.com/nats-io/nkeys github.com/nats-io/nuid golang.org/x/crypto golang.org/x/sys; do
         from=$libraries/src/$library
         [ "$library" != github.com/nats-io/nuid ] || from=$out/nuid
         if [ -f "$from/go.mod" ]; then

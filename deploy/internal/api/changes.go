@@ -4,12 +4,14 @@ import (
 	"context"
 	"crypto/sha256"
 	"mime"
+	"net"
 	"net/http"
 	"strings"
 	"time"
 	"unicode/utf8"
 
 	"luvdregan.example/resb/deploy/internal/convert"
+	"luvdregan.example/resb/deploy/internal/replica"
 	"luvdregan.example/resb/deploy/internal/store"
 )
 
@@ -51,9 +53,35 @@ func (c *call) change(name string) {
 func (c *call) patiently() (context.Context, context.CancelFunc) {
 	ctx := context.Background()
 	if c.Backend.IsShared() {
-		ctx = c.r.Context()
+		ctx = replica.WithCaller(c.r.Context(), c.awaitEnd())
 	}
 	return context.WithTimeout(ctx, c.options.Patience)
+}
+
+// mostTrip is the longest round trip that awaitEnd waits for.
+const mostTrip = time.Second / 2
+
+// awaitEnd waits for two round trips of the connection. If the network held back the request and the end of the connection, the end
+// comes one round trip after the request. It returns a function that asks whether the connection has ended.
+func (c *call) awaitEnd() (isGone func() bool) {
+	conn, known := c.r.Context().Value(connKey{}).(net.Conn)
+	if !known || c.options.Peer == nil {
+		return nil
+	}
+	_, trip := c.options.Peer(conn)
+	if trip == 0 || trip > mostTrip {
+		trip = mostTrip
+	}
+	late := time.NewTimer(2 * trip)
+	defer late.Stop()
+	select {
+	case <-late.C:
+	case <-c.r.Context().Done():
+	}
+	return func() bool {
+		gone, _ := c.options.Peer(conn)
+		return gone
+	}
 }
 
 // refuseFor refuses a change for a reason.

@@ -7,6 +7,7 @@ import (
 	"encoding/base64"
 	"encoding/json"
 	"log"
+	"net"
 	"net/http"
 	"net/url"
 	"runtime"
@@ -35,6 +36,10 @@ type Options struct {
 	Origins                         []string        // whose scripts may ask; `*` is all
 	Rate                            int             // requests of an application a second, or 0
 	DayBytes                        int64           // bytes of an application a day, or 0
+
+	// Peer tells whether the other end of a connection has closed it, and how long a packet takes there and back, or 0. It may be nil if
+	// no log is shared.
+	Peer func(net.Conn) (gone bool, trip time.Duration)
 }
 
 // A Handler answers requests.

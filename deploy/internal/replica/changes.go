@@ -29,6 +29,7 @@ type pending struct {
 	release  *release        // or nil
 	index    int             // of a part of a release
 	ctx      context.Context
+	gone     func() bool // or nil
 	came     time.Time
 	line     []byte
 	reply    []byte
@@ -37,6 +38,14 @@ type pending struct {
 	perhaps  bool // it was published, and may be stored
 	settled  bool // it was answered while it waited
 	answer   chan answer
+}
+
+type callerKey struct{}
+
+// WithCaller returns the context of a change with a function that asks whether its caller has gone. Of a change to a shared log it is
+// called just before the change is published, so it may notice this earlier than the end of the context tells.
+func WithCaller(ctx context.Context, isGone func() bool) context.Context {
+	return context.WithValue(ctx, callerKey{}, isGone)
 }
 
 // tell answers a change, unless it has been answered: its caller may have given up while it was published. Of a change that

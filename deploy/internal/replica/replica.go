@@ -78,7 +78,7 @@ type bundle struct{ app, locale string }
 func Open(s *sqlite.Store, settings Settings) *Replica {
 	ctx, stop := context.WithCancel(context.Background())
 	r := &Replica{settings: settings, program: settings.Program, store: s, turns: child.NewTurns(), changes: newChanges(), stop: stop,
-		left: map[bundle]string{}, append: s.AppendAll, pause: func() {}, shared: shared{log: settings.Log}}
+		left: map[bundle]string{}, append: s.AppendAll, pause: func() {}, shared: shared{log: settings.Log, theirs: map[bundle]time.Time{}}}
 	r.wake = sync.NewCond(&r.mu)
 	r.stopped.Add(2)
 	if r.log != nil {
@@ -199,7 +199,9 @@ func (r *Replica) await() (batch []*pending, more bool) {
 	if !stays() {
 		return nil, false
 	}
-	batch, more = r.changes.take(), r.moved
+	if batch, more = r.changes.take(), r.moved; len(batch) == 0 {
+		r.theirs = map[bundle]time.Time{}
+	}
 	r.moved, r.writing = false, len(batch) > 0 || more
 	return batch, more
 }
@@ -236,6 +238,7 @@ func (r *Replica) change(ctx context.Context, p *pending) (reply []byte, revisio
 		return nil, 0, store.ErrUnreached
 	}
 	p.ctx, p.came, p.line, p.answer = ctx, time.Now(), child.ChangeLine(p.Change), make(chan answer, 1)
+	p.gone, _ = ctx.Value(callerKey{}).(func() bool)
 	r.changes.add(p)
 	r.mu.Lock()
 	r.wake.Broadcast()

@@ -55,6 +55,9 @@ type shared struct {
 	connections int64     // at the last time when the log was identified
 	identified  bool
 	trouble     error // why nothing is read or published
+
+	theirs map[bundle]time.Time // when others changed bundles, while changes wait here; an erased application has no locale
+	slow   time.Time            // when a request of the log last took long
 }
 
 // watch notes when the log may have more changes, until the context ends.
@@ -117,9 +120,12 @@ func (r *Replica) entries(ctx context.Context) (entries []store.Entry, ends bool
 	if err := r.identify(); err != nil {
 		return nil, false, err
 	}
-	if entries, ends, err = r.log.Changes(ctx, r.store.Revision()); err != nil {
+	began := time.Now()
+	entries, ends, err = r.log.Changes(ctx, r.store.Revision())
+	if r.time(began); err != nil {
 		return nil, false, err
 	}
+	r.overtake(entries)
 	for i, e := range entries {
 		if e.Op == store.Erase && len(entries) > 1 { // it comes alone
 			if i == 0 {
@@ -213,7 +219,7 @@ func (r *Replica) publishable(batch []*pending) (left []*pending) {
 		case p.settled:
 		case r.log != nil && p.isOld():
 			p.tell(answer{err: child.ErrTimeout})
-		case r.log != nil && !p.perhaps && pulse.StoodStill(p.came):
+		case r.log != nil && !p.perhaps && (pulse.StoodStill(p.came) || r.isOvertaken(p)):
 			p.tell(answer{err: child.ErrReplaying})
 		case r.log == nil || trouble == nil:
 			left = append(left, p)
@@ -231,7 +237,61 @@ func (r *Replica) publishable(batch []*pending) (left []*pending) {
 // may have been read for long since the change was taken from its queue.
 func (p *pending) isOld() bool {
 	end, has := p.ctx.Deadline()
-	return p.ctx.Err() != nil || has && time.Now().After(end)
+	return p.ctx.Err() != nil || has && time.Now().After(end) || p.gone != nil && p.gone()
+}
+
+// overtake notes the bundles that entries of others change.
+func (r *Replica) overtake(entries []store.Entry) {
+	for _, e := range entries {
+		switch {
+		case e.Op == store.AddPart, r.published != nil && e.ID == r.published.ID:
+		case e.Op == store.MakeRelease:
+			for _, m := range e.Release.Changes {
+				if !m.Carried {
+					r.theirs[bundle{e.App, m.Locale}] = e.At
+				}
+			}
+		default:
+			r.theirs[bundle{e.App, e.Locale}] = e.At
+		}
+	}
+}
+
+// late is how long a request of the log takes if packets are lost: the network repeats none earlier.
+const late = 200 * time.Millisecond
+
+// time notes whether a request of the log, which began at a time, took long.
+func (r *Replica) time(began time.Time) {
+	if now := time.Now(); now.Sub(began) >= late {
+		r.slow = now
+	}
+}
+
+// isOvertaken returns true if a change waited for the log, and others changed its bundle after it came: its caller may have given up and
+// made that change, and the network may still hold back the end of the connection. A change with a condition is judged by that.
+func (r *Replica) isOvertaken(p *pending) bool {
+	if p.holds != nil || r.slow.Before(p.came) {
+		return false
+	}
+	if p.release == nil {
+		return r.changedSince(p, p.Locale)
+	}
+	for _, c := range p.release.changes {
+		if r.changedSince(p, c.Locale) {
+			return true
+		}
+	}
+	for name, at := range r.theirs {
+		if p.release.erases && name.app == p.App && at.After(p.came) {
+			return true
+		}
+	}
+	return false
+}
+
+// changedSince returns true if others changed a bundle, or erased its application, after a change came.
+func (r *Replica) changedSince(p *pending, locale string) bool {
+	return r.theirs[bundle{p.App, store.Canonical(locale)}].After(p.came) || r.theirs[bundle{p.App, ""}].After(p.came)
 }
 
 // settle answers the change that was published and may have been stored, by the entry after the revision that it expected.
@@ -452,6 +512,7 @@ func (r *Replica) publishEntry(ctx context.Context, p *pending, c *store.Change)
 	if c.Op != store.AddPart {
 		c.Number = r.store.NextNumber()
 	}
+	defer r.time(time.Now())
 	return r.log.Append(ctx, *c, p.revision)
 }
 

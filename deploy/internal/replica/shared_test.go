@@ -12,6 +12,7 @@ import (
 	"testing"
 	"time"
 
+	"luvdregan.example/resb/deploy/internal/child"
 	"luvdregan.example/resb/deploy/internal/store"
 	"luvdregan.example/resb/deploy/internal/store/sqlite"
 )
@@ -76,7 +77,7 @@ func (l *memoryLog) Append(_ context.Context, c store.Change, expected store.Rev
 	if c.Release == nil && c.Op != store.Erase {
 		c.Locale = store.Canonical(c.Locale)
 	}
-	l.entries = append(l.entries, store.Entry{Change: c, Revision: last + 1, At: time.Unix(int64(last), 0)})
+	l.entries = append(l.entries, store.Entry{Change: c, Revision: last + 1, At: time.Now()})
 	for _, r := range l.readers {
 		select {
 		case r.moved <- struct{}{}:
@@ -640,6 +641,85 @@ func TestAChangeWhoseCallerHasGone(t *testing.T) {
 		if got := r.look("shop", "de", "a"); !strings.Contains(got, `"new"`) {
 			t.Error(got)
 		}
+	}
+}
+
+// TestAChangeThatIsOvertaken isn't made after it waited for the log while another gateway changed its bundle, also if its caller seems to wait.
+// One of another bundle is, and one whose condition holds.
+func TestAChangeThatIsOvertaken(t *testing.T) {
+	l := newMemoryLog()
+	slow := &slowReader{memoryReader: l.reader(), began: make(chan bool, 1), ends: make(chan bool)}
+	first, second := follow(t, slow, t.TempDir()), follow(t, l.reader(), t.TempDir())
+	for _, locale := range []string{"de", "fr", "it", "nl", "pt"} {
+		first.put("shop", locale, text(locale, "A"))
+	}
+	second.reach(t, store.Revision(l.count()))
+	l.set(func() { slow.waits = true })
+	ctx, cancel := soon()
+	defer cancel()
+	bundleOf := func(locale string) store.Change {
+		return store.Change{Op: store.Replace, App: "shop", Locale: locale, Form: store.Text, Body: []byte(text(locale, "old"))}
+	}
+	type answered struct {
+		name string
+		err  error
+	}
+	ends := make(chan answered, 5)
+	have := func(name string, do func() error) {
+		go func() { ends <- answered{name, do()} }()
+	}
+	change := func(locale string, holds store.Condition) func() error {
+		return func() error {
+			_, _, err := first.Change(ctx, bundleOf(locale), holds)
+			return err
+		}
+	}
+	have("de", change("de", nil))
+	have("fr", change("FR", nil))
+	have("it", change("it", nil))
+	have("nl", change("nl", func(b *store.Bundle) bool { return b != nil }))
+	have("pt", func() error {
+		_, _, _, err := first.Release(ctx, "shop", "test", []store.Change{bundleOf("pt")})
+		return err
+	})
+	<-slow.began
+	time.Sleep(2 * late)
+	second.put("shop", "de", text("de", "new"))
+	second.put("shop", "nl", text("nl", "new"))
+	if got := second.made(store.Change{Op: store.Remove, App: "shop", Locale: "fr"}); got != done {
+		t.Fatal(got)
+	}
+	if _, _, _, err := second.Release(ctx, "shop", "test", []store.Change{{Op: store.Install, Locale: "pt", Form: store.Text, Body: []byte(text("pt", "new"))}}); err != nil {
+		t.Fatal(err)
+	}
+	l.set(func() { slow.waits = false })
+	close(slow.ends)
+	for i := 0; i < cap(ends); i++ {
+		got := <-ends
+		if want := map[string]error{"de": child.ErrReplaying, "fr": child.ErrReplaying, "pt": child.ErrReplaying}[got.name]; !errors.Is(got.err, want) {
+			t.Errorf("%s: %v", got.name, got.err)
+		}
+	}
+	second.reach(t, store.Revision(l.count()))
+	for locale, want := range map[string]string{"de": `"new"`, "fr": "NoBundle", "it": `"old"`, "nl": `"old"`, "pt": `"new"`} {
+		for _, r := range []*Replica{first, second} {
+			if got := r.look("shop", locale, "a"); !strings.Contains(got, want) {
+				t.Errorf("%s: %s", locale, got)
+			}
+		}
+	}
+}
+
+// TestACallerThatSeemsToWait has gone by what is asked just before its change is published.
+func TestACallerThatSeemsToWait(t *testing.T) {
+	l := newMemoryLog()
+	r := follow(t, l.reader(), t.TempDir())
+	r.put("shop", "de", text("de", "A"))
+	ctx, cancel := soon()
+	defer cancel()
+	old := store.Change{Op: store.Replace, App: "shop", Locale: "de", Form: store.Text, Body: []byte(text("de", "old"))}
+	if reply, _, err := r.Change(WithCaller(ctx, func() bool { return true }), old, nil); !errors.Is(err, child.ErrTimeout) || l.count() != 1 {
+		t.Errorf("%s %v, and the log has %d entries", reply, err, l.count())
 	}
 }
 
