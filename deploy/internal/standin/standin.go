@@ -377,8 +377,8 @@ func (a *application) look(name, path string) string {
 			return fmt.Sprintf(`{"actual":%q,"keys":[],"type":"table","valid":%q}`, at, valid)
 		}
 		if path == strings.ToValidUTF8(path, "") && !strings.ContainsAny(path, "\x00") {
-			if found := regexp.MustCompile(`\b` + regexp.QuoteMeta(path) + `\{"(.*?)"\}`).FindStringSubmatch(text); found != nil {
-				return fmt.Sprintf(`{"actual":%q,"type":"string","valid":%q,"value":%q}`, at, valid, found[1])
+			if found, there := stringAt(text, path); there {
+				return fmt.Sprintf(`{"actual":%q,"type":"string","valid":%q,"value":%q}`, at, valid, found)
 			}
 			switch found := itemOf(text, path).(type) {
 			case string:
@@ -395,6 +395,21 @@ func (a *application) look(name, path string) string {
 		return `{"error":"NoBundle"}`
 	}
 	return `{"error":"Missing"}`
+}
+
+// stringAt returns the first string of a text that has a key, in whatever table.
+func stringAt(text, key string) (value string, there bool) {
+	for {
+		before, after, found := strings.Cut(text, key+`{"`)
+		if !found {
+			return "", false
+		}
+		if last := strings.TrimRight(before, "abcdefghijklmnopqrstuvwxyzABCDEFGHIJKLMNOPQRSTUVWXYZ0123456789_"); len(last) == len(before) {
+			value, _, there = strings.Cut(after, `"}`)
+			return value, there
+		}
+		text = after
+	}
 }
 
 // itemOf returns the item at a path of a short text of tables and strings, or of a file of one in hexadecimal, or nil.
