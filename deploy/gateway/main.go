@@ -153,6 +153,10 @@ func newGateway(leaving context.Context, s settings) (*gateway, error) {
 		return nil, err
 	}
 	options := s.options
+	if options.Scratch, err = scratchOf(s.state); err != nil {
+		b.Close()
+		return nil, err
+	}
 	options.Origins = s.originList()
 	options.Access, options.Audit = journalOf(access), journalOf(audit)
 	options.Version, options.Commit = version, commit

@@ -6,6 +6,7 @@ import (
 	"os"
 	"os/exec"
 	"path/filepath"
+	"sort"
 	"strings"
 	"sync/atomic"
 	"testing"
@@ -144,5 +145,44 @@ func TestTreesAreOfOneMoment(t *testing.T) {
 	t.Logf("%d releases", <-ended)
 	if left, _ := filepath.Glob(folder + "/resb-tree-*"); len(left) > 0 {
 		t.Error(left)
+	}
+}
+
+// TestTreesOfAGatewayThatWasKilled are removed at the next start over its state, and no other folders.
+func TestTreesOfAGatewayThatWasKilled(t *testing.T) {
+	t.Setenv("TMPDIR", t.TempDir())
+	state, temporary := t.TempDir(), os.TempDir()
+	begin, err := scratchOf(state)
+	if err != nil {
+		t.Fatal(err)
+	}
+	others, err := scratchOf(t.TempDir())
+	if err != nil || others == begin {
+		t.Fatal(begin, others, err)
+	}
+	for _, name := range []string{begin + "1", begin + "2", others + "1", "resb-tree-1"} {
+		if err := os.Mkdir(filepath.Join(temporary, name), 0o700); err != nil {
+			t.Fatal(err)
+		}
+		if err := os.WriteFile(filepath.Join(temporary, name, "0.txt"), []byte("de{}"), 0o600); err != nil {
+			t.Fatal(err)
+		}
+	}
+	if err := os.Symlink(others+"1", filepath.Join(temporary, begin+"3")); err != nil {
+		t.Fatal(err)
+	}
+	open(t, "-state", state)
+	var left []string
+	found, _ := os.ReadDir(temporary)
+	for _, one := range found {
+		left = append(left, one.Name())
+	}
+	want := []string{others + "1", "resb-tree-1", begin + "3"}
+	sort.Strings(want)
+	if fmt.Sprint(left) != fmt.Sprint(want) {
+		t.Errorf("%q", left)
+	}
+	if content, err := os.ReadFile(filepath.Join(temporary, others+"1", "0.txt")); err != nil {
+		t.Errorf("%q %v", content, err)
 	}
 }

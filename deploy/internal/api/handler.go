@@ -30,6 +30,7 @@ type Options struct {
 	ReadTime, Patience              time.Duration
 	Inside                          bool   // the metrics are at another address
 	Version, Commit                 string // of the gateway
+	Scratch                         string // what the names of temporary folders begin with
 	OpenAPI                         []byte
 	Leaving                         context.Context // is done when the gateway ends
 	Access, Audit                   Journal         // or nil

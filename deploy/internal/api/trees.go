@@ -51,7 +51,7 @@ func (c *call) tree(locale, path string) {
 	}
 	var tree []byte
 	if err == nil {
-		tree, word, err = c.trees.Tree(ctx, c.app, locale, path, c.Backend.Parents(), func(folder string) (files []string, err error) {
+		tree, word, err = c.trees.Tree(ctx, c.app, locale, path, c.Backend.Parents(), c.options.Scratch, func(folder string) (files []string, err error) {
 			files, of, err = c.lay(ctx, folder)
 			return files, err
 		})

@@ -13,15 +13,15 @@ var treeFault = regexp.MustCompile(`^(?:([^\n]*): )?([A-Z][A-Za-z]*)\n`)
 
 // Tree returns an item of a locale with all that it inherits, as one value of JSON, or the error code of the lookup. Once it is the
 // application's turn, lay puts its bundles into a folder, and returns them as LOCALE=FILE, where each FILE begins with the folder.
-// Parents is the file of explicit parents, or "".
-func (r *Runner) Tree(ctx context.Context, app, locale, path, parents string, lay func(folder string) (files []string, err error)) (
+// Parents is the file of explicit parents, or "". The folder's name begins with scratch.
+func (r *Runner) Tree(ctx context.Context, app, locale, path, parents, scratch string, lay func(folder string) (files []string, err error)) (
 	tree []byte, code string, err error) {
 	end, err := r.begin(ctx, app)
 	if err != nil {
 		return nil, "", err
 	}
 	defer end()
-	folder, err := os.MkdirTemp("", "resb-tree-")
+	folder, err := os.MkdirTemp("", scratch)
 	if err != nil {
 		return nil, "", err
 	}
