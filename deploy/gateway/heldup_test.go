@@ -5,6 +5,7 @@ package main
 import (
 	"bufio"
 	"bytes"
+	"crypto/tls"
 	"fmt"
 	"net"
 	"net/http"
@@ -156,5 +157,43 @@ func putOver(t *testing.T, conn net.Conn, path, value string) {
 	header = strings.Replace(header, "00000", fmt.Sprintf("%05d", len(body)), 1)
 	if _, err := conn.Write([]byte(header + body)); err != nil {
 		t.Fatal(err)
+	}
+}
+
+// TestThePeerOfAConnection asks of connections as http.Server has them, before and after the caller closes them.
+func TestThePeerOfAConnection(t *testing.T) {
+	l, err := net.Listen("tcp", "127.0.0.1:0")
+	if err != nil {
+		t.Fatal(err)
+	}
+	defer l.Close()
+	secured := func(c net.Conn) net.Conn { return tls.Server(&conn{Conn: c}, &tls.Config{}) }
+	for name, wrap := range map[string]func(net.Conn) net.Conn{
+		"HTTP/1.1":           func(c net.Conn) net.Conn { return &caller{Conn: &conn{Conn: c}} },
+		"HTTP/2, over TLS":   secured,
+		"HTTP/1.1, over TLS": func(c net.Conn) net.Conn { return &caller{Conn: secured(c)} },
+		"not wrapped":        func(c net.Conn) net.Conn { return c },
+	} {
+		theirs, err := net.Dial("tcp", l.Addr().String())
+		if err != nil {
+			t.Fatal(err)
+		}
+		ours, err := l.Accept()
+		if err != nil {
+			t.Fatal(err)
+		}
+		of := wrap(ours)
+		if gone, trip := peer(of); gone || trip <= 0 || trip > generous {
+			t.Errorf("%s: %v %v", name, gone, trip)
+		}
+		_ = theirs.Close()
+		eventually(t, name+" has ended", func() bool { gone, _ := peer(of); return gone })
+		_ = ours.Close()
+		if gone, _ := peer(of); !gone {
+			t.Errorf("%s: a closed connection seems open", name)
+		}
+	}
+	if gone, _ := peer(&net.UnixConn{}); gone {
+		t.Error("another connection")
 	}
 }
