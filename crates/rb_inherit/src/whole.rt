@@ -1,6 +1,17 @@
+ghost use Rattle.std.specs.Prelude.{◌≡◌, ◌↔◌, IfOk, IsTrue, Some};
+ghost use Rattle.serde_json.specs.Written.{compact_text};
+ghost use Rattle.rb_tree.specs.Parts.{kind_of};
+ghost use Rattle.rb_json.specs.Value.{value_of};
+ghost use Rattle.rb_parents.specs.Family.{parent_of};
+ghost use Rattle.rb_fallback.specs.Answers.{hit_of};
+ghost use Rattle.rb_fallback.specs.Search.{first_stop};
+ghost use Rattle.rb_inherit.specs.Leaves.{IsLeaf};
+ghost use Rattle.rb_inherit.specs.Lookups.{FollowsLookup, IsTreeOf};
+
 use crate::count::Count;
 use crate::error::TreeError;
 use crate::follow::add_root;
+use crate::leaf::put_leaf;
 use crate::limits::{STEP_LIMIT, TREE_LIMIT, TreeLimits};
 use crate::place::Place;
 use crate::shelves::{Shelves, Stops};
@@ -9,7 +20,7 @@ use rb_fallback::{Found, look};
 use rb_json::{Buffer, Outlet};
 use rb_locales::Name;
 use rb_parents::{Parents, Shelf};
-use rb_tree::HEIGHT_LIMIT;
+use rb_tree::{HEIGHT_LIMIT, Kind, Node};
 use std::alloc::Global;
 
 /// The length of a tree as JSON, and its locales.
@@ -36,16 +47,35 @@ fn steps_of(limits: TreeLimits) -> (u64, TreeError) {
     }
 }
 
-/// Writes what the stops of a name have at a path.
+/// Checks whether an item has no children and leads nowhere.
+fn is_leaf(kind: Kind) -> bool
+    ensures { IsTrue result ↔ IsLeaf kind }
+{
+    match kind {
+        Kind::String | Kind::Int | Kind::Ints | Kind::Binary => true,
+        Kind::Alias | Kind::Array | Kind::Table => false,
+    }
+}
+
+/// Writes what the stops of a name have at a path, at which a lookup finds an item.
 fn put_stops<T: Stops, O: Outlet>(
     out: &mut O,
     place: &mut Place<T::N>,
     shelves: T,
     name: &Name,
     path: &[u8],
-) -> Result<(), TreeError> {
+    item: T::N,
+) -> Result<(), TreeError>
+    ensures { IfOk result (λ _. IsLeaf (kind_of (T.N.tree item))
+        → O.takes out.old out.new (compact_text (value_of (T.N.tree item)))) }
+{
     let found = add_root(shelves, place, name, path)?;
-    put_found(shelves, place, out, found, 0, HEIGHT_LIMIT)
+    if is_leaf(item.kind()) {
+        put_leaf(out, item);
+        Ok(())
+    } else {
+        put_found(shelves, place, out, found, 0, HEIGHT_LIMIT)
+    }
 }
 
 /// Writes the tree at a path, and returns what a lookup finds there.
@@ -58,7 +88,13 @@ fn put_from<'a, S: Shelf<'a>, I: Shelf<'a, N = S::N>, O: Outlet>(
     name: &Name,
     path: &[u8],
     limits: TreeLimits,
-) -> Result<Found<S::N>, TreeError> {
+) -> Result<Found<S::N>, TreeError>
+    ensures lookup { FollowsLookup (S.bundles own) (I.bundles icu) (parent_of parents.now) name.now
+        path.now (λ f hit. (hit ≡ hit_of S.N.tree f) × IsTreeOf (O.takes out.old out.new) hit)
+        result }
+    ensures valid { IfOk result
+        (λ f. first_stop (S.bundles own) (parent_of parents.now) name.now ≡ Some f.valid) }
+{
     let found = match look(own, icu, parents, name, path) {
         Ok(found) => found,
         Err(error) => return Err(TreeError::Look(error)),
@@ -66,7 +102,7 @@ fn put_from<'a, S: Shelf<'a>, I: Shelf<'a, N = S::N>, O: Outlet>(
     let (steps, no_steps) = steps_of(limits);
     let mut place = Place::new(alloc, found.valid, steps, no_steps);
     let shelves = Shelves { own, icu, parents };
-    put_stops(out, &mut place, shelves, name, path)?;
+    put_stops(out, &mut place, shelves, name, path, found.node)?;
     Ok(found)
 }
 
@@ -87,7 +123,10 @@ pub fn put_tree<'a, S: Shelf<'a>, I: Shelf<'a, N = S::N>, O: Outlet>(
     name: &Name,
     path: &[u8],
     limits: TreeLimits,
-) -> Result<(), TreeError> {
+) -> Result<(), TreeError>
+    ensures { FollowsLookup (S.bundles own) (I.bundles icu) (parent_of parents.now) name.now
+        path.now (λ _ hit. IsTreeOf (O.takes out.old out.new) hit) result }
+{
     let _ = put_from(out, alloc, own, icu, parents, name, path, limits)?;
     Ok(())
 }
@@ -103,7 +142,12 @@ pub fn tree_size<'a, S: Shelf<'a>, I: Shelf<'a, N = S::N>>(
     name: &Name,
     path: &[u8],
     limits: TreeLimits,
-) -> Result<TreeSize, TreeError> {
+) -> Result<TreeSize, TreeError>
+    ensures lookup { FollowsLookup (S.bundles own) (I.bundles icu) (parent_of parents.now) name.now
+        path.now (λ size hit. size.actual ≡ hit.actual) result }
+    ensures valid { IfOk result
+        (λ size. first_stop (S.bundles own) (parent_of parents.now) name.now ≡ Some size.valid) }
+{
     let mut count = Count::new(TREE_LIMIT.min(limits.bytes));
     let found = put_from(&mut count, alloc, own, icu, parents, name, path, limits)?;
     match count.total() {
