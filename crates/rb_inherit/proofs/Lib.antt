@@ -1,2 +1,4 @@
 pub mod Answers
+pub mod Earliest
 pub mod Leaves
+pub mod Merges

@@ -14,7 +14,8 @@ use Rattle.rb_inherit.specs.declared.error.TreeError.{TreeError}
 use Rattle.rb_inherit.specs.declared.error.TreeError.TheVariants as tree
 
 -- what a lookup answers: `BadPath`, or what the search does
-pub record IsLookup (own icu : Bundles) (parents : ParentsOf) (n path : List ℕ) (answer : Result Hit LookError) : Type 0 where
+pub record IsLookup (own icu : Bundles) (parents : ParentsOf) (n path : List ℕ) (answer : Result Hit LookError)
+    : Type 0 where
   pub bad_path : (answer ≡ Err look.BadPath) ↔ (IsPath path → ⊥)
   pub search : IsPath path → answer ≡ look_up own icu parents n (segments path)
 
@@ -28,7 +29,7 @@ abbrev pub IsTreeOf : (List ℕ → Type 0) → Hit → Type 0
 IsTreeOf IsText hit = IsLeaf (kind_of hit.tree) → IsText (compact_text (value_of hit.tree))
 
 -- the result follows the lookup of a path
-abbrev pub FollowsLookup : {A : Type 0} → Bundles → Bundles → ParentsOf → List ℕ → List ℕ → (A → Hit → Type 0)
-    → Result A TreeError → Type 0
+abbrev pub FollowsLookup : {A : Type 0} → Bundles → Bundles → ParentsOf → List ℕ → List ℕ
+    → (A → Hit → Type 0) → Result A TreeError → Type 0
 FollowsLookup own icu parents n path IsOf result =
     (answer : Result Hit LookError) × (IsLookup own icu parents n path answer × Follows IsOf result answer)

@@ -1,5 +1,10 @@
 //! From an item to what a place has: aliases are followed as a lookup follows them.
 
+ghost use Rattle.std.specs.Prelude.{◌≡◌, IfOk, Some, slice_get};
+ghost use Rattle.rb_tree.specs.Parts.{kind_of};
+ghost use Rattle.rb_inherit.specs.declared.place.Level.{Level};
+ghost use Rattle.rb_inherit.specs.inner.Earlier.{BeginsBelow, Stays};
+
 use crate::error::TreeError;
 use crate::found::Found;
 use crate::path::{Walked, push_text, push_units, segment_count, walk_on};
@@ -27,7 +32,9 @@ pub(crate) struct After<N> {
     link: Option<Link<N>>,
 }
 
-fn ended<N>(found: Found<N>) -> After<N> {
+fn ended<N>(found: Found<N>) -> After<N>
+    ensures { result.found ≡ found }
+{
     After { found, link: None }
 }
 
@@ -100,11 +107,15 @@ fn level_of<N: Node>(
 }
 
 /// Adds what the stops of the last trail have at the end of a level's path, up to one that decides.
+#[tactic(auto, using(crate::proofs::Earliest::stays_itself, crate::proofs::Earliest::stays_on))]
 fn add_stops<N: Node>(
     place: &mut Place<N>,
     before: Found<N>,
-    (level, at): (Level, usize),
-) -> Result<After<N>, TreeError> {
+    level: Level,
+    at: usize,
+) -> Result<After<N>, TreeError>
+    ensures { IfOk result (λ after. Stays before after.found) }
+{
     let mut found = before;
     let mut is_missing = true;
     for i in 0..place.trail.roots.len() {
@@ -131,13 +142,16 @@ fn add_stops<N: Node>(
 }
 
 /// Adds what a level of a name has at the end of its path.
+#[tactic(auto, using(crate::proofs::Earliest::stays_itself, crate::proofs::Earliest::stays_on))]
 fn add_level<T: Stops>(
     shelves: T,
     place: &mut Place<T::N>,
     found: Found<T::N>,
     name: &Name,
     level: Level,
-) -> Result<After<T::N>, TreeError> {
+) -> Result<After<T::N>, TreeError>
+    ensures { IfOk result (λ after. Stays found after.found) }
+{
     if let Err(fault) = find_stops(shelves, place, level.icudata, name)? {
         place.spend(1)?;
         return Ok(ended(found.with_error(trail_error(fault))));
@@ -148,16 +162,19 @@ fn add_level<T: Stops>(
         return Ok(ended(found.with_error(LookError::NoBundle)));
     }
     let at = place.push_level(level)?;
-    add_stops(place, found, (level, at))
+    add_stops(place, found, level, at)
 }
 
 /// Adds what the level has to which an alias leads.
+#[tactic(auto, using(crate::proofs::Earliest::stays_itself, crate::proofs::Earliest::stays_on))]
 fn add_link<T: Stops>(
     shelves: T,
     place: &mut Place<T::N>,
     found: Found<T::N>,
     link: Link<T::N>,
-) -> Result<After<T::N>, TreeError> {
+) -> Result<After<T::N>, TreeError>
+    ensures { IfOk result (λ after. Stays found after.found) }
+{
     // a long text is read whole, and its tree may have it often
     place.spend((link.node.len() as u64 / 64).saturating_add(1))?;
     match level_of(place, link)? {
@@ -168,16 +185,19 @@ fn add_link<T: Stops>(
 
 /// Adds what the levels have to which aliases lead, one after another. No later stop is asked: the
 /// result after an alias is final.
+#[tactic(auto, using(crate::proofs::Earliest::stays_itself, crate::proofs::Earliest::stays_on))]
 fn add_links<T: Stops>(
     shelves: T,
     place: &mut Place<T::N>,
     before: After<T::N>,
-) -> Result<Found<T::N>, TreeError> {
+) -> Result<Found<T::N>, TreeError>
+    ensures { IfOk result (Stays before.found) }
+{
     let After {
         mut found,
         mut link,
     } = before;
-    for _ in 0..LEVEL_LIMIT {
+    'links: for _ in 0..LEVEL_LIMIT {
         let Some(here) = link else {
             break;
         };
@@ -189,13 +209,20 @@ fn add_links<T: Stops>(
 }
 
 /// Adds a child of a table or an array to what the place has, which its key already names.
+#[tactic(auto, using(crate::proofs::Earliest::stays_itself, crate::proofs::Earliest::stays_on))]
 pub(crate) fn add_child<T: Stops>(
     shelves: T,
     place: &mut Place<T::N>,
     found: Found<T::N>,
     node: T::N,
     at: usize,
-) -> Result<Found<T::N>, TreeError> {
+) -> Result<Found<T::N>, TreeError>
+    ensures stays { IfOk result (Stays found) }
+    ensures first { found ≡ Found.Nothing → (level : Level)
+        → slice_get place.old.levels.items at ≡ Some level
+        → IfOk result (BeginsBelow place.old.keys.items level.keys_most
+        (kind_of (T.N.tree node)) node at) }
+{
     let Some(level) = place.levels.get(at).copied() else {
         return Ok(found);
     };

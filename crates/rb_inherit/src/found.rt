@@ -16,8 +16,13 @@ pub(crate) enum Found<N> {
 }
 
 impl<N: Copy> Found<N> {
+    ghost use Rattle.std.specs.Prelude.{◌≡◌, true};
+    ghost use Rattle.rb_inherit.specs.inner.Earlier.{IsTables, Stays};
+
     /// Returns true if a later stop may add to it.
-    pub(crate) fn is_open(&self) -> bool {
+    pub(crate) fn is_open(&self) -> bool
+        ensures { self.now ≡ Found.Nothing → result ≡ true }
+    {
         match self {
             Found::Nothing => true,
             Found::Tables { is_open } => *is_open,
@@ -26,7 +31,10 @@ impl<N: Copy> Found<N> {
     }
 
     /// Returns what a place has if the next stop has a table.
-    pub(crate) fn with_table(self) -> Found<N> {
+    pub(crate) fn with_table(self) -> Found<N>
+        ensures stays { Stays self result }
+        ensures first { self ≡ Found.Nothing → IsTables result }
+    {
         match self {
             Found::Nothing => Found::Tables { is_open: true },
             found => found,
@@ -34,7 +42,10 @@ impl<N: Copy> Found<N> {
     }
 
     /// Returns what a place has if the next stop has another item, which ends tables.
-    pub(crate) fn with_item(self, node: N, level: usize) -> Found<N> {
+    pub(crate) fn with_item(self, node: N, level: usize) -> Found<N>
+        ensures stays { Stays self result }
+        ensures first { self ≡ Found.Nothing → result ≡ Found.Item node level }
+    {
         match self {
             Found::Nothing => Found::Item { node, level },
             Found::Tables { .. } => Found::Tables { is_open: false },
@@ -43,7 +54,9 @@ impl<N: Copy> Found<N> {
     }
 
     /// Returns what a place has if no later stop is asked, as after an alias.
-    pub(crate) fn closed(self) -> Found<N> {
+    pub(crate) fn closed(self) -> Found<N>
+        ensures { Stays self result }
+    {
         match self {
             Found::Tables { .. } => Found::Tables { is_open: false },
             found => found,
@@ -51,7 +64,10 @@ impl<N: Copy> Found<N> {
     }
 
     /// Returns what a place has if a lookup of it fails at the next stop, which ends tables.
-    pub(crate) fn with_error(self, error: LookError) -> Found<N> {
+    pub(crate) fn with_error(self, error: LookError) -> Found<N>
+        ensures stays { Stays self result }
+        ensures first { self ≡ Found.Nothing → result ≡ Found.Failed error }
+    {
         match self {
             Found::Nothing => Found::Failed(error),
             Found::Tables { .. } => Found::Tables { is_open: false },

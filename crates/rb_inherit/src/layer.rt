@@ -1,7 +1,9 @@
 //! The tables that are merged.
 
-ghost use Rattle.std.specs.Prelude.{◌≡◌};
-ghost use Rattle.rb_tree.specs.Parts.{kind_of, len_of};
+ghost use Rattle.std.specs.Prelude.{◌≡◌, option_map, slice_get};
+ghost use Rattle.std.specs.Option.{option_copied};
+ghost use Rattle.std.specs.Map.{keys_of};
+ghost use Rattle.rb_tree.specs.Parts.{children_of, kind_of, len_of, pairs_of};
 ghost use Rattle.rb_tree.specs.declared.kind.Kind.TheVariants as Kinds;
 
 use rb_tree::Node;
@@ -40,7 +42,10 @@ impl<N: Node> Layer<N> {
     }
 
     /// Returns the next key.
-    pub(crate) fn key(&self) -> Option<&[u8]> {
+    pub(crate) fn key(&self) -> Option<&[u8]>
+        ensures { option_copied result
+            ≡ slice_get (keys_of (pairs_of (N.tree self.now.table))) self.now.at }
+    {
         if self.at < self.len {
             Some(self.table.key_at(self.at))
         } else {
@@ -49,7 +54,10 @@ impl<N: Node> Layer<N> {
     }
 
     /// Returns the next child.
-    pub(crate) fn child(&self) -> Option<N> {
+    pub(crate) fn child(&self) -> Option<N>
+        ensures { option_map N.tree result
+            ≡ slice_get (children_of (N.tree self.now.table)) self.now.at }
+    {
         if self.at < self.len {
             Some(self.table.at(self.at))
         } else {

@@ -78,7 +78,7 @@ fn put_ill_formed<O: Outlet, N: Node>(out: &mut O, node: N)
 /// The most units of a String that are written at once.
 const SHORT: usize = 64;
 
-/// Copies the ASCII units at the front of a String to the front of a block, a byte each, and returns
+/// Copies the first ASCII units of a String to the front of a block, a byte each, and returns
 /// their number.
 fn ascii_front<N: Node>(block: &mut [u8; SHORT], node: N, len: usize) -> usize
     requires units { HasUnits (kind_of (N.tree node)) }

@@ -1,31 +1,43 @@
 //! The keys of tables that are merged, in ascending order.
 
-use crate::layer::Layer;
 use crate::place::Place;
 use rb_tree::Node;
 
-/// Checks whether the next key of a layer is less than another's. One without keys has none.
-fn is_before<N: Node>(layer: &Layer<N>, other: &Layer<N>) -> bool {
-    let Some(key) = layer.key() else {
-        return false;
-    };
-    match other.key() {
-        Some(other) => key < other,
-        None => true,
-    }
-}
-
 impl<N: Node> Place<N> {
-    /// Checks whether the next key of one layer is less than another's.
-    fn precedes(&self, i: usize, other: usize) -> bool {
-        match (self.layers.get(i), self.layers.get(other)) {
-            (Some(layer), Some(other)) => is_before(layer, other),
-            _ => false,
+    ghost use Rattle.std.specs.Prelude.{◌≡◌, ◌↔◌, IfNone, IfSome, IsTrue, Some, slice_get};
+    ghost use Rattle.std.specs.Option.{option_copied};
+    ghost use Rattle.rb_inherit.specs.inner.Merging.{HasNoChild, IsChildOf, IsLeast, key_in};
+    ghost use Rattle.rb_inherit.specs.inner.Merging.{precedes};
+
+    /// Returns the next key of a layer.
+    fn next_key(&self, i: usize) -> Option<&[u8]>
+        ensures { option_copied result ≡ key_in N.tree self.now.layers.items i }
+    {
+        match self.layers.get(i) {
+            Some(layer) => layer.key(),
+            None => None,
+        }
+    }
+
+    /// Checks whether the next key of one layer is less than another's. A layer without one comes
+    /// last.
+    fn precedes(&self, i: usize, other: usize) -> bool
+        ensures { result ≡ precedes (key_in N.tree self.now.layers.items i)
+            (key_in N.tree self.now.layers.items other) }
+    {
+        let Some(key) = self.next_key(i) else {
+            return false;
+        };
+        match self.next_key(other) {
+            Some(other) => key.cmp(&other).is_lt(),
+            None => true,
         }
     }
 
     /// Returns the index of the first of some layers whose next key is the least.
-    pub(crate) fn least(&self, from: usize, to: usize) -> usize {
+    pub(crate) fn least(&self, from: usize, to: usize) -> usize
+        ensures { IsLeast (key_in N.tree self.now.layers.items) from to result }
+    {
         let mut least = from;
         for i in from.saturating_add(1)..to {
             if self.precedes(i, least) {
@@ -46,19 +58,26 @@ impl<N: Node> Place<N> {
 
     /// Returns the next child of a layer, and the layer's level. The layer's next entry is then the
     /// one after it.
-    pub(crate) fn take_child(&mut self, i: usize) -> Option<(N, usize)> {
-        let layer = self.layers.get_mut(i)?;
-        let child = layer.child()?;
+    pub(crate) fn take_child(&mut self, i: usize) -> Option<(N, usize)>
+        ensures some { IfSome result (IsChildOf N.tree (slice_get self.old.layers.items i)) }
+        ensures none { IfNone result (HasNoChild N.tree (slice_get self.old.layers.items i)) }
+        ensures rest { self.new ≡ record self.old { layers = self.new.layers } }
+    {
+        let Some(layer) = self.layers.get_mut(i) else {
+            return None;
+        };
+        let Some(child) = layer.child() else {
+            return None;
+        };
         layer.at = layer.at.saturating_add(1);
         Some((child, layer.level))
     }
 
     /// Checks whether a key is the next one of a layer.
-    pub(crate) fn is_next(&self, i: usize, key: &[u8]) -> bool {
-        let Some(layer) = self.layers.get(i) else {
-            return false;
-        };
-        match layer.key() {
+    pub(crate) fn is_next(&self, i: usize, key: &[u8]) -> bool
+        ensures { IsTrue result ↔ (key_in N.tree self.now.layers.items i ≡ Some key.now) }
+    {
+        match self.next_key(i) {
             Some(next) => next == key,
             None => false,
         }

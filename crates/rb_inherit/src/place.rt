@@ -63,6 +63,10 @@ fn most_keys(path_len: usize, keys_len: usize) -> usize {
 }
 
 impl<N: Node> Place<N> {
+    ghost use Rattle.std.specs.Prelude.{◌≡◌, ◌↔◌, ◌<◌, IfOk, IsTrue, length};
+    ghost use Rattle.rb_tree.specs.Parts.{kind_of};
+    ghost use Rattle.rb_inherit.specs.inner.Earlier.{Begins, Stays};
+
     /// Returns the state at the root.
     pub(crate) fn new(alloc: Global, valid: Name, left: u64, no_steps: TreeError) -> Place<N> {
         Place {
@@ -79,7 +83,9 @@ impl<N: Node> Place<N> {
     }
 
     /// Takes steps, if as many are left.
-    pub(crate) fn spend(&mut self, steps: u64) -> Result<(), TreeError> {
+    pub(crate) fn spend(&mut self, steps: u64) -> Result<(), TreeError>
+        ensures { self.new ≡ record self.old { left = self.new.left } }
+    {
         match self.left.checked_sub(steps) {
             Some(left) => {
                 self.left = left;
@@ -149,7 +155,11 @@ impl<N: Node> Place<N> {
         found: Found<N>,
         node: N,
         level: usize,
-    ) -> Result<Found<N>, TreeError> {
+    ) -> Result<Found<N>, TreeError>
+        ensures stays { IfOk result (Stays found) }
+        ensures first { found ≡ Found.Nothing
+            → IfOk result (Begins (kind_of (N.tree node)) node level) }
+    {
         if node.kind() != Kind::Table {
             return Ok(found.with_item(node, level));
         }
@@ -213,7 +223,9 @@ impl<N: Node> Place<N> {
 
     /// Checks whether a path that leads to the place is too long: that of a level, or of one before
     /// it.
-    pub(crate) fn is_long(&self, level: Level) -> bool {
+    pub(crate) fn is_long(&self, level: Level) -> bool
+        ensures { IsTrue result ↔ (level.keys_most < length self.now.keys.items) }
+    {
         self.keys.len() > level.keys_most
     }
 }

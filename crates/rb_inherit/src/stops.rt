@@ -47,7 +47,10 @@ fn roots_of<T: Stops>(
     route: &Route,
 ) -> Result<Vec<T::N>, TreeError> {
     let mut roots = Vec::new(alloc);
-    for stop in &route.stops {
+    for i in 0..route.stops.len() {
+        let Some(stop) = route.stops.get(i) else {
+            break;
+        };
         let Some(name) = route.names.get(*stop as usize) else {
             continue;
         };

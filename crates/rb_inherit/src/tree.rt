@@ -1,5 +1,9 @@
 //! The tree at a place as JSON, with one call a level.
 
+ghost use Rattle.std.specs.Prelude.{◌≡◌, IfOk};
+ghost use Rattle.rb_inherit.specs.inner.Earlier.{Stays};
+ghost use Rattle.rb_inherit.specs.inner.Merging.{FirstDecides};
+
 use crate::error::TreeError;
 use crate::follow::add_child;
 use crate::found::Found;
@@ -13,26 +17,47 @@ use rb_tree::{Kind, Node};
 /// The error code of an item with too many levels.
 const TOO_DEEP: &str = "TooDeep";
 
+/// Adds the next child of a layer to what the place has, unless that is final.
+#[tactic(auto, using(crate::proofs::Earliest::stays_itself))]
+fn take_at<T: Stops>(
+    shelves: T,
+    place: &mut Place<T::N>,
+    found: Found<T::N>,
+    i: usize,
+) -> Result<Found<T::N>, TreeError>
+    ensures stays { IfOk result (Stays found) }
+    ensures first { found ≡ Found.Nothing → IfOk result (FirstDecides T.N.tree
+        place.old.layers.items place.old.levels.items place.old.keys.items i) }
+{
+    let Some(next) = place.take_child(i) else {
+        return Ok(found);
+    };
+    if found.is_open() {
+        add_child(shelves, place, found, next.0, next.1)
+    } else {
+        Ok(found)
+    }
+}
+
 /// Returns what the layers from one index up to another have at a key, which is the next one of the
 /// first. Each takes one step, and more for a long key.
 fn found_at<T: Stops>(
     shelves: T,
     place: &mut Place<T::N>,
-    (from, to): (usize, usize),
+    from: usize,
+    to: usize,
     key: &[u8],
-) -> Result<Found<T::N>, TreeError> {
-    let mut found = Found::Nothing;
+) -> Result<Found<T::N>, TreeError>
+    ensures { IfOk result (FirstDecides T.N.tree place.old.layers.items
+        place.old.levels.items place.old.keys.items from) }
+{
     let steps = (key.len() as u64 / 64).saturating_add(1);
-    for i in from..to {
+    let mut found = take_at(shelves, place, Found::Nothing, from)?;
+    place.spend(steps)?;
+    for i in from.saturating_add(1)..to {
         place.spend(steps)?;
-        if i != from && !place.is_next(i, key) {
-            continue;
-        }
-        let Some((child, level)) = place.take_child(i) else {
-            continue;
-        };
-        if found.is_open() {
-            found = add_child(shelves, place, found, child, level)?;
+        if place.is_next(i, key) {
+            found = take_at(shelves, place, found, i)?;
         }
     }
     Ok(found)
@@ -44,7 +69,7 @@ fn put_entry<T: Stops, O: Outlet>(
     shelves: T,
     place: &mut Place<T::N>,
     out: &mut O,
-    layers: (usize, usize),
+    (first, to): (usize, usize),
     key: &[u8],
     levels: u64,
 ) -> Result<(), TreeError> {
@@ -54,7 +79,7 @@ fn put_entry<T: Stops, O: Outlet>(
     out.put(b":");
     let mark = place.mark();
     place.push_key(key)?;
-    let found = found_at(shelves, place, layers, key)?;
+    let found = found_at(shelves, place, first, to, key)?;
     put_found(shelves, place, out, found, mark.layers, levels)?;
     place.reset(mark);
     Ok(())
