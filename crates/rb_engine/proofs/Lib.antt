@@ -3,6 +3,7 @@ pub mod Histories
 pub mod StepLemmas
 pub mod Lookups
 pub mod Opening
+pub mod StayingOpen
 pub mod Starting
 pub mod Keeping
 pub mod Bounded

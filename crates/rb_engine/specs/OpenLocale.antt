@@ -1,6 +1,6 @@
 -- Defines which data opens a locale of an application for lookups: the indices of the bundles that are the stops of the
 -- locale's trail. A rule of this project.
-use Rattle.std.specs.Prelude.{◌≡◌, ◌≤◌, ℕ, List, true, length, take, Option, option_and_then, option_map, Result, Ok}
+use Rattle.std.specs.Prelude.{◌≡◌, ◌≤◌, ◌⊎◌, ℕ, List, [], ◌∷◌, true, length, take, Option, option_and_then, option_map, Result, Ok}
 use Rattle.std.specs.List.{slice_get}
 use Rattle.rb_tree.specs.Resource.{Resource}
 use Rattle.rb_tree.specs.Path.{is_path}
@@ -15,6 +15,7 @@ use Rattle.rb_engine.specs.Ask.{Looks}
 use Rattle.rb_engine.specs.Answer.{Refuses, answer_over}
 use Rattle.rb_engine.specs.Kept.{Kept, state_of}
 use Rattle.rb_engine.specs.Place.{place_of}
+use Rattle.rb_engine.specs.Version.{is_current, next_version}
 use Rattle.rb_engine.specs.declared.open_locale.OpenLocale.{OpenLocale}
 use Rattle.rb_engine.specs.declared.place.Place.{Place}
 use Rattle.rb_engine.specs.declared.request.LookFault.{LookFault}
@@ -43,3 +44,21 @@ pub record IsOpenLocale (opened : OpenLocale) (engine : Kept) (app locale : List
 abbrev pub RefusesAll : Kept → List ℕ → List ℕ → LookFault → Type 0
 RefusesAll engine app locale fault = (path : List ℕ) → is_path path ≡ true → length path ≤ path_limit
     → answer_over (state_of engine).start ((state_of engine).lists app) (Looks app locale path) ≡ Refuses fault
+
+-- ---- an engine over time
+
+-- a call changes nothing, or raises the version
+abbrev pub Follows : Kept → Kept → Type 0
+Follows old new = (new ≡ old) ⊎ (new.version ≡ next_version old.version)
+
+-- an engine before and after some calls, with its states in between
+abbrev pub IsReached : Kept → List Kept → Kept → Type 0
+IsReached first [] last = Follows first last
+IsReached first (mid ∷ later) last = Follows first mid × IsReached mid later last
+
+-- an open locale stays one as long as its version is current
+abbrev pub StaysOpen : Type 0
+StaysOpen =
+    (opened : OpenLocale) (app locale : List ℕ) (first last : Kept) (between : List Kept)
+    → IsOpenLocale opened first app locale → opened.version ≡ first.version → IsReached first between last
+    → is_current opened.version last.version ≡ true → IsOpenLocale opened last app locale

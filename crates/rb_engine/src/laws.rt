@@ -2,6 +2,7 @@ ghost use Rattle.std.specs.Prelude.{◌≡◌, ℕ, List};
 ghost use Rattle.rb_engine.specs.Compiled.{IsCompiled};
 ghost use Rattle.rb_engine.specs.History.{AsksOne, AnswersOwn, IsIsolated};
 ghost use Rattle.rb_engine.specs.Kept.{KeepsTexts, KeepsCommonTexts, KeepsTrees};
+ghost use Rattle.rb_engine.specs.OpenLocale.{StaysOpen};
 
 /// Proves that applications are isolated: each is answered from its own bundles, those of ICUDATA
 /// and the explicit parents, whatever the others ask.
@@ -28,4 +29,11 @@ pub fn a_text_is_kept_as_its_bundle()
 pub fn one_compiled()
     ensures { (text file other : List ℕ) → IsCompiled text file → IsCompiled text other
         → file ≡ other }
+{}
+
+/// Proves that an open locale stays one as long as its version is current: if each call in between
+/// changes nothing or raises the version, nothing has changed.
+#[tactic(auto, using(crate::proofs::StayingOpen::stays_open))]
+pub fn a_locale_stays_open_until_a_change()
+    ensures { StaysOpen }
 {}
