@@ -1,9 +1,10 @@
-/* Times lookups in process, of libresb beside libicu with its bundles kept open, in alternating turns.
+/* Times lookups in process, of libresb by name and from open locales beside libicu with its bundles kept open, in alternating turns.
  * usage: library FOLDER TURNS: the .res files of FOLDER, in version 1 of the format
- * Prints a line for each turn: nanoseconds of processor time for a lookup of each, over the same questions.
+ * Prints a line for each turn: nanoseconds of processor time for a lookup of each, over the same questions; the ratios are of open locales.
  *
  * Built with COUNTED and run as `library FOLDER PART` under callgrind with --collect-atstart=no, it prints how many questions are direct
- * and how many lead through aliases, and asks those of one part once: of libresb direct (0) or through aliases (2), of libicu (1, 3). */
+ * and how many lead through aliases, and asks those of one part once: direct of libresb by name (0), from open locales (1) and of libicu
+ * (2), and through aliases in the same order (3, 4, 5). */
 #include <dirent.h>
 #include <stdio.h>
 #include <stdlib.h>
@@ -27,6 +28,7 @@ static UResourceBundle *tops[FILES], *fill;
 static int files, count;
 static resb engine = RESB_CLOSED;
 static struct { int file; const char *path; } questions[QUESTIONS];
+static resb_locale locales[FILES];
 static volatile long sum;
 
 static void stop(const char *why) {
@@ -96,6 +98,14 @@ static bool ask_resb(int i) {
     return true;
 }
 
+static bool ask_open(int i) {
+    resb_found found;
+    if (resb_look_at(&engine, &locales[questions[i].file], STRING(questions[i].path), &found) || found.kind != RESB_STRING)
+        return false;
+    sum += ((const uint16_t *)found.at)[0] + (long)found.count;
+    return true;
+}
+
 static bool ask_icu(int i) {
     UErrorCode status = U_ZERO_ERROR;
     int32_t len;
@@ -134,14 +144,15 @@ static bool is_direct(int i) {
 
 static void count_instructions(int asked, int part) {
     static bool direct[QUESTIONS];
-    bool (*ask)(int) = part % 2 ? ask_icu : ask_resb;
+    bool (*const asks[])(int) = {ask_resb, ask_open, ask_icu};
+    bool (*ask)(int) = asks[part % 3];
     int directs = 0;
     for (int i = 0; i < asked; i++)
         directs += direct[i] = is_direct(i);
     printf("%d direct, %d through aliases\n", directs, asked - directs);
     CALLGRIND_TOGGLE_COLLECT;
     for (int i = 0; i < asked; i++)
-        if (direct[i] == (part < 2))
+        if (direct[i] == (part < 3))
             ask(i);
     CALLGRIND_TOGGLE_COLLECT;
 }
@@ -168,11 +179,14 @@ int main(int argc, char **argv) {
             }
     if (!count)
         stop("no strings");
+    for (int i = 0; i < files; i++)
+        if (resb_open_locale(&engine, STRING("cldr"), STRING(names[i]), &locales[i]))
+            stop(names[i]);
     int asked = 0;
     for (int tries = 0; asked < QUESTIONS && tries < 10 * QUESTIONS; tries++) {
         questions[asked].file = (int)next_random((unsigned)files);
         questions[asked].path = paths[next_random((unsigned)count)];
-        if (ask_resb(asked) && ask_icu(asked))
+        if (ask_resb(asked) && ask_open(asked) && ask_icu(asked))
             asked++;
     }
     printf("%d files, %d questions\n", files, asked);
@@ -181,8 +195,8 @@ int main(int argc, char **argv) {
     return 0;
 #endif
     for (int turn = 0; turn < atoi(argv[2]); turn++) {
-        double ours = timed(ask_resb, asked), theirs = timed(ask_icu, asked);
-        printf("resb %.0f ns, icu %.0f ns, %.2f times as fast as icu\n", ours, theirs, theirs / ours);
+        double ours = timed(ask_resb, asked), open = timed(ask_open, asked), theirs = timed(ask_icu, asked);
+        printf("resb %.0f ns, open %.0f ns, icu %.0f ns, %.2f times as fast as icu\n", ours, open, theirs, theirs / open);
     }
     return 0;
 }

@@ -1,9 +1,9 @@
 #!/usr/bin/env python3
-"""Counts the instructions of a lookup in process, of libresb and of libicu whose bundles stay open, over the locales of ICU's data.
+"""Counts the instructions of a lookup in process, of libresb by name and from open locales, and of libicu whose bundles stay open.
 
 usage: lookups.py [--data PACKAGE] [--profile] LIBRARY    LIBRARY: the folder that tools/library made
 
-Both libraries answer the same questions, which bench/library.c chooses: strings at paths of five locales, looked up from any locale.
+Over the locales of ICU's data both libraries answer the same questions, which bench/library.c chooses: strings at paths of five locales, looked up from any locale.
 A question is direct if no alias is on its way. Needs gcc, genrb, libicu's headers and valgrind. --profile prints the functions of
 libresb that take most, for each kind.
 """
@@ -18,7 +18,7 @@ import icu as data_of_icu
 from turns import TOP
 
 KINDS = ("direct", "through aliases")
-LIBRARIES = ("libresb", "libicu")
+LIBRARIES = ("libresb", "libresb, open locale", "libicu")
 
 
 def total(dump):
@@ -48,16 +48,16 @@ def main():
         source = os.path.join(TOP, "bench", "library.c")
         subprocess.run(["gcc", "-O2", "-Wall", "-D_GNU_SOURCE", "-DCOUNTED", "-I", library, source, os.path.join(library, "libresb.a"),
                         "-licuuc", "-o", program], check=True)
-        for part in range(4):
+        for part in range(6):
             dump = os.path.join(folder, f"dump{part}")
             words = ["valgrind", "--tool=callgrind", "--collect-atstart=no", f"--callgrind-out-file={dump}"]
             run = subprocess.run([*words, program, files, str(part)], capture_output=True, text=True)
             if run.returncode:
                 sys.exit(run.stderr)
-            kind, name = KINDS[part // 2], LIBRARIES[part % 2]
+            kind, name = KINDS[part // 3], LIBRARIES[part % 3]
             count = int(re.search(rf"(\d+) {kind}", run.stdout)[1])
             print(f"{name}, {count} lookups {kind}: {total(dump) / count:,.0f} instructions each")
-            if given.profile and name == "libresb":
+            if given.profile and name != "libicu":
                 print(*profile(dump), sep="\n")
 
 

@@ -94,6 +94,62 @@ static void looks(resb *e) {
     EXPECT(resb_look(e, S("shop"), S("de"), S("a//b"), &f) == RESB_BAD_PATH && memcmp(&f, &before, sizeof f) == 0);
 }
 
+/* Checks that lookups from an open locale describe the items that resb_look describes. */
+static void looks_alike(resb *e, const char *app, const char *locale, const char *path) {
+    resb_found f = {NULL, 0, 0, 0}, g = {NULL, 0, 0, 0};
+    resb_locale opened;
+    EXPECT(resb_open_locale(e, S(app), S(locale), &opened) == RESB_OK);
+    uint32_t error = resb_look(e, S(app), S(locale), S(path), &f);
+    EXPECT(resb_look_at(e, &opened, S(path), &g) == error && memcmp(&f, &g, sizeof f) == 0);
+}
+
+static void opens_locales(resb *e) {
+    resb closed = RESB_CLOSED;
+    resb_found f = {NULL, 0, 0, 0};
+    resb_locale opened, bank;
+    memset(&opened, 0x5a, sizeof opened);
+    resb_locale before = opened;
+    EXPECT(resb_open_locale(&closed, S("shop"), S("de"), &opened) == RESB_NOT_OPEN);
+    EXPECT(resb_open_locale(e, S("sh op"), S("de"), &opened) == RESB_BAD_APP);
+    EXPECT(resb_open_locale(e, S("ICUDATA"), S("de"), &opened) == RESB_RESERVED);
+    EXPECT(resb_open_locale(e, S("shop"), S("-"), &opened) == RESB_BAD_LOCALE);
+    EXPECT(resb_open_locale(e, S("none"), S("de"), &opened) == RESB_NO_BUNDLE);
+    EXPECT(resb_open_locale(e, S("bank"), S("fr"), &opened) == RESB_NO_BUNDLE && memcmp(&opened, &before, sizeof opened) == 0);
+    EXPECT(resb_look_at(e, &opened, S("greeting"), &f) == RESB_STALE && f.count == 0);
+    EXPECT(resb_open_locale(e, S("shop"), S("de_AT"), &opened) == RESB_OK);
+    EXPECT(resb_look_at(&closed, &opened, S("greeting"), &f) == RESB_NOT_OPEN);
+    EXPECT(resb_look_at(e, &opened, S("greeting"), &f) == RESB_OK && f.kind == RESB_STRING && f.count == 4);
+    EXPECT(resb_look_at(e, &opened, S("link"), &f) == RESB_OK && f.count == 4 && ((const uint16_t *)f.at)[2] == 0xfc);
+    EXPECT(resb_look_at(e, &opened, S("only"), &f) == RESB_OK && f.count == 4 && ((const uint16_t *)f.at)[0] == 'r');
+    EXPECT(resb_look_at(e, &opened, S("count"), &f) == RESB_OK && f.kind == RESB_INT && f.number == 7);
+    EXPECT(resb_look_at(e, &opened, S("nothing"), &f) == RESB_MISSING && f.number == 7);
+    EXPECT(resb_look_at(e, &opened, S("a//b"), &f) == RESB_BAD_PATH && f.number == 7);
+    static const char *const paths[] = {"", "greeting", "count", "low", "v", "b", "list", "list/1", "empty", "menu/open", "menu/x", "link", "only", "/"};
+    static const char *const locales[] = {"de", "de_AT", "fr", "root", "zz_Zzzz_ZZ"};
+    for (size_t i = 0; i < sizeof paths / sizeof *paths; i++)
+        for (size_t k = 0; k < sizeof locales / sizeof *locales; k++)
+            looks_alike(e, "shop", locales[k], paths[i]);
+    /* forged places */
+    resb_locale forged = opened;
+    forged.app = SIZE_MAX;
+    EXPECT(resb_look_at(e, &forged, S("greeting"), &f) == RESB_NO_BUNDLE);
+    forged = opened;
+    forged.count = SIZE_MAX;
+    forged.stops[0] = SIZE_MAX;
+    EXPECT(resb_look_at(e, &forged, S("greeting"), &f) != RESB_OK);
+    /* a change of any application, but no refused one */
+    EXPECT(resb_open_locale(e, S("bank"), S("de"), &bank) == RESB_OK);
+    EXPECT(resb_install(e, S("bank"), S("de"), S("de{}"), true) == RESB_EXISTS && resb_remove(e, S("bank"), S("fr")) == RESB_ABSENT);
+    EXPECT(resb_look_at(e, &bank, S("greeting"), &f) == RESB_OK && ((const uint16_t *)f.at)[0] == 'M');
+    EXPECT(resb_install(e, S("bank"), S("fr"), S("fr{}"), true) == RESB_OK);
+    EXPECT(resb_look_at(e, &bank, S("greeting"), &f) == RESB_STALE && resb_look_at(e, &opened, S("greeting"), &f) == RESB_STALE);
+    EXPECT(resb_open_locale(e, S("bank"), S("de"), &bank) == RESB_OK && resb_look_at(e, &bank, S("greeting"), &f) == RESB_OK);
+    EXPECT(resb_replace(e, S("bank"), S("fr"), S("fr{a{\"b\"}}"), true) == RESB_OK);
+    EXPECT(resb_look_at(e, &bank, S("greeting"), &f) == RESB_STALE);
+    EXPECT(resb_open_locale(e, S("bank"), S("de"), &bank) == RESB_OK && resb_remove(e, S("bank"), S("fr")) == RESB_OK);
+    EXPECT(resb_look_at(e, &bank, S("greeting"), &f) == RESB_STALE);
+}
+
 static void copies(resb *e) {
     uint16_t units[8] = {1, 1, 1, 1, 1};
     size_t len = 0;
@@ -202,6 +258,7 @@ int main(void) {
     installs(&e);
     lists(&e);
     looks(&e);
+    opens_locales(&e);
     copies(&e);
     limits(&e);
     starts();

@@ -1,6 +1,7 @@
 pub mod Changes
 pub mod Lists
 pub mod Looks
+pub mod OpenLocales
 pub mod Numbers
 pub mod Open
 pub mod Start

@@ -12,5 +12,6 @@ mod looks;
 mod names;
 mod numbers;
 mod open;
+mod open_locales;
 mod start;
 mod usage;

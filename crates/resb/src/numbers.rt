@@ -27,6 +27,9 @@ pub(crate) const NO_ENTRY: u32 = 7;
 /// The item is of another kind.
 pub(crate) const OTHER_KIND: u32 = 6;
 
+/// The engine has changed since the locale was opened.
+pub(crate) const STALE: u32 = 8;
+
 /// The lookup takes more steps than the caller allows.
 pub(crate) const TOO_MANY_STEPS: u32 = 30;
 
@@ -82,6 +85,7 @@ pub(crate) fn look_number(fault: LookFault) -> u32
     ensures number { result ≡ look_number fault }
     ensures error { result ≢ 0 }
     ensures steps { result ≢ 30 }
+    ensures stale { result ≢ 8 }
 {
     match fault {
         LookFault::BadApp => 11,

@@ -134,15 +134,38 @@ fn is_hit(found: &Found<Item<'_>>, hit: Hit<'_>) -> bool {
 
 fn finds(engine: &Engine, place: Place<'_>, path: &str, hit: Hit<'_>) -> bool {
     match engine.look(place.0.as_bytes(), place.1.as_bytes(), path.as_bytes()) {
-        Ok(found) => is_hit(&found, hit),
+        Ok(found) => is_hit(&found, hit) && finds_opened(engine, place, path, hit),
         Err(_) => false,
+    }
+}
+
+/// Checks that a lookup from the open locale finds the same.
+fn finds_opened(engine: &Engine, place: Place<'_>, path: &str, hit: Hit<'_>) -> bool {
+    let Ok(opened) = engine.open_locale(place.0.as_bytes(), place.1.as_bytes()) else {
+        return false;
+    };
+    match engine.look_at(&opened, path.as_bytes()) {
+        Ok(Ok(found)) => is_hit(&found, hit),
+        _ => false,
     }
 }
 
 pub(crate) fn misses(engine: &Engine, place: Place<'_>, path: &str, word: &str) -> bool {
     match engine.look(place.0.as_bytes(), place.1.as_bytes(), path.as_bytes()) {
         Ok(_) => false,
-        Err(fault) => fault.word() == word,
+        Err(fault) => fault.word() == word && misses_opened(engine, place, path, word),
+    }
+}
+
+/// Checks that a lookup from the open locale has the same error. A locale that can't be opened has
+/// it, unless it is one of the path.
+fn misses_opened(engine: &Engine, place: Place<'_>, path: &str, word: &str) -> bool {
+    match engine.open_locale(place.0.as_bytes(), place.1.as_bytes()) {
+        Ok(opened) => match engine.look_at(&opened, path.as_bytes()) {
+            Ok(Err(fault)) => fault.word() == word,
+            _ => false,
+        },
+        Err(fault) => fault.word() == word || word == "BadPath" || word == "PathTooLong",
     }
 }
 
