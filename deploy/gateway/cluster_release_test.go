@@ -169,6 +169,9 @@ func (c *cluster) race() {
 		go func() {
 			defer all.Done()
 			status, revision, text := m.release(longFiles(20 + i)...)
+			for status == 503 && errorCode(text) == "Replaying" { // the log was slow, and another one was made meanwhile
+				status, revision, text = m.release(longFiles(20 + i)...)
+			}
 			mu.Lock()
 			defer mu.Unlock()
 			if status != 200 || revision == last {

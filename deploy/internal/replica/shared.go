@@ -257,8 +257,8 @@ func (r *Replica) overtake(entries []store.Entry) {
 	}
 }
 
-// late is how long a request of the log takes if packets are lost: the network repeats none earlier.
-const late = 200 * time.Millisecond
+// late is how long a request of the log takes if the network is cut off. Long entries take a part of it.
+const late = time.Second
 
 // time notes whether a request of the log, which began at a time, took long.
 func (r *Replica) time(began time.Time) {
