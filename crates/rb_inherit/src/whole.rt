@@ -173,7 +173,10 @@ pub fn tree_text<'a, S: Shelf<'a>, I: Shelf<'a, N = S::N>>(
     name: &Name,
     path: &[u8],
     limits: TreeLimits,
-) -> Result<Vec<u8>, TreeError> {
+) -> Result<Vec<u8>, TreeError>
+    ensures { FollowsLookup (S.bundles own) (I.bundles icu) (parent_of parents.now) name.now
+        path.now (λ text hit. IsTreeOf (λ bytes. text.items ≡ bytes) hit) result }
+{
     let size = tree_size(alloc, own, icu, parents, name, path, limits)?;
     let Ok(bytes) = Vec::with_capacity(alloc, size.bytes as usize) else {
         return Err(TreeError::Memory);
