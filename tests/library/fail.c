@@ -60,6 +60,10 @@ static void history(void) {
         EXPECT(len == (de ? 3u : 0u) + (root ? 5u : 0u));
     uint32_t seen = resb_look(&e, S("shop"), S("de_AT"), S("greeting"), &f);
     EXPECT(seen == (de || root ? RESB_OK : RESB_NO_BUNDLE));
+    resb_locale opened;
+    long before = left;
+    EXPECT(resb_open_locale(&e, S("shop"), S("de_AT"), &opened) == seen);
+    EXPECT((seen || resb_look_at(&e, &opened, S("greeting"), &f) == RESB_OK) && left == before);
     EXPECT(resb_text(&e, S("shop"), S("de_AT"), S("greeting"), units, 8, &len) == seen && (seen || (len == 5 && units[1] == (de ? 'a' : 'e'))));
     if (worked(resb_share(&e, &other)))
         EXPECT(resb_look(&other, S("shop"), S("de_AT"), S("greeting"), &f) == seen);

@@ -10,6 +10,7 @@ static uint64_t line;
 static uint32_t result;
 static resb e = RESB_CLOSED;
 static resb_found f;
+static resb_locale opened;
 static char path[2000];
 
 static void *none(void *a) {
@@ -54,6 +55,16 @@ static void *look_within(void *a) {
 
 static void *look(void *a) {
     result = resb_look(&e, S("a"), S("de_DE_POSIX"), S(path), &f);
+    return a;
+}
+
+static void *open_locale(void *a) {
+    result = resb_open_locale(&e, S("a"), S("de_DE_POSIX"), &opened);
+    return a;
+}
+
+static void *look_at(void *a) {
+    result = resb_look_at(&e, &opened, S(path), &f);
     return a;
 }
 
@@ -105,6 +116,8 @@ int main(void) {
     measure("start", start);
     measure("look", look);
     measure("look_within", look_within);
+    measure("open_locale", open_locale);
+    measure("look_at", look_at);
     measure("text", copy);
     resb_close(&e);
     free(text);
