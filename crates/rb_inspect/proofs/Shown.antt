@@ -6,7 +6,8 @@ use Rattle.rb_tree.specs.Keys.{IsPlain}
 use Rattle.rb_tree.specs.Resource.{Resource, alias}
 use Rattle.rb_tree.specs.Path.{IsPath, segments}
 use Rattle.rb_tree.specs.Walk.{Walked, ends, links, gone, walk, behind, stop_of, rest_of, end, link}
-use Rattle.rb_fallback.proofs.Paths.{Whole, walk_whole, segments_joined}
+use Rattle.rb_fallback.specs.inner.LevelResult.{Whole}
+use Rattle.rb_fallback.proofs.Paths.{walk_whole, segments_joined}
 use Rattle.rb_json.specs.Item.{item_data}
 use Rattle.rb_inspect.specs.Got.{shown}
 
