@@ -17,3 +17,4 @@ pub mod Unlimited
 pub mod Serving
 pub mod LineIsolation
 pub mod LimitedLines
+pub mod ReplyLimits

@@ -8,3 +8,4 @@ pub mod Taken
 pub mod Putting
 pub mod Streaming
 pub mod Placing
+pub mod ExportReply

@@ -1,4 +1,20 @@
 //! Returns what is stored: the files of bundles, their texts, and their lengths.
+ghost use Rattle.std.specs.Prelude.{◌≡◌, ◌<◌, [], length, option_map, IfErr, IfOk, OnOk};
+ghost use Rattle.rb_format.specs.File.{source_tree_of};
+ghost use Rattle.rb_locales.specs.Locale.{name as name_of};
+ghost use Rattle.rb_packages.specs.App.{app_of};
+ghost use Rattle.rb_lexer.specs.Limits.{source_limit};
+ghost use Rattle.rb_printer.specs.Page.{page_bytes};
+ghost use Rattle.rb_printer.specs.Whole.{IsBundleText};
+ghost use Rattle.rb_printer.specs.declared.error.PrintError.TheVariants as print_errors;
+ghost use Rattle.rb_replies.specs.Extended.{file_line, text_data};
+ghost use Rattle.rb_requests.specs.inner.ExportReply.{ExportReply, FileReply, PrintedReply};
+ghost use Rattle.rb_requests.specs.inner.ExportReply.{limited_line, sizes_reply};
+ghost use Rattle.rb_requests.specs.Within.{line_of};
+ghost use Rattle.rb_requests.specs.inner.Placing.{PlacesReply};
+ghost use Rattle.rb_requests.specs.inner.Putting.{Puts, writer};
+ghost use Rattle.rb_requests.specs.inner.Streaming.{Takes};
+
 use crate::answer::{Placed, tell_line_error, tell_word};
 use crate::device::{Failed, Sink};
 use crate::limits::Limits;
@@ -14,41 +30,39 @@ use rb_validator::Bundle;
 use std::alloc::{AllocError, Global};
 use std::str;
 
+fn stream_file_line<S: Sink>(stream: &mut Stream<'_, S>, file: &[u8])
+    ensures same { (stream.new.sink.ghost_name ≡ stream.old.sink.ghost_name)
+        × (stream.new.held.ghost_name ≡ stream.old.held.ghost_name) }
+    ensures takes { Takes stream.old.failed (writer (S.written stream.old.sink.now)
+        (S.faults stream.old.sink.now) (S.settled stream.old.sink.now)) stream.old.held.now.items
+        stream.new.failed (writer (S.written stream.new.sink.now)
+        (S.faults stream.new.sink.now) (S.settled stream.new.sink.now)) stream.new.held.now.items
+        (file_line file.now) }
+    ensures empty { stream.new.held.now.items ≡ [] }
+{
+    put_file(stream, file);
+    stream.pass_on();
+}
+
 /// Writes the line of a file to the sink, piece by piece.
 fn stream_file<S: Sink>(
     alloc: Global,
     sink: &mut S,
     file: &[u8],
-) -> Result<Result<(), Failed>, AllocError> {
+) -> Result<Result<(), Failed>, AllocError>
+    ensures put { IfOk result (λ put. Puts put
+        (writer (S.written sink.old) (S.faults sink.old) (S.settled sink.old))
+        (writer (S.written sink.new) (S.faults sink.new) (S.settled sink.new))
+        (file_line file.now)) }
+    ensures none { IfErr result (λ _. sink.new ≡ sink.old) }
+{
     let mut held = Vec::with_capacity(alloc, PIECE)?;
     let mut stream = Stream {
         sink,
         held: &mut held,
         failed: false,
     };
-    put_file(&mut stream, file);
-    stream.pass_on();
-    if stream.failed {
-        Ok(Err(Failed))
-    } else {
-        Ok(Ok(()))
-    }
-}
-
-/// Writes the line of a text to the sink, piece by piece.
-fn stream_text<S: Sink>(
-    alloc: Global,
-    sink: &mut S,
-    text: &str,
-) -> Result<Result<(), Failed>, AllocError> {
-    let mut held = Vec::with_capacity(alloc, PIECE)?;
-    let mut stream = Stream {
-        sink,
-        held: &mut held,
-        failed: false,
-    };
-    put_text(&mut stream, text);
-    stream.pass_on();
+    stream_file_line(&mut stream, file);
     if stream.failed {
         Ok(Err(Failed))
     } else {
@@ -62,12 +76,57 @@ fn place_file<S: Sink>(
     file: &[u8],
     reply: &mut ReplyLine,
     sink: &mut S,
-) -> Result<Placed, AllocError> {
+) -> Result<Placed, AllocError>
+    ensures { PlacesReply result reply.new
+        (writer (S.written sink.old) (S.faults sink.old) (S.settled sink.old))
+        (writer (S.written sink.new) (S.faults sink.new) (S.settled sink.new))
+        (λ line. line ≡ limited_line limits.now (file_line file.now)) }
+{
     if file_is_above(file, limits.reply_bytes) {
         tell_line_error(alloc, LineError::ReplyTooLong, reply)?;
         return Ok(Placed::Held);
     }
     Ok(Placed::Put(stream_file(alloc, sink, file)?))
+}
+
+fn stream_text_line<S: Sink>(stream: &mut Stream<'_, S>, text: &str)
+    ensures same { (stream.new.sink.ghost_name ≡ stream.old.sink.ghost_name)
+        × (stream.new.held.ghost_name ≡ stream.old.held.ghost_name) }
+    ensures takes { Takes stream.old.failed (writer (S.written stream.old.sink.now)
+        (S.faults stream.old.sink.now) (S.settled stream.old.sink.now)) stream.old.held.now.items
+        stream.new.failed (writer (S.written stream.new.sink.now)
+        (S.faults stream.new.sink.now) (S.settled stream.new.sink.now)) stream.new.held.now.items
+        (line_of (text_data text.now)) }
+    ensures empty { stream.new.held.now.items ≡ [] }
+{
+    put_text(stream, text);
+    stream.pass_on();
+}
+
+/// Writes the line of a text to the sink, piece by piece.
+fn stream_text<S: Sink>(
+    alloc: Global,
+    sink: &mut S,
+    text: &str,
+) -> Result<Result<(), Failed>, AllocError>
+    ensures put { IfOk result (λ put. Puts put
+        (writer (S.written sink.old) (S.faults sink.old) (S.settled sink.old))
+        (writer (S.written sink.new) (S.faults sink.new) (S.settled sink.new))
+        (line_of (text_data text.now))) }
+    ensures none { IfErr result (λ _. sink.new ≡ sink.old) }
+{
+    let mut held = Vec::with_capacity(alloc, PIECE)?;
+    let mut stream = Stream {
+        sink,
+        held: &mut held,
+        failed: false,
+    };
+    stream_text_line(&mut stream, text);
+    if stream.failed {
+        Ok(Err(Failed))
+    } else {
+        Ok(Ok(()))
+    }
 }
 
 fn place_printed<S: Sink>(
@@ -76,7 +135,12 @@ fn place_printed<S: Sink>(
     text: &str,
     reply: &mut ReplyLine,
     sink: &mut S,
-) -> Result<Placed, AllocError> {
+) -> Result<Placed, AllocError>
+    ensures { PlacesReply result reply.new
+        (writer (S.written sink.old) (S.faults sink.old) (S.settled sink.old))
+        (writer (S.written sink.new) (S.faults sink.new) (S.settled sink.new))
+        (λ line. line ≡ limited_line limits.now (line_of (text_data text.now))) }
+{
     if text_is_above(text, limits.reply_bytes) {
         tell_line_error(alloc, LineError::ReplyTooLong, reply)?;
         return Ok(Placed::Held);
@@ -85,7 +149,12 @@ fn place_printed<S: Sink>(
 }
 
 /// Prints a bundle as a text that is named after its locale.
-fn text_of(alloc: Global, name: &Name, bundle: &Bundle) -> Result<Vec<u8>, PrintError> {
+fn text_of(alloc: Global, name: &Name, bundle: &Bundle) -> Result<Vec<u8>, PrintError>
+    ensures text { IfOk result
+        (λ bytes. IsBundleText bytes.items name.now (source_tree_of bundle.now)) }
+    ensures error { IfErr result (λ e. e ≡ print_errors.TooLarge
+        → source_limit < length (page_bytes name.now (source_tree_of bundle.now))) }
+{
     let units: Vec<u16> = name
         .as_bytes()
         .iter()
@@ -101,7 +170,12 @@ fn place_text<S: Sink>(
     bundle: &Bundle,
     reply: &mut ReplyLine,
     sink: &mut S,
-) -> Result<Placed, AllocError> {
+) -> Result<Placed, AllocError>
+    ensures { PlacesReply result reply.new
+        (writer (S.written sink.old) (S.faults sink.old) (S.settled sink.old))
+        (writer (S.written sink.new) (S.faults sink.new) (S.settled sink.new))
+        (PrintedReply limits.now name.now bundle.now) }
+{
     let text = match text_of(alloc, name, bundle) {
         Ok(text) => text,
         Err(PrintError::Memory) => return Err(AllocError),
@@ -113,6 +187,32 @@ fn place_text<S: Sink>(
     match str::from_utf8(&text) {
         Ok(text) => place_printed(alloc, limits, text, reply, sink),
         Err(_) => Err(AllocError),
+    }
+}
+
+/// Answers with the file of a bundle, or with its text, or that there is none.
+fn place_bundle<S: Sink>(
+    alloc: Global,
+    limits: &Limits,
+    name: &Name,
+    bundle: Option<&Bundle>,
+    is_text: bool,
+    reply: &mut ReplyLine,
+    sink: &mut S,
+) -> Result<Placed, AllocError>
+    ensures { PlacesReply result reply.new
+        (writer (S.written sink.old) (S.faults sink.old) (S.settled sink.old))
+        (writer (S.written sink.new) (S.faults sink.new) (S.settled sink.new))
+        (FileReply limits.now is_text name.now (option_map (λ b. b.now) bundle.entry)) }
+{
+    let Some(bundle) = bundle else {
+        tell_word(alloc, Reply::Absent.word(), reply)?;
+        return Ok(Placed::Held);
+    };
+    if is_text {
+        place_text(alloc, limits, name, bundle, reply, sink)
+    } else {
+        place_file(alloc, limits, bundle.bytes(), reply, sink)
     }
 }
 
@@ -128,22 +228,25 @@ pub(crate) fn answer_export<S: Sink>(
     is_text: bool,
     reply: &mut ReplyLine,
     sink: &mut S,
-) -> Result<Placed, AllocError> {
-    let word = match App::read(app.as_bytes()) {
-        Ok(app) => match Name::read(locale.as_bytes()) {
-            Ok(name) => match engine.bundle(&app, &name) {
-                Some(bundle) if is_text => {
-                    return place_text(alloc, limits, &name, bundle, reply, sink);
-                }
-                Some(bundle) => return place_file(alloc, limits, bundle.bytes(), reply, sink),
-                None => Reply::Absent.word(),
-            },
-            Err(_) => Reply::BadLocale.word(),
-        },
-        Err(fault) => fault.word(),
+) -> Result<Placed, AllocError>
+    ensures { PlacesReply result reply.new
+        (writer (S.written sink.old) (S.faults sink.old) (S.settled sink.old))
+        (writer (S.written sink.new) (S.faults sink.new) (S.settled sink.new))
+        (ExportReply limits.now engine.now is_text (app_of app.now) (name_of locale.now)) }
+{
+    let app = match App::read(app.as_bytes()) {
+        Ok(app) => app,
+        Err(fault) => {
+            tell_word(alloc, fault.word(), reply)?;
+            return Ok(Placed::Held);
+        }
     };
-    tell_word(alloc, word, reply)?;
-    Ok(Placed::Held)
+    let Ok(name) = Name::read(locale.as_bytes()) else {
+        tell_word(alloc, Reply::BadLocale.word(), reply)?;
+        return Ok(Placed::Held);
+    };
+    let bundle = engine.bundle(&app, &name);
+    place_bundle(alloc, limits, &name, bundle, is_text, reply, sink)
 }
 
 /// Answers with the names and the lengths of an application's bundles: `BadApp`, `Reserved`, and
@@ -154,7 +257,9 @@ pub(crate) fn answer_sizes(
     limits: &Limits,
     app: &str,
     reply: &mut ReplyLine,
-) -> Result<(), AllocError> {
+) -> Result<(), AllocError>
+    ensures { OnOk result (reply.new ≡ sizes_reply limits.now engine.now (app_of app.now)) }
+{
     let app = match App::read(app.as_bytes()) {
         Ok(app) => app,
         Err(fault) => return tell_word(alloc, fault.word(), reply),

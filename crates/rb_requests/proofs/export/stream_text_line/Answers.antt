@@ -1,0 +1,13 @@
+use Rattle.std.proofs.Common.{◌++◌, List, ℕ, subst, append-nil}
+use Rattle.rb_replies.specs.Extended.{text_data}
+use Rattle.rb_requests.specs.Within.{line_of}
+use Rattle.rb_requests.specs.inner.Putting.{Streams, writer}
+use Rattle.rb_requests.proofs.export.stream_text_line.Goals as goal
+
+pub returns-clause-takes : goal.returns-clause-takes
+returns-clause-takes g c =
+    let line = line_of (text_data c.args.text.now) in
+    let last = c.pass_on.new.self in
+    let sink = last.sink.now in
+    λ before text h. subst (λ (all : List ℕ). Streams last.failed before (writer (g.S.Sink.written sink) (g.S.Sink.faults sink) (g.S.Sink.settled sink)) last.held.now.items all)
+    (append-nil (text ++ line)) (c.pass_on.ensures.takes before (text ++ line) (c.put_text.ensures.2 before text h))
