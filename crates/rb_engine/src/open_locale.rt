@@ -96,8 +96,8 @@ fn read_stops(
         × (trail (bundles_lent own.entry) (parent_of parents.now) name.now ≡ names ns)
         × HasStops opened (files_in own.entry) ns) }
     ensures version { IfOk result (λ opened. opened.version ≡ version) }
-    ensures fault { IfErr result (λ e. trail (bundles_lent own.entry) (parent_of parents.now) name.now
-        ≡ trail_of (Err e)) }
+    ensures fault { IfErr result (λ e. trail (bundles_lent own.entry) (parent_of parents.now)
+        name.now ≡ trail_of (Err e)) }
 {
     let mut opened = OpenLocale {
         version,

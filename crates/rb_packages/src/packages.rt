@@ -1,6 +1,6 @@
 ghost use Rattle.std.specs.Prelude.{◌≡◌, ◌+◌, ◌-◌, ◌^◌, ℕ, [], ◌∷◌, ◌++◌, List, Some, None, IfOk};
-ghost use Rattle.std.specs.Prelude.{IfErr, IfNone, IfSome, OnOk, OnErr, map, length, min, option_map};
-ghost use Rattle.std.specs.Prelude.{slice_get};
+ghost use Rattle.std.specs.Prelude.{IfErr, IfNone, IfSome, OnOk, OnErr, map, length, min};
+ghost use Rattle.std.specs.Prelude.{option_map, slice_get};
 ghost use Rattle.std.specs.Map.{set_value, remove_entry};
 ghost use Rattle.std.specs.Str.{bytes_eq};
 ghost use Rattle.rb_format.specs.File.{source_tree_of};

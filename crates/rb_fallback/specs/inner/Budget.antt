@@ -20,4 +20,5 @@ search_within left k s in_icu n ss = within left (search_steps k s in_icu n ss) 
 
 -- what follows the step of the first level
 abbrev pub after_step : Option ℕ → Setting → Result Step LookError → Result Hit BoundedError
-after_step left s r = within left (go_steps (λ p m ts. search_steps 255 s p m ts) r) (go_on (λ p m ts. search 255 s p m ts) r)
+after_step left s r = within left (go_steps (λ p m ts. search_steps 255 s p m ts) r)
+    (go_on (λ p m ts. search 255 s p m ts) r)
