@@ -16,6 +16,7 @@ mod held;
 mod hostile;
 #[cfg(test)]
 mod locales;
+#[cfg(test)]
 mod open_locales;
 #[cfg(test)]
 mod packages;
