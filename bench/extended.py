@@ -53,20 +53,20 @@ def report(data, program, path):
     with tempfile.TemporaryDirectory() as folder:
         sources = [text for text in icu.texts(icu.package(data, folder), folder) if icu.is_locale(locale_of(text))]
         server = Server([program, "serve", "--extended"], map(put, sources))
-    told = []
+    rows = []
     for locale in (LOCALE, "root"):
         times, size = tree_times(server, locale)
-        told.append({"tree": locale, "bytes": size, "milliseconds": times})
+        rows.append({"tree": locale, "bytes": size, "milliseconds": times})
         print(f"a tree of {locale}, {size:,} bytes: {spread(times)} ms", flush=True)
     speeds, size = export_speeds(server)
-    told.append({"exports": size, "MB/s": speeds})
+    rows.append({"exports": size, "MB/s": speeds})
     print(f"exports of {size:,} bytes of files: {spread(speeds)} MB/s", flush=True)
     server.end()
-    goals = [Goal("milliseconds of a tree of de_AT over CLDR", spread(told[0]["milliseconds"]), GOALS["milliseconds of a tree"]),
+    goals = [Goal("milliseconds of a tree of de_AT over CLDR", spread(rows[0]["milliseconds"]), GOALS["milliseconds of a tree"]),
              Goal("MB/s of exports", spread(speeds), GOALS["MB/s of exports"], True)]
     print("".join(f"{goal}\n" for goal in goals), end="")
     if path:
-        store(path, program, told, goals)
+        store(path, program, rows, goals)
 
 
 def main():
