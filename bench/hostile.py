@@ -344,9 +344,9 @@ CHECKED = [
 OVERLAPPING = [
     ("arrays that overlap, in random order", mixed_arrays, 30),
     ("tables that overlap, in random order", mixed_tables, 30),
-    ("tables of 16-bit offsets that overlap, in random order", overlapping_half_tables, 90),
-    ("arrays that overlap over other arrays", overlapping_over_arrays, 90),
-    ("arrays that overlap over others, to the ends of groups", overlapping_ends, 130),
+    ("tables of 16-bit offsets that overlap, in random order", overlapping_half_tables, 30),
+    ("arrays that overlap over other arrays", overlapping_over_arrays, 30),
+    ("arrays that overlap over others, to the ends of groups", overlapping_ends, 30),
 ]
 
 # ---- texts

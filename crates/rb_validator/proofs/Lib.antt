@@ -7,6 +7,7 @@ pub mod Marked
 pub mod Packing
 pub mod Upwards
 pub mod SpanHeights
+pub mod SpanNests
 pub mod Shapes
 pub mod Ways
 pub mod Orders

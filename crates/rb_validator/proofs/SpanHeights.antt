@@ -16,6 +16,7 @@ use Rattle.rb_format.proofs.Levels.{read-limited, trees-limited}
 use Rattle.rb_validator.specs.inner.Marks.{IsKnown, Leads, run_of, IsRunKnown, IsRun}
 use Rattle.rb_validator.specs.inner.CachedSpans.{CachedSpans, AreRuns, IsSpanAt, SaysNothing}
 use Rattle.rb_validator.specs.inner.Leaves.{AreLeaves}
+use Rattle.rb_validator.specs.inner.Nested.{AreNested, IsBetween}
 use Rattle.rb_validator.proofs.Cells.{known_set}
 use Rattle.rb_validator.proofs.Ways.{leads_map}
 use Rattle.rb_validator.proofs.Entering.{above, items_none}
@@ -110,7 +111,7 @@ run_stop y body e from m n d l f =
     let s : m + (n - m) ≡ n = omega arith in
     subst (λ (x : ℕ). run_of y body e from x ≡ Err d) s (split_err (λ w. read y body e w) (word_at body) from m (n - m) d f)
 
-run_rest : (y : Layout) (body : List ℕ) (e from m n mid : ℕ) (ts : Resources) → m ≤ n → mid ≡ from + m → run_of y body e from m ≡ Ok ts
+pub run_rest : (y : Layout) (body : List ℕ) (e from m n mid : ℕ) (ts : Resources) → m ≤ n → mid ≡ from + m → run_of y body e from m ≡ Ok ts
     → result_map trees_height (run_of y body e from n) ≡ above (trees_height ts) (run_of y body e mid (n - m))
 run_rest y body e from m n mid ts l q f =
     let s : m + (n - m) ≡ n = omega arith in
@@ -157,7 +158,7 @@ again : (y : Layout) (body : List ℕ) (d e from n : ℕ) (ts : Resources) → r
     → run_of y body e from n ≡ limited e (trees_height ts) ts
 again y body d e from n ts f = trees-limited e (λ w. read y body d w) (λ w. read y body e w) (λ w s q. read-limited y body d e w s q) (word_at body) from n ts f
 
-run_again : (y : Layout) (body cells : List ℕ) (left from n h : ℕ) → IsRun y body cells from n h
+pub run_again : (y : Layout) (body cells : List ℕ) (left from n h : ℕ) → IsRun y body cells from n h
     → result_map trees_height (run_of y body left from n) ≡ limited left h h
 run_again y body cells left from n h r =
     ap (result_map trees_height) (again y body r.level left from n r.items r.is) ∙ choice_height (leb (trees_height r.items) left) r.items
@@ -224,6 +225,8 @@ runs_set y body cells p v runs f l h = record {
   kept = λ slot from n z s. run_map y body cells (set cells p v) from n (slice_index runs.heights slot) (λ w k. known_set cells p v w f l k)
       (h.kept slot from n z s);
   leaves = h.leaves;
+  nested = λ slot from n z a i j. run_map y body cells (set cells p v) from n (slice_index runs.nested slot) (λ w k. known_set cells p v w f l k)
+      (h.nested slot from n z a i j);
 }
 
 -- no run is known
@@ -231,15 +234,23 @@ kept_none : (y : Layout) (body cells : List ℕ) (runs : CachedSpans) → SaysNo
     → IsSpanAt runs slot from n → IsRun y body cells from n (slice_index runs.heights slot)
 kept_none y body cells runs h slot from n f s = absurd (f (h slot))
 
-pub runs_none : (y : Layout) (body cells : List ℕ) (runs : CachedSpans) → SaysNothing runs.heights → runs.leaves ≡ [] → AreRuns y body cells runs
-runs_none y body cells runs h e = record {
+nested_none : (y : Layout) (body cells lows highs heights : List ℕ) → SaysNothing heights → AreNested y body cells lows highs heights
+nested_none y body cells lows highs heights h slot from n f a i j = absurd (f (h slot))
+
+pub runs_none : (y : Layout) (body cells : List ℕ) (runs : CachedSpans) → SaysNothing runs.heights → runs.leaves ≡ [] → SaysNothing runs.nested
+    → AreRuns y body cells runs
+runs_none y body cells runs h e g = record {
   kept = kept_none y body cells runs h;
   leaves = subst (AreLeaves y body) (sym e) (λ u w a b. absurd (omega arith));
+  nested = nested_none y body cells runs.lows runs.highs runs.nested g;
 }
 
 pub kept_run : (y : Layout) (body cells : List ℕ) (runs : CachedSpans) (slot from n h : ℕ) → AreRuns y body cells runs → h ≢ 0
-    → h ≡ slice_index runs.heights slot → IsSpanAt runs slot from n → IsRun y body cells from n h
-kept_run y body cells runs slot from n h k f e s = subst (IsRun y body cells from n) (sym e) (k.kept slot from n (λ z. f (e ∙ z)) s)
+    → ((h ≡ slice_index runs.heights slot) × IsSpanAt runs slot from n) ⊎ IsBetween runs.lows runs.highs runs.nested from n h → IsRun y body cells from n h
+kept_run y body cells runs slot from n h k f e = elim e [
+  | inl q ↦ subst (IsRun y body cells from n) (sym q.0) (k.kept slot from n (λ z. f (q.0 ∙ z)) q.1)
+  | inr b ↦ subst (IsRun y body cells from n) (sym b.is) (k.nested b.slot from n (λ z. f (b.is ∙ z)) b.at b.low b.high)
+]
 
 -- the parts make the run
 pub made_run : (y : Layout) (body cells : List ℕ) (left from n h : ℕ) → Ok h ≡ result_map trees_height (run_of y body left from n)
@@ -264,19 +275,35 @@ put_run y body cells runs slot from n h k r s l at first count f z = elim (cases
 ]
 
 pub runs_kept : (y : Layout) (body cells : List ℕ) (runs after : CachedSpans) (slot from n h : ℕ) → AreRuns y body cells runs → IsRun y body cells from n h
-    → (after ≡ runs) ⊎ (IsSpanAt runs slot from n × (slot < length runs.heights) × (after ≡ record runs { heights = set runs.heights slot h }))
+    → (AreNested y body cells runs.lows runs.highs runs.nested → IsRun y body cells from n h → AreNested y body cells after.lows after.highs after.nested)
+    → after ≡ record runs { heights = after.heights; lows = after.lows; highs = after.highs; nested = after.nested }
+    → (after.heights ≡ runs.heights) ⊎ (IsSpanAt runs slot from n × (slot < length runs.heights) × (after.heights ≡ set runs.heights slot h))
     → AreRuns y body cells after
-runs_kept y body cells runs after slot from n h k r e = elim e [
-  | inl q ↦ rw q k
-  | inr q ↦ rw q.2 (record {
-    kept = λ at first count f z. put_run y body cells runs slot from n h k r q.0 q.1 at first count f (record { start = z.start; long = z.long });
-    leaves = k.leaves;
-  })
-]
+runs_kept y body cells runs after slot from n h k r g o e = rw o (record {
+  kept = by e;
+  leaves = k.leaves;
+  nested = g k.nested r;
+})
+  where
+    by : (after.heights ≡ runs.heights) ⊎ (IsSpanAt runs slot from n × (slot < length runs.heights) × (after.heights ≡ set runs.heights slot h))
+        → (at first count : ℕ) → slice_index after.heights at ≢ 0
+        → IsSpanAt (record runs { heights = after.heights; lows = after.lows; highs = after.highs; nested = after.nested }) at first count
+        → IsRun y body cells first count (slice_index after.heights at)
+    by e at first count f z =
+        let there : IsSpanAt runs at first count = record { start = z.start; long = z.long } in
+        elim e [
+          | inl q ↦ rw q (k.kept at first count (λ x. f (ap (λ (l : List ℕ). slice_index l at) q ∙ x)) there)
+          | inr q ↦ let same = q.2 in rw same (put_run y body cells runs slot from n h k r q.0 q.1 at first count
+              (λ x. f (ap (λ (l : List ℕ). slice_index l at) same ∙ x)) there)
+        ]
 
 pub runs_ready : (y : Layout) (body cells : List ℕ) (runs after : CachedSpans) → AreRuns y body cells runs
-    → (after ≡ runs) ⊎ (SaysNothing after.heights × AreLeaves y body after.leaves) → AreRuns y body cells after
+    → (after ≡ runs) ⊎ (SaysNothing after.heights × SaysNothing after.nested × AreLeaves y body after.leaves) → AreRuns y body cells after
 runs_ready y body cells runs after h e = elim e [
   | inl q ↦ rw q h
-  | inr q ↦ record { kept = kept_none y body cells after q.0; leaves = q.1 }
+  | inr q ↦ record {
+    kept = kept_none y body cells after q.0;
+    leaves = q.2;
+    nested = nested_none y body cells after.lows after.highs after.nested q.1;
+  }
 ]

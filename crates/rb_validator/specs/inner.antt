@@ -5,6 +5,7 @@ pub mod CachedSpans
 pub mod Leaves
 pub mod Lengths
 pub mod Marks
+pub mod Nested
 pub mod Noted
 pub mod Packed
 pub mod Ranks

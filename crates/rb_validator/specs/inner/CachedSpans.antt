@@ -3,13 +3,17 @@ use Rattle.std.specs.Prelude.{◌≡◌, ◌≢◌, ℕ, ◌+◌, ◌-◌, ◌*�
 use Rattle.rb_format.specs.declared.layout.Layout.{Layout}
 use Rattle.rb_validator.specs.inner.Leaves.{AreLeaves}
 use Rattle.rb_validator.specs.inner.Marks.{IsRun}
+use Rattle.rb_validator.specs.inner.Nested.{AreNested}
 
--- the heights of stored spans by their slots, and for each unit how many units from it on consist of leaves
+-- the heights of stored spans by their slots, for each unit how many units from it on consist of leaves, and spans with a common end
 pub record CachedSpans : Type 0 where
   pub heights : List ℕ
   pub pages : ℕ
   pub blocks : List ℕ
   pub leaves : List ℕ
+  pub lows : List ℕ
+  pub highs : List ℕ
+  pub nested : List ℕ
 
 -- the word of a slot, at which its span begins or ends, and the number of its block's length
 abbrev pub word_of : ℕ → ℕ → ℕ → ℕ
@@ -43,6 +47,7 @@ pub record AreRuns (y : Layout) (body cells : List ℕ) (runs : CachedSpans) : T
   pub kept : (slot first count : ℕ) → slice_index runs.heights slot ≢ 0 → IsSpanAt runs slot first count
       → IsRun y body cells first count (slice_index runs.heights slot)
   pub leaves : AreLeaves y body runs.leaves
+  pub nested : AreNested y body cells runs.lows runs.highs runs.nested
 
 -- nothing was entered, and nothing is known
 pub record IsFresh (y : Layout) (cells : List ℕ) (runs : CachedSpans) : Type 0 where
@@ -50,3 +55,4 @@ pub record IsFresh (y : Layout) (cells : List ℕ) (runs : CachedSpans) : Type 0
   pub fresh : (n : ℕ) → slice_index cells n ≡ 0
   pub kept : SaysNothing runs.heights
   pub leaves : runs.leaves ≡ []
+  pub nested : SaysNothing runs.nested

@@ -5,6 +5,7 @@
 //! contains it. Heights are stored for spans from a block's start to a step, and from a step to a
 //! block's end, so that each is computed once. In a block of at most a page steps are four words
 //! apart, and in others a page apart, so that the heights of a page's spans are in one cache line.
+//! Before a span's own height, that of the spans around it is looked up (`nests`).
 ghost use Rattle.std.specs.Prelude.{◌≡◌, ◌≢◌, ◌⊎◌, true, ◌+◌, ◌*◌, ◌≤◌, ◌<◌, ◌^◌, List};
 ghost use Rattle.std.specs.Prelude.{slice_index, slice_set, IfOk, IfSome, ℕ, [], length};
 ghost use Rattle.rb_format.specs.Place as fields;
@@ -12,10 +13,13 @@ ghost use Rattle.rb_format.specs.declared.layout.Layout.{Layout as Bounds};
 ghost use Rattle.rb_validator.specs.inner.CachedSpans.{SaysNothing, IsSpanAt, start_of, count_of};
 ghost use Rattle.rb_validator.specs.inner.CachedSpans.{word_of, level_of};
 ghost use Rattle.rb_validator.specs.inner.Leaves.{AreLeaves, IsLeaf};
+ghost use Rattle.rb_validator.specs.inner.Marks.{IsRun};
+ghost use Rattle.rb_validator.specs.inner.Nested.{AreNested, IsBetween};
 
 use crate::body::Body;
 use crate::lists::{byte_at, number_at, number_of};
 use crate::spans::leaves::{count_leaves, is_leaf_run, leaf_middle};
+use crate::spans::nests::{Nests, PAGE};
 use std::alloc::{AllocError, Global};
 use std::marker::Model;
 
@@ -23,8 +27,6 @@ const STEP: usize = 4;
 
 /// The binary logarithm of `STEP`.
 const STEP_LEVEL: usize = 2;
-
-const PAGE: usize = 64;
 
 /// The binary logarithm of `PAGE`.
 const PAGE_LEVEL: usize = 6;
@@ -57,6 +59,7 @@ pub struct SpanCache {
     /// The lengths of blocks in words, each twice the one before it.
     blocks: Vec<u32>,
     leaves: Vec<u32>,
+    nests: Nests,
     top: usize,
     /// The number of items that may still be checked one by one.
     budget: usize,
@@ -76,6 +79,9 @@ impl Model for SpanCache {
       pages = r.pages;
       blocks = r.blocks.items;
       leaves = r.leaves.items;
+      lows = r.nests.lows.items;
+      highs = r.nests.highs.items;
+      nested = r.nests.heights.items;
     } };
 }
 
@@ -83,6 +89,7 @@ impl SpanCache {
     pub fn new(alloc: Global, top: u32) -> SpanCache
         ensures kept { SaysNothing result.heights }
         ensures leaves { result.leaves ≡ [] }
+        ensures nested { SaysNothing result.nested }
     {
         SpanCache {
             alloc,
@@ -90,6 +97,7 @@ impl SpanCache {
             pages: 0,
             blocks: Vec::new(alloc),
             leaves: Vec::new(alloc),
+            nests: Nests::empty(alloc),
             top: top as usize,
             budget: top as usize,
         }
@@ -150,6 +158,7 @@ impl SpanCache {
         requires { 4 * body.layout.now.top ≤ length body.bytes.now }
         ensures long { IfOk result (λ plain. (plain ≡ true) ⊎ (1 < count)) }
         ensures runs { (self.new ≡ self.old) ⊎ (SaysNothing self.new.heights
+            × SaysNothing self.new.nested
             × AreLeaves body.entry.layout.now body.entry.bytes.now self.new.leaves) }
     {
         if count <= self.budget {
@@ -168,16 +177,19 @@ impl SpanCache {
     fn start(&mut self, body: Body<'_>) -> Result<(), AllocError>
         requires { 4 * body.layout.now.top ≤ length body.bytes.now }
         ensures { (self.new ≡ self.old) ⊎ (SaysNothing self.new.heights
+            × SaysNothing self.new.nested
             × AreLeaves body.entry.layout.now body.entry.bytes.now self.new.leaves) }
     {
         let pages = self.top / PAGE + 1;
         let blocks = block_lengths(self.alloc, self.top)?;
         let leaves = count_leaves(self.alloc, body)?;
         let heights = no_heights(self.alloc, pages.saturating_mul(PAGE + blocks.len()))?;
+        let nests = Nests::new(self.alloc, pages)?;
         self.pages = pages;
         self.blocks = blocks;
         self.leaves = leaves;
         self.heights = heights;
+        self.nests = nests;
         Ok(())
     }
 
@@ -207,9 +219,14 @@ impl SpanCache {
     }
 
     pub fn height(&self, parts: Split, first: usize, count: usize) -> Option<u8>
-        ensures { IfSome result (λ h. (h ≢ 0) × (h ≡ slice_index self.now.heights parts.slot)
-            × IsSpanAt self.now parts.slot first count) }
+        ensures { IfSome result (λ h. (h ≢ 0)
+            × (((h ≡ slice_index self.now.heights parts.slot)
+            × IsSpanAt self.now parts.slot first count)
+            ⊎ IsBetween self.now.lows self.now.highs self.now.nested first count h)) }
     {
+        if let Some(height) = self.nests.height(first, count) {
+            return Some(height);
+        }
         let height = byte_at(&self.heights, parts.slot);
         if height == 0 || !parts.is_kept || !self.is_span_at(parts.slot, first, count) {
             return None;
@@ -219,11 +236,22 @@ impl SpanCache {
 
     /// Stores the greatest height of a span's items if the span is one that is stored.
     pub fn keep(&mut self, parts: Split, first: usize, count: usize, height: u8)
-        ensures { (self.new ≡ self.old) ⊎ (IsSpanAt self.old parts.slot first count
+        ensures nested { (y : Bounds) (body cells : List ℕ)
+            → AreNested y body cells self.old.lows self.old.highs self.old.nested
+            → IsRun y body cells first count height
+            → AreNested y body cells self.new.lows self.new.highs self.new.nested }
+        ensures others { self.new ≡ record self.old {
+          heights = self.new.heights;
+          lows = self.new.lows;
+          highs = self.new.highs;
+          nested = self.new.nested;
+        } }
+        ensures kept { (self.new.heights ≡ self.old.heights)
+            ⊎ (IsSpanAt self.old parts.slot first count
             × (parts.slot < length self.old.heights)
-            × (self.new
-            ≡ record self.old { heights = slice_set self.old.heights parts.slot height })) }
+            × (self.new.heights ≡ slice_set self.old.heights parts.slot height)) }
     {
+        self.nests.keep(first, count, height);
         if parts.is_kept
             && self.is_span_at(parts.slot, first, count)
             && let Some(place) = self.heights.get_mut(parts.slot)

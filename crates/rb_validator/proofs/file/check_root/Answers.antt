@@ -10,6 +10,7 @@ use Rattle.rb_validator.proofs.file.check_root.Goals as goal
 pub check_item-requires-clause-holds : goal.check_item-requires-clause-holds
 check_item-requires-clause-holds c =
     runs_none c.args.body.layout.now c.args.body.bytes.now c.args.state.now.memo c.args.state.now.runs c.requires.fresh.kept c.requires.fresh.leaves
+    c.requires.fresh.nested
 
 pub check_item-requires-clause-met : goal.check_item-requires-clause-met
 check_item-requires-clause-met c = record { before = []; way = c.requires.root }

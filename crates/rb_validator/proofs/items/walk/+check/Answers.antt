@@ -206,23 +206,20 @@ check_items-returns-then-height-left-clause-value t c =
     let y = c.args.body.layout.now in let body = c.args.body.bytes.now in let from = c.args.items.first in let n = c.args.items.count in
     let ready = runs_ready y body c.args.state.now.memo c.args.state.now.runs c.is_plain.new.self c.requires.holds c.is_plain.ensures.runs in
     inr (run_fits y body c.args.state.now.memo c.args.left from n c.in-Some.height
-    (kept_run y body c.args.state.now.memo c.is_plain.new.self c.split-parts.result.slot from n c.in-Some.height ready c.in-Some.ensures.0 c.in-Some.ensures.1
-    c.in-Some.ensures.2) (omega arith))
+    (kept_run y body c.args.state.now.memo c.is_plain.new.self c.split-parts.result.slot from n c.in-Some.height ready c.in-Some.ensures.0 c.in-Some.ensures.1) (omega arith))
 
 pub check_items-returns-then-height-left-clause-known : goal.check_items-returns-then-height-left-clause-known
 check_items-returns-then-height-left-clause-known t c =
     let y = c.args.body.layout.now in let body = c.args.body.bytes.now in let from = c.args.items.first in let n = c.args.items.count in
     let ready = runs_ready y body c.args.state.now.memo c.args.state.now.runs c.is_plain.new.self c.requires.holds c.is_plain.ensures.runs in
-    (kept_run y body c.args.state.now.memo c.is_plain.new.self c.split-parts.result.slot from n c.in-Some.height ready c.in-Some.ensures.0 c.in-Some.ensures.1
-    c.in-Some.ensures.2).known
+    (kept_run y body c.args.state.now.memo c.is_plain.new.self c.split-parts.result.slot from n c.in-Some.height ready c.in-Some.ensures.0 c.in-Some.ensures.1).known
 
 pub check_items-returns-in-Some-clause-value : goal.check_items-returns-in-Some-clause-value
 check_items-returns-in-Some-clause-value t c =
     let y = c.args.body.layout.now in let body = c.args.body.bytes.now in let from = c.args.items.first in let n = c.args.items.count in
     let ready = runs_ready y body c.args.state.now.memo c.args.state.now.runs c.is_plain.new.self c.requires.holds c.is_plain.ensures.runs in
     inr (run_passed y body c.args.state.now.memo c.args.left from n c.in-Some.height
-    (kept_run y body c.args.state.now.memo c.is_plain.new.self c.split-parts.result.slot from n c.in-Some.height ready c.in-Some.ensures.0 c.in-Some.ensures.1
-    c.in-Some.ensures.2) (omega arith))
+    (kept_run y body c.args.state.now.memo c.is_plain.new.self c.split-parts.result.slot from n c.in-Some.height ready c.in-Some.ensures.0 c.in-Some.ensures.1) (omega arith))
 
 pub check_items-check_items-requires : goal.check_items-check_items-requires
 check_items-check_items-requires t c =
@@ -340,7 +337,8 @@ check_items-returns-clause-holds t c =
     let y = c.args.body.layout.now in let body = c.args.body.bytes.now in let from = c.args.items.first in let n = c.args.items.count in
     let cells = c.check_items-2.new.state.memo in
     let run = made_run y body cells c.args.left from n c.max-height-2.result (told _ _ (check_items-returns-clause-value t c)) (check_items-returns-clause-known t c) in
-    runs_kept y body cells c.check_items-2.new.state.runs c.keep.new.self _ from n c.max-height-2.result c.in_ok-high.ensures.holds run c.keep.ensures
+    runs_kept y body cells c.check_items-2.new.state.runs c.keep.new.self _ from n c.max-height-2.result c.in_ok-high.ensures.holds run
+    (c.keep.ensures.nested y body cells) c.keep.ensures.others c.keep.ensures.kept
 
 -- ---- an entry
 
