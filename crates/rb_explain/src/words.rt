@@ -798,7 +798,7 @@ pub(crate) const OF_LOOKUP: [Explanation; 13] = [
         word: "TooDeep",
         of: Of::Lookup,
         meaning: "an item of a tree is more than 63 segments below the one that is printed",
-        cause: "an alias that leads to a table around itself",
+        cause: "an alias that leads to a table around itself, or to one so deep that there are more than 63 segments",
         remedy: "look at the path with resb look, or let the alias lead elsewhere",
     },
     Explanation {

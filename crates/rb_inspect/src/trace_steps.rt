@@ -8,8 +8,8 @@ ghost use Rattle.rb_parents.specs.Trail.{bundle_next, text_at};
 ghost use Rattle.rb_inspect.specs.inner.Causes.{IsNextBy, cause, cause_words, plain_cause};
 ghost use Rattle.rb_inspect.specs.inner.Reached.{IsHas, IsReach, IsReached, leads};
 
+use rb_explain::kind_word;
 use rb_fallback::{Visit, rest_behind};
-use rb_lint::kind_word;
 use rb_locales::Name;
 use rb_parents::{Next, Parents};
 use rb_tree::{Ending, Kind, Node, path_ok, walk};

@@ -1,5 +1,6 @@
 use crate::rule::Rule;
 use crate::uses::ValueKind;
+use rb_explain::kind_word;
 use rb_tree::Kind;
 use std::fmt;
 
@@ -48,19 +49,6 @@ impl Change {
 
 fn shown(bytes: &[u8]) -> &str {
     str::from_utf8(bytes).unwrap_or("?")
-}
-
-/// Names a kind of items as warnings and traces do.
-pub fn kind_word(kind: Kind) -> &'static str {
-    match kind {
-        Kind::String => "a string",
-        Kind::Int => "an int",
-        Kind::Ints => "an intvector",
-        Kind::Binary => "a bin",
-        Kind::Alias => "an alias",
-        Kind::Array => "an array",
-        Kind::Table => "a table",
-    }
 }
 
 fn value_word(kind: ValueKind) -> &'static str {

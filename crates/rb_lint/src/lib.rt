@@ -30,7 +30,7 @@ mod uses;
 mod values;
 mod warning;
 
-pub use difference::{Change, Difference, kind_word};
+pub use difference::{Change, Difference};
 pub use fault::{About, FaultText};
 pub use finding::{Finding, Message, Severity};
 pub use pattern::PatternDoubt;

@@ -13,10 +13,10 @@ use rb_convert::{
 };
 use rb_fmt::{FormatMode, format_all};
 use rb_inspect::{
-    CoverageWords, Inheritance, LintWords, Lookup, check_all, check_on, cover_all, explain_on,
-    get_on, get_raw, lint_all, list_rules, look_up, print_tree,
+    Inheritance, Lookup, check_all, check_on, explain_on, get_on, get_raw, look_up, print_tree,
 };
 use rb_requests::Limits;
+use rb_review::{CoverageWords, LintWords, cover_all, lint_all, list_rules};
 use std::process::ExitCode;
 use std::random::RandomSource;
 use std::rt::{Clock, Files};

@@ -73,6 +73,9 @@ fn serve_lines<R: Input + Print + Eprint + AllocGlobal>(
     ExitCode::from(1)
 }
 
+/// The number of locales that a server keeps open, in 0.9 MB.
+const KEPT_LOCALES: usize = 2_048;
+
 /// What `resb serve` serves.
 #[derive(Drop)]
 pub struct Serving<'a> {
@@ -94,7 +97,9 @@ fn start_server<'a, R: Files + RandomSource + AllocGlobal>(
     ensures parents { IfOk result
         (λ server. HasParentsFor serving.now.parents (state_of server.engine).start.parents) }
 {
-    let engine = start_engine(rt, serving.parents, &serving.bundles)?;
+    let mut engine = start_engine(rt, serving.parents, &serving.bundles)?;
+    // Without memory for them lookups are slower, and the same.
+    let _ = engine.keep_locales(rt.alloc(), KEPT_LOCALES);
     Ok(Server {
         engine,
         limits: serving.limits,

@@ -1,0 +1,13 @@
+//! The commands of `resb` that judge bundle texts, over any runtime: `lint` and `coverage`.
+#![tactic(auto)]
+
+mod coverage;
+mod coverage_output;
+mod escaped;
+mod lint_output;
+mod lint_words;
+mod linting;
+
+pub use coverage::{CoverageWords, cover_all};
+pub use lint_words::LintWords;
+pub use linting::{lint_all, list_rules};
