@@ -1,14 +1,14 @@
 -- Lookups from stops that were read before.
-use Rattle.std.proofs.Common.{◌≡◌, ◌≤◌, ℕ, List, length, true, false, Option, Some, None, unwrap_or, Result, Ok, Err, IsErrAnd, refl, ap, sym, ◌∙◌, subst, arith}
+use Rattle.std.proofs.Common.{◌≡◌, ◌≤◌, ℕ, List, length, true, false, Option, Some, None, unwrap_or, Result, Ok, Err, IfOk, IsErrAnd, refl, ap, sym, ◌∙◌, subst, arith}
 use Rattle.rb_tree.specs.Resource.{Resource}
 use Rattle.rb_tree.specs.Path.{IsPath, segments}
 use Rattle.rb_parents.specs.Trail.{Bundles, ParentsOf, Trail, names, stops, trail}
 use Rattle.rb_fallback.specs.Answers.{answer_of}
-use Rattle.rb_fallback.specs.Search.{Hit, by_stops, by_trail, first_in, first_of, first_stop, is_long, level, look_up, setting, setting_of, step}
+use Rattle.rb_fallback.specs.Search.{Decided, Hit, by_stops, by_trail, first_in, first_of, first_stop, is_long, level, look_up, setting, setting_of, step}
 use Rattle.rb_fallback.specs.Steps.{searched, trail_length}
 use Rattle.rb_fallback.specs.Stops.{AreStopsOf, stop_among}
 use Rattle.rb_fallback.specs.inner.Budget.{after_step}
-use Rattle.rb_fallback.specs.inner.LevelResult.{IsLevel}
+use Rattle.rb_fallback.specs.inner.LevelResult.{IsLevel, IsSomeResult}
 use Rattle.rb_fallback.specs.declared.fault.BoundedError.TheVariants as bounded
 use Rattle.rb_fallback.specs.declared.fault.LookError.{LookError}
 use Rattle.rb_fallback.specs.declared.fault.LookError.TheVariants as fault
@@ -30,6 +30,12 @@ level_given tree x path stop b ps n a f =
     subst (λ (t : Trail). IsLevel tree x path (by_trail b t (segments path)) (first_in b t)) (sym a.trail)
     (f b a.ns (few_names a.ns b ps n a.trail) a.stops)
 
+-- a level that decides has some result
+pub level_some : {N : Type 0} (tree : N → Resource) (x : Result (LevelResult N) LookError) (path : List ℕ) (r : Result Decided LookError)
+    (head : Option (List ℕ)) → IsLevel tree x path r head → IfOk x (λ d. IsSomeResult tree d path)
+level_some tree (Ok d) path r head h = (r, head, h)
+level_some tree (Err e) path r head h = tt
+
 -- ---- without a limit on steps
 pub searched_ok : (a : Result Hit LookError) (hit : Hit) → Ok hit ≡ searched a → Ok hit ≡ a
 searched_ok (Ok h) hit e = let same : hit ≡ h = cc in ap Ok same
@@ -38,6 +44,10 @@ searched_ok (Err g) hit e = cc
 pub searched_err : (a : Result Hit LookError) (f : LookError) → Err (bounded.Search f) ≡ searched a → Err f ≡ a
 searched_err (Ok h) f e = cc
 searched_err (Err g) f e = let same : f ≡ g = cc in ap Err same
+
+pub searched_is : (a b : Result Hit LookError) → searched a ≡ searched b → a ≡ b
+searched_is (Ok h) b e = searched_ok b h e
+searched_is (Err f) b e = searched_err b f e
 
 pub answer_is_err : {N : Type 0} (tree : N → Resource) (x : Result (Found N) LookError) (f : LookError) → IsErrAnd x (λ e. e ≡ f) → answer_of tree x ≡ Err f
 answer_is_err tree (Ok y) f h = absurd h

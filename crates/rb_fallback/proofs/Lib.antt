@@ -12,3 +12,5 @@ pub mod GivenStops
 mod Budgets
 pub mod FewSteps
 pub mod Stretches
+pub mod SameStops
+pub mod PathScans

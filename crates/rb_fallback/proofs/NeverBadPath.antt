@@ -1,5 +1,5 @@
 -- A search never answers that its path has no form of one.
-use Rattle.std.proofs.Common.{◌≡◌, ℕ, zero, suc, List, [], ◌∷◌, Bool, true, false, cond, nat_lt, Option, Some, None, Result, Ok, Err, ap, sym, ◌∙◌}
+use Rattle.std.proofs.Common.{◌≡◌, ℕ, zero, suc, List, [], ◌∷◌, Bool, true, false, cond, nat_lt, Option, Some, None, Result, Ok, Err, ap, sym, ◌∙◌, subst}
 use Rattle.std.specs.Option.{ok_or}
 use Rattle.rb_tree.specs.Resource.{Resource}
 use Rattle.rb_tree.specs.Walk.{Walked, ends, links, gone}
@@ -10,6 +10,9 @@ use Rattle.rb_fallback.specs.Search.{Decided, decide, by_stops, by_trail, level,
 use Rattle.rb_fallback.specs.Search.{Hit, Setting, bundles_of, go_on, is_long, search}
 use Rattle.rb_fallback.specs.Steps.{go_steps, search_steps, searched}
 use Rattle.rb_fallback.specs.inner.Budget.{after_step, search_within, within}
+use Rattle.rb_fallback.specs.inner.Steps.{IsOutcome}
+use Rattle.rb_fallback.specs.declared.search.Outcome.{Outcome}
+use Rattle.rb_fallback.specs.declared.search.SearchState.{SearchState}
 use Rattle.rb_fallback.specs.declared.fault.BoundedError.{BoundedError}
 use Rattle.rb_fallback.specs.declared.fault.BoundedError.TheVariants as bounded
 use Rattle.rb_fallback.specs.declared.found.Found.{Found}
@@ -101,3 +104,9 @@ pub searched_always : {N : Type 0} (tree : N → Resource) (x : Result (Found N)
     → bounded_answer_of tree x ≡ searched a → x ≡ Err bounded.TooManySteps → ⊥
 searched_always tree x (Ok hit) e f = let never : Err bounded.TooManySteps ≡ searched (Ok hit) = sym (ap (bounded_answer_of tree) f) ∙ e in cc
 searched_always tree x (Err g) e f = let never : Err bounded.TooManySteps ≡ searched (Err g) = sym (ap (bounded_answer_of tree) f) ∙ e in cc
+
+-- nor does what ends a level
+pub outcome_never : {N : Type 0} (tree : N → Resource) (x : Result (Outcome N) LookError) (p : SearchState) (in_icu : Bool) (valid : List ℕ)
+    (d : Decided) → IsOutcome tree x p (step in_icu valid (Ok d)) → x ≡ Err fault.BadPath → ⊥
+outcome_never tree x p in_icu valid d h e =
+    walked_never in_icu valid d.stop d.walked (subst (λ y. IsOutcome tree y p (step in_icu valid (Ok d))) e h)

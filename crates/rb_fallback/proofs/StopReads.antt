@@ -1,5 +1,5 @@
 -- The stops of a trail, read one by one.
-use Rattle.std.proofs.Common.{◌≡◌, ◌+◌, ◌<◌, ◌≤◌, ℕ, zero, suc, List, [], ◌∷◌, length, drop, Bool, true, false, cond, Option, Some, None, Err, refl, ap, sym, ◌∙◌, arith, option_map, drop-cons}
+use Rattle.std.proofs.Common.{◌≡◌, ◌+◌, ◌≤◌, ℕ, zero, suc, List, [], ◌∷◌, length, drop, Bool, true, false, cond, Option, Some, None, Err, refl, ap, sym, ◌∙◌, arith, option_map, drop-cons}
 use Rattle.std.specs.Option.{ok_or, option_and_then}
 use Rattle.std.specs.List.{filter, slice_get}
 use Rattle.std.proofs.lemmas.Option.{get_or_from_slice_get, slice_get_within}

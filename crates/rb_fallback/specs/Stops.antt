@@ -3,7 +3,7 @@
 use Rattle.std.specs.Prelude.{◌≡◌, ℕ, List, Option, option_and_then, option_map}
 use Rattle.std.specs.List.{slice_get}
 use Rattle.rb_tree.specs.Resource.{Resource}
-use Rattle.rb_parents.specs.Trail.{Bundles, ParentsOf, Trail, names, stop_tree, stops, trail}
+use Rattle.rb_parents.specs.Trail.{Bundles, ParentsOf, names, stop_tree, stops, trail}
 
 -- a stop with the tree of its bundle
 abbrev pub with_tree : Bundles → List ℕ → Option (List ℕ × Resource)

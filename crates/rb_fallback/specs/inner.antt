@@ -3,3 +3,4 @@ pub mod Steps
 pub mod Budget
 pub mod Stretches
 pub mod Visits
+pub mod PathScan

@@ -4,6 +4,7 @@
 mod alias;
 mod fault;
 mod found;
+mod from_stops;
 pub mod laws;
 mod level;
 mod limits;

@@ -24,15 +24,17 @@ ghost use Rattle.rb_fallback.specs.declared.fault.LookError.TheVariants as Fault
 use crate::alias::read_alias;
 use crate::fault::{AliasFault, BoundedError, LookError};
 use crate::found::Found;
+use crate::from_stops::search_after_given;
 use crate::level::{LevelResult, level};
 use crate::limits::{LEVEL_LIMIT, PATH_LIMIT};
+use crate::path::is_path;
 use crate::path_buffer::PathBuffer;
 use crate::steps::left_after;
 use crate::stops::{Stops, level_from};
 use crate::watch::Watch;
 use rb_locales::Name;
 use rb_parents::{Parents, Shelf};
-use rb_tree::{Ending, Node, path_ok};
+use rb_tree::{Ending, Node};
 
 /// Stores where a search continues: a package, a name and a path.
 #[derive(Drop)]
@@ -86,7 +88,7 @@ pub(crate) enum Outcome<N> {
 }
 
 /// Ends a level with what its stops give, and moves the state to where an alias leads.
-fn end_level<N: Node, W: Watch>(
+pub(crate) fn end_level<N: Node, W: Watch>(
     decided: LevelResult<N>,
     valid: &Name,
     state: &mut SearchState,
@@ -118,7 +120,7 @@ fn end_level<N: Node, W: Watch>(
 }
 
 /// Searches the trail of a state, in the bundles of its package.
-fn level_at<'a, S: Shelf<'a>, I: Shelf<'a, N = S::N>, W: Watch>(
+pub(crate) fn level_at<'a, S: Shelf<'a>, I: Shelf<'a, N = S::N>, W: Watch>(
     own: S,
     icu: I,
     parents: &Parents,
@@ -145,7 +147,7 @@ fn level_at<'a, S: Shelf<'a>, I: Shelf<'a, N = S::N>, W: Watch>(
 }
 
 /// Returns the error of a search whose next path is too long.
-fn next_fault(level: u16) -> LookError
+pub(crate) fn next_fault(level: u16) -> LookError
     ensures { result ≡ (if level + 1 == 256 then Faults.TooManyAliases else Faults.PathTooLong) }
 {
     if level as u32 + 1 == LEVEL_LIMIT as u32 {
@@ -251,7 +253,7 @@ fn search_from<'a, S: Shelf<'a>, I: Shelf<'a, N = S::N>, W: Watch>(
     ensures valid { IfOk result
         (λ f. first_stop (S.bundles own) (parent_of parents.now) name.now ≡ Some f.valid) }
 {
-    if !path_ok(path) {
+    if !is_path(path) {
         return Err(BoundedError::Search(LookError::BadPath));
     }
     watch.level(1, false, name, path);
@@ -384,16 +386,12 @@ pub fn look_from<'a, T: Stops<'a>, S: Shelf<'a, N = T::N>, I: Shelf<'a, N = T::N
         → IfOk result (λ f. first_stop (S.bundles own) (parent_of parents.now) name
         ≡ Some f.valid) }
 {
-    if !path_ok(path) {
+    if !is_path(path) {
         return Err(LookError::BadPath);
     }
     if path.len() > PATH_LIMIT {
         return Err(LookError::PathTooLong);
     }
     let decided = level_from(stops, path)?;
-    match search_after(own, icu, parents, decided, path, None, &mut ()) {
-        Ok(found) => Ok(found),
-        Err(BoundedError::Search(fault)) => Err(fault),
-        Err(BoundedError::TooManySteps) => unreachable!(),
-    }
+    search_after_given(stops, own, icu, parents, decided, path)
 }

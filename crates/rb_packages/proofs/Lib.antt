@@ -1,3 +1,4 @@
+pub mod Drafts
 pub mod Filled
 pub mod Lists
 pub mod Names

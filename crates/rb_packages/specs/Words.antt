@@ -4,6 +4,8 @@ use Rattle.rb_packages.specs.declared.app.AppFault.{AppFault}
 use Rattle.rb_packages.specs.declared.app.AppFault.TheVariants as app
 use Rattle.rb_packages.specs.declared.fault.PackFault.{PackFault}
 use Rattle.rb_packages.specs.declared.fault.PackFault.TheVariants as pack
+use Rattle.rb_packages.specs.declared.fault.DraftFault.{DraftFault}
+use Rattle.rb_packages.specs.declared.fault.DraftFault.TheVariants as draft
 
 abbrev pub app_word : AppFault → List ℕ
 app_word app.BadApp = codes "BadApp"
@@ -17,3 +19,8 @@ pack_word pack.Memory = codes "Memory"
 
 abbrev pub absent_word : List ℕ
 absent_word = codes "Absent"
+
+abbrev pub draft_word : DraftFault → List ℕ
+draft_word draft.Absent = codes "Absent"
+draft_word draft.Full = codes "Full"
+draft_word draft.Memory = codes "Memory"

@@ -24,3 +24,13 @@ impl Absent {
         "Absent"
     }
 }
+
+/// The reason why a draft doesn't take a change.
+#[derive(Clone, Copy, Debug, PartialEq, Eq)]
+pub enum DraftFault {
+    /// The application would have no bundle with this name.
+    Absent,
+    /// The application would have more than `BUNDLE_LIMIT` bundles, or the draft that many changes.
+    Full,
+    Memory,
+}

@@ -16,8 +16,8 @@ mod usage;
 mod words;
 
 pub use app::{App, AppFault};
-pub use draft::{Draft, DraftFault};
-pub use fault::{Absent, PackFault};
+pub use draft::Draft;
+pub use fault::{Absent, DraftFault, PackFault};
 pub use lent::LentItem;
 pub use limits::BUNDLE_LIMIT;
 pub use packages::Packages;

@@ -9,7 +9,7 @@ ghost use Rattle.rb_packages.specs.Packages.{icudata_files, icudata_of, files_of
 ghost use Rattle.rb_packages.specs.Packages.{install_fault, load_fault, IsJudged, OthersStay};
 ghost use Rattle.rb_packages.specs.Lent.{files_in, bundles_lent};
 ghost use Rattle.rb_packages.specs.Positions.{files_at_index};
-ghost use Rattle.rb_packages.specs.Release.{edited};
+ghost use Rattle.rb_packages.specs.Release.{edited, sizes_of};
 ghost use Rattle.rb_packages.specs.Usage.{bytes_of, apps_of, more_apps, AreThereOnce};
 
 use crate::app::App;
@@ -209,6 +209,8 @@ impl Packages {
     pub fn draft(&self, alloc: Global, app: &App) -> Result<Draft, AllocError>
         ensures app { IfOk result (λ draft. draft.app ≡ app.now) }
         ensures none { IfOk result (λ draft. draft.edits ≡ []) }
+        ensures sizes { IfOk result
+            (λ draft. draft.sizes ≡ sizes_of (files_of app.now self.now)) }
     {
         Draft::of(alloc, *self.owned.hasher(), app, self.owned.get(app))
     }

@@ -5,7 +5,6 @@ use Rattle.rb_tree.specs.Parts.{child_of}
 use Rattle.rb_format.specs.File.{source_tree_of, tree_of}
 use Rattle.rb_parents.specs.Trail.{alias_key, parent_key}
 use Rattle.rb_views.specs.Root.{IsRootPlace}
-use Rattle.rb_views.specs.declared.place.RootPlace.{RootPlace}
 
 -- a tree has neither `%%ALIAS` nor `%%Parent`
 abbrev pub names_nothing : Resource → Bool

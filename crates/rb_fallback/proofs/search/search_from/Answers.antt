@@ -56,5 +56,5 @@ returns-clause-bad_path g c =
     let s = setting own icu (parent_of c.args.parents.now) c.args.name.now in
     let never = answer_never g.S.N.Node.tree c.search_after.result c.args.left 256 s false c.args.name.now (segments c.args.path.now) in (
       λ e is_path. never (returns-clause-answer g c is_path) e,
-      λ h. absurd (h (c.path_ok.ensures.path.0 c.if-not-path_ok.false)),
+      λ h. absurd (h (c.is_path.ensures.path.0 c.if-not-is_path.false)),
     )

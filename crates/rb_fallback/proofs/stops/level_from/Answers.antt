@@ -1,4 +1,4 @@
-use Rattle.std.proofs.Common.{◌≡◌, ◌+◌, ℕ, List, None, Some, Ok, refl, sym, ap, ◌∙◌, option_map, arith}
+use Rattle.std.proofs.Common.{◌≡◌, ◌+◌, Some, Ok, refl, sym, ap, ◌∙◌, option_map, arith}
 use Rattle.std.specs.Option.{ok_or}
 use Rattle.rb_tree.specs.Path.{segments}
 use Rattle.rb_tree.specs.Walk.{nowhere, stop_of, walk}
