@@ -76,7 +76,7 @@ folder, refused = sys.argv[2], int(sys.argv[3])
 # each with more allocations than its reading and acceptance make
 files = [
     (one_key(random_letters)(20_000), 20), (many_tables(20_000), 20), (mixed_arrays(20_000), 20), (shared_arrays(62), 12),
-    (all_ends(20_000), 50), (mixed_tables(40_000), 50), (copies(random_letters, 2, 100)(30_000), 150),
+    (all_ends(20_000), 60), (mixed_tables(40_000), 60), (copies(random_letters, 2, 100)(30_000), 160),
 ]
 for number, (data, most) in enumerate(files):
     for blocks in range(refused - most, refused):

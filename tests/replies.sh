@@ -2,7 +2,8 @@
 # Serves lines of requests with a built program, each file of them by a new process, and compares the replies.
 #
 # Each NAME.jsonl in replies/ has its replies in NAME.replies.jsonl; the server's options are in NAME.arguments, if it has any. Requests that are too long to store are made here: the
-# longest text and one byte more, the longest file, and a string of 200,000 units that is found before and after lookups that fail.
+# longest text and one byte more, the longest file and one word more, a string of 200,000 units that is found before and after lookups that fail, the 4,096 bundles that an
+# application may have, and 5,001 common bundles.
 #
 # usage: replies.sh PROGRAM
 # Ends with status 0 if all agree, with 1 if one differs; says `skipped` if there is no such program.
@@ -43,13 +44,18 @@ install_text() {
     printf '\\"}}"}\n'
 }
 
-# Prints the install of the longest file, which has at `a` a binary of 67,108,792 zeros.
+# Prints the install of the longest file, which has at `a` a binary of 67,108,792 zeros, or of a file that has one word more.
 install_file() {
-    printf '{"op":"install","app":"shop","locale":"de","file":"'
+    printf '{"op":"install","app":"shop","locale":"%s","file":"' "$1"
     printf '2000DA271400000000000200526573420101000000000000000000000000000007000020050000000700000'
-    printf '0F8FFFF00F8FFFF00010000006100AAAA0100180009000010B8FFFF03'
-    repeat 0 134217584
+    printf '0%sFFFF00%sFFFF00010000006100AAAA0100180009000010%sFFFF03' "$2" "$2" "$3"
+    repeat 0 "$4"
     printf '"}\n'
+}
+
+# Prints the install of a bundle that has its name at `a`, from a text.
+install_name() {
+    printf '{"op":"install","app":"%s","locale":"%s","text":"%s{a{\\"%s\\"}}"}\n' "$1" "$2" "$2" "$2"
 }
 
 # Prints a lookup by shop from root.
@@ -83,8 +89,11 @@ done
 printf '{"error":"BadText"}\n{"ok":true}\n' >"$made/replies"
 answers 'the longest text' "$made/requests" "$made/replies"
 
-install_file >"$made/requests"
-printf '{"ok":true}\n' >"$made/replies"
+{
+    install_file de F8 B8 134217584
+    install_file fr F9 BC 134217592
+} >"$made/requests"
+printf '{"ok":true}\n{"error":"BadFile"}\n' >"$made/replies"
 answers 'the longest file' "$made/requests" "$made/replies"
 
 {
@@ -104,4 +113,33 @@ answers 'the longest file' "$made/requests" "$made/replies"
     repeat x 200000 | found
 } >"$made/replies"
 answers 'a long string around lookups that fail' "$made/requests" "$made/replies"
+{
+    for ((i = 0; i < 4096; i++)); do
+        install_name shop "qq_$i"
+    done
+    install_name shop qq_4096
+    install_name shop qq_7
+    install_name bank qq
+    printf '{"op":"list","app":"bank"}\n'
+} >"$made/requests"
+{
+    yes '{"ok":true}' | head -n 4096
+    printf '{"error":"Full"}\n{"error":"Exists"}\n{"ok":true}\n{"names":["qq"]}\n'
+} >"$made/replies"
+answers 'the most bundles of an application' "$made/requests" "$made/replies"
+
+common=()
+for ((i = 0; i <= 5000; i++)); do
+    printf 'qq_%d{a{"qq_%d"}}\n' "$i" "$i" >"$made/$i.txt"
+    common+=("qq_$i=$made/$i.txt")
+done
+{
+    printf '{"op":"install","app":"shop","locale":"root","text":"root{b:alias{\\"/ICUDATA/qq_0/a\\"} c:alias{\\"/ICUDATA/qq_5000/a\\"} d:alias{\\"/ICUDATA/qq_5001/a\\"}}"}\n'
+    for path in b c d; do
+        look "$path"
+    done
+} >"$made/requests"
+printf '%s\n' '{"ok":true}' '{"actual":"qq_0","type":"string","valid":"root","value":"qq_0"}' \
+    '{"actual":"qq_5000","type":"string","valid":"root","value":"qq_5000"}' '{"error":"NoBundle"}' >"$made/replies"
+answers 'more common bundles than an application may have' "$made/requests" "$made/replies" "${common[@]}"
 exit "$failed"

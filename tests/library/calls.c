@@ -150,6 +150,40 @@ static void opens_locales(resb *e) {
     EXPECT(resb_look_at(e, &bank, S("greeting"), &f) == RESB_STALE);
 }
 
+/* Looks a string up by name, twice, so that the second lookup is from the locale that the first one kept open. */
+static bool has(resb *e, const char *app, const char *locale, const char *path, const char *units) {
+    uint16_t text[16];
+    for (int i = 0; i < 2; i++) {
+        size_t len = 0;
+        if (resb_text(e, S(app), S(locale), S(path), text, 16, &len) != RESB_OK || len != strlen(units))
+            return false;
+        for (size_t k = 0; k < len; k++)
+            if (text[k] != (uint8_t)units[k])
+                return false;
+    }
+    return true;
+}
+
+/* No lookup by name answers from a locale of before a change, of another application or of another name. */
+static void keeps_locales(resb *e) {
+    resb_found f;
+    resb reader = RESB_CLOSED;
+    EXPECT(resb_install(e, S("kept"), S("root"), S("root{a{\"r\"}}"), true) == RESB_OK);
+    EXPECT(has(e, "kept", "de_AT", "a", "r") && has(e, "kept", "de-at@x=y", "a", "r") && has(e, "kept", "", "a", "r"));
+    EXPECT(resb_install(e, S("kept"), S("de"), S("de{a{\"d\"}}"), true) == RESB_OK);
+    EXPECT(has(e, "kept", "de_AT", "a", "d") && has(e, "kept", "de-at@x=y", "a", "d") && has(e, "kept", "root", "a", "r"));
+    EXPECT(resb_install(e, S("kep"), S("root"), S("root{a{\"k\"}}"), true) == RESB_OK);
+    /* The names of the second lookup have the hash of the first one's, as their bytes are the same in all. */
+    EXPECT(has(e, "kept", "de_AT", "a", "d") && has(e, "kep", "tde_AT", "a", "k") && has(e, "kept", "de_AT", "a", "d"));
+    EXPECT(has(e, "kep", "de_AT", "a", "k") && has(e, "kept", "de", "a", "d"));
+    EXPECT(resb_share(e, &reader) == RESB_OK && has(&reader, "kept", "de_AT", "a", "d") && has(e, "kept", "de_CH", "a", "d"));
+    resb_close(&reader);
+    EXPECT(resb_remove(e, S("kept"), S("de")) == RESB_OK && has(e, "kept", "de_AT", "a", "r"));
+    EXPECT(resb_remove(e, S("kept"), S("root")) == RESB_OK && resb_remove(e, S("kep"), S("root")) == RESB_OK);
+    for (int i = 0; i < 2; i++)
+        EXPECT(resb_look(e, S("kept"), S("de_AT"), S("a"), &f) == RESB_NO_BUNDLE);
+}
+
 static void copies(resb *e) {
     uint16_t units[8] = {1, 1, 1, 1, 1};
     size_t len = 0;
@@ -259,6 +293,7 @@ int main(void) {
     lists(&e);
     looks(&e);
     opens_locales(&e);
+    keeps_locales(&e);
     copies(&e);
     limits(&e);
     starts();

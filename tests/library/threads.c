@@ -1,5 +1,7 @@
 /* Looks up on several threads, each with a handle of one engine, while another thread publishes engines one after the other.
- * usage: threads ROUNDS */
+ * usage: threads ROUNDS [keep]
+ *   keep  keeps a handle of each engine to the end, so that no reader's handle is the only one: the only one keeps locales open, which
+ *         helgrind takes for a race, as it doesn't know that the number of handles orders what their threads did */
 #include <pthread.h>
 
 #include "common.h"
@@ -47,14 +49,21 @@ static void make(int round, resb *engine) {
 
 int main(int argc, char **argv) {
     int rounds = argc > 1 ? atoi(argv[1]) : 100;
+    bool keeps = argc > 2 && strcmp(argv[2], "keep") == 0;
+    resb *kept = calloc((size_t)rounds + 1, sizeof *kept);
+    EXPECT(kept != NULL);
     pthread_t readers[READERS];
     long looks[READERS] = {0}, all = 0;
     make(0, &current);
+    if (keeps)
+        EXPECT(resb_share(&current, &kept[0]) == RESB_OK);
     for (int i = 0; i < READERS; i++)
         EXPECT(pthread_create(&readers[i], NULL, reads, &looks[i]) == 0);
     for (int round = 1; round <= rounds; round++) {
         resb next = RESB_CLOSED;
         make(round, &next);
+        if (keeps)
+            EXPECT(resb_share(&next, &kept[round]) == RESB_OK);
         pthread_mutex_lock(&lock);
         EXPECT(resb_share(&next, &current) == RESB_OK);
         is_done = round == rounds;
@@ -66,6 +75,9 @@ int main(int argc, char **argv) {
         all += looks[i];
     }
     resb_close(&current);
+    for (int i = 0; i <= rounds; i++)
+        resb_close(&kept[i]);
+    free(kept);
     printf("%ld lookups on %d threads over %d engines\n", all, READERS, rounds + 1);
     return 0;
 }

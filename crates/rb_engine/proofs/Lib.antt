@@ -8,3 +8,5 @@ pub mod Starting
 pub mod Keeping
 pub mod Bounded
 pub mod Unread
+pub mod KeptOpen
+mod Places

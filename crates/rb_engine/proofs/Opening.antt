@@ -1,6 +1,6 @@
 -- The stops of a locale that is opened.
-use Rattle.std.proofs.Common.{◌≡◌, ◌≤◌, ◌+◌, ℕ, zero, suc, List, [], ◌∷◌, ◌++◌, length, map, take, Bool, true, false, cond, Option, Some, None, Result, Ok, Err, IfOk, IfErr}
-use Rattle.std.proofs.Common.{refl, sym, ap, ◌∙◌, subst, arith, option_map, is_some, append-nil}
+use Rattle.std.proofs.Common.{◌≡◌, ◌≤◌, ℕ, List, [], ◌∷◌, ◌++◌, length, map, take, Bool, true, false, cond, Option, Some, None, Result, Ok, Err, IfOk, IfErr}
+use Rattle.std.proofs.Common.{refl, sym, ap, ◌∙◌, subst, option_map, is_some, append-nil}
 use Rattle.std.specs.Option.{option_and_then}
 use Rattle.std.specs.List.{slice_get}
 use Rattle.std.specs.Map.{lookup}
@@ -10,13 +10,13 @@ use Rattle.std.proofs.lemmas.List.Elements.{filter-append}
 use Rattle.std.proofs.lemmas.Option.{slice_get-map}
 use Rattle.rb_tree.specs.Resource.{Resource}
 use Rattle.rb_tree.specs.SourceTree.{SourceTree}
-use Rattle.rb_tree.specs.Path.{IsPath, is_path, segments}
+use Rattle.rb_tree.specs.Path.{is_path, segments}
 use Rattle.rb_tree.proofs.Paths.{path_test}
 use Rattle.rb_format.specs.File.{source_tree_of, tree_of}
 use Rattle.rb_parents.specs.Answers.{trail_of}
 use Rattle.rb_parents.specs.Family.{family_pairs, parent_of}
 use Rattle.rb_parents.specs.declared.parents.Parents.{Parents}
-use Rattle.rb_parents.specs.Trail.{Bundles, ParentsOf, Trail, names, chain, bad_parent, trail, is_stop, stop_tree, stops, stops_at}
+use Rattle.rb_parents.specs.Trail.{Bundles, ParentsOf, names, trail, is_stop, stop_tree, stops, stops_at}
 use Rattle.rb_parents.proofs.Trails.{stop_is}
 use Rattle.rb_parents.specs.declared.fault.TrailFault.{TrailFault}
 use Rattle.rb_parents.specs.declared.fault.TrailFault.TheVariants as bad

@@ -1,9 +1,9 @@
 -- An open locale stays one while nothing changes.
-use Rattle.std.proofs.Common.{◌≡◌, ◌<◌, ◌≤◌, ◌==◌, ◌&&◌, ◌⊎◌, ℕ, List, [], ◌∷◌, Bool, true, false, nat_lt, ap, sym, ◌∙◌, subst, refl, arith, inl, inr}
+use Rattle.std.proofs.Common.{◌≡◌, ◌<◌, ◌≤◌, ◌==◌, ◌&&◌, ℕ, List, [], ◌∷◌, Bool, true, false, nat_lt, ap, sym, ◌∙◌, subst, refl, arith, inl, inr}
 use Rattle.std.proofs.lemmas.Bool.{eqb-true, ltb-false, ltb-true}
 use Rattle.rb_engine.specs.Kept.{Kept}
 use Rattle.rb_engine.specs.OpenLocale.{Follows, IsOpenLocale, IsReached, StaysOpen}
-use Rattle.rb_engine.specs.Version.{is_current, last_version, next_version}
+use Rattle.rb_engine.specs.Version.{is_current, last_version}
 
 -- the states are the same, or the version is greater, or the last one
 data Course (first last : Kept) : Type 0 where
@@ -32,7 +32,7 @@ course : (first last : Kept) (between : List Kept) → IsReached first between l
 course first last [] f = step first last f
 course first last (mid ∷ later) f = after first mid last (step first mid f.0) (course mid last later f.1)
 
-current_is : (v w : ℕ) → is_current v w ≡ true → (v ≡ w) × (w < last_version)
+pub current_is : (v w : ℕ) → is_current v w ≡ true → (v ≡ w) × (w < last_version)
 current_is v w e = by (v == w) (nat_lt w last_version) refl refl e
   where
     by : (a b : Bool) → (v == w) ≡ a → nat_lt w last_version ≡ b → (a && b) ≡ true → (v ≡ w) × (w < last_version)

@@ -1,7 +1,7 @@
 -- Defines which data opens a locale of an application for lookups: the indices of the bundles that are the stops of the
 -- locale's trail. A rule of this project.
 use Rattle.std.specs.Prelude.{◌≡◌, ◌≤◌, ◌⊎◌, ℕ, List, [], ◌∷◌, true, length, take}
-use Rattle.std.specs.Prelude.{Option, option_and_then, option_map, Result, Ok}
+use Rattle.std.specs.Prelude.{Option, option_and_then, option_map, Ok}
 use Rattle.std.specs.List.{slice_get}
 use Rattle.rb_tree.specs.Resource.{Resource}
 use Rattle.rb_tree.specs.Path.{is_path}

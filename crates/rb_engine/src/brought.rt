@@ -1,4 +1,7 @@
 ghost use Rattle.std.specs.Prelude.{◌≡◌, [], ◌∷◌, ◌++◌, Ok, Some, IfOk, IfErr, OnOk, OnErr, length};
+ghost use Rattle.std.specs.Str.{bytes_eq};
+ghost use Rattle.indexmap.specs.IndexMap.{insert_entry};
+ghost use Rattle.rb_packages.specs.Release.{put_fault, IsDraftJudged};
 ghost use Rattle.rb_engine.specs.Source.{Reads, payload_of};
 ghost use Rattle.rb_engine.specs.Change.{IsFileOf};
 ghost use Rattle.rb_engine.specs.ReadFaults.{IsFirstFault};
@@ -77,7 +80,10 @@ impl Brought {
         ensures app { draft.new.app ≡ draft.old.app }
         ensures added { OnOk result
             (draft.new.edits ≡ draft.old.edits ++ (self.0.name, Some self.1) ∷ []) }
-        ensures same { OnErr result (draft.new.edits ≡ draft.old.edits) }
+        ensures judged { IsDraftJudged (put_fault self.0.name draft.old) result }
+        ensures size { OnOk result (draft.new.sizes
+            ≡ insert_entry bytes_eq draft.old.sizes self.0.name (length self.1)) }
+        ensures unchanged { OnErr result (draft.new ≡ draft.old) }
     {
         let (place, bundle) = self.into_parts();
         draft.put(place.name, bundle)

@@ -1,5 +1,5 @@
 ghost use Rattle.std.specs.Prelude.{◌≡◌, ◌≢◌, ◌+◌, ◌-◌, ◌^◌, [], ℕ, List, length, Ok, true, false};
-ghost use Rattle.std.specs.Prelude.{IfOk, IfErr, OnOk, OnErr, map, min, option_map};
+ghost use Rattle.std.specs.Prelude.{IfOk, IfErr, IfSome, OnOk, OnErr, map, min, option_map};
 ghost use Rattle.std.specs.Coded.{codes};
 ghost use Rattle.rb_parents.specs.Family.{family_pairs, parent_of, parent_in};
 ghost use Rattle.rb_views.specs.Seen.{tree_seen};
@@ -7,7 +7,7 @@ ghost use Rattle.rb_packages.specs.Shelf.{bundle_at};
 ghost use Rattle.rb_packages.specs.Lent.{files_in};
 ghost use Rattle.rb_packages.specs.Packages.{icudata_files, icudata_of, list_of, files_of, file_at};
 ghost use Rattle.rb_packages.specs.Packages.{OthersStay};
-ghost use Rattle.rb_packages.specs.Release.{edited};
+ghost use Rattle.rb_packages.specs.Release.{edited, sizes_of};
 ghost use Rattle.rb_packages.specs.Usage.{bytes_of, apps_of, more_apps, AreThereOnce};
 ghost use Rattle.rb_engine.specs.Ask.{Requests, Looks};
 ghost use Rattle.rb_engine.specs.Answer.{Replies, answer_over, lookup_in};
@@ -19,6 +19,7 @@ ghost use Rattle.rb_engine.specs.Place.{place_of as place_at};
 ghost use Rattle.rb_engine.specs.Steps.{takes_more, takes_more_from};
 ghost use Rattle.rb_engine.specs.Version.{is_current, next_version};
 ghost use Rattle.rb_engine.specs.OpenLocale.{IsOpenLocale, RefusesAll};
+ghost use Rattle.rb_engine.specs.inner.KeptLocales.{AreKept};
 ghost use Rattle.rb_engine.specs.declared.request.Request.TheVariants.{Remove as Removal};
 ghost use Rattle.rb_engine.specs.declared.request.Request.TheVariants.{List as Listing};
 ghost use Rattle.rb_engine.specs.LookResponse.{look_response};
@@ -28,7 +29,8 @@ ghost use Rattle.rb_engine.specs.declared.request.Payload.{Payload};
 use crate::app_shelves::AppShelves;
 use crate::brought::Brought;
 use crate::handle::{self, Change};
-use crate::open_locale::{OpenLocale, Stale, look_opened, open_at};
+use crate::open_locale::{OpenLocale, Stale, is_current, look_opened, open_at};
+use crate::open_locales::OpenLocales;
 use crate::place::{Place, place_of};
 use crate::request::{LookFault, Payload, Reply, Request, TooManySteps};
 use crate::same_name::same_name;
@@ -53,6 +55,7 @@ pub struct Engine {
     parents: Parents,
     /// Rises with each change, up to the maximum.
     version: u64,
+    opened: OpenLocales,
 }
 
 impl Model for Engine {
@@ -65,6 +68,8 @@ impl Model for Engine {
       parents = family_pairs e.parents;
       version = e.version;
     } };
+
+    ghost invariant = { λ e. AreKept e.opened.slots.items e.packages (parent_of e.parents) e.version };
 }
 
 impl Engine {
@@ -92,6 +97,7 @@ impl Engine {
             packages,
             parents,
             version: 0,
+            opened: OpenLocales::none(alloc),
         })
     }
 
@@ -256,6 +262,8 @@ impl Engine {
     pub fn draft(&self, alloc: Global, app: &App) -> Result<Draft, AllocError>
         ensures app { IfOk result (λ draft. draft.app ≡ app.now) }
         ensures none { IfOk result (λ draft. draft.edits ≡ []) }
+        ensures sizes { IfOk result
+            (λ draft. draft.sizes ≡ sizes_of (files_of app.now self.now.packages)) }
     {
         self.packages.draft(alloc, app)
     }
@@ -305,8 +313,58 @@ impl Engine {
             ≡ answer_over (state_of self.now).start ((state_of self.now).lists app.now)
             (Looks app.now locale.now path.now) }
     {
+        match self.look_kept(app, locale, path) {
+            Some(found) => found,
+            None => self.look_named(app, locale, path),
+        }
+    }
+
+    /// Looks up like `look` if the locale is kept open (`keep_open`) and these are its canonical
+    /// names, else returns `None`. Allocates nothing.
+    pub fn look_kept(
+        &self,
+        app: &[u8],
+        locale: &[u8],
+        path: &[u8],
+    ) -> Option<Result<Found<Item<'_>>, LookFault>>
+        ensures { IfSome result (λ found. look_response tree_seen found
+            ≡ answer_over (state_of self.now).start ((state_of self.now).lists app.now)
+            (Looks app.now locale.now path.now)) }
+    {
+        self.opened.look(
+            &self.packages,
+            &self.parents,
+            self.version,
+            app,
+            locale,
+            path,
+        )
+    }
+
+    /// Looks up by names that may be other ones of a locale that is kept open.
+    fn look_named(
+        &self,
+        app: &[u8],
+        locale: &[u8],
+        path: &[u8],
+    ) -> Result<Found<Item<'_>>, LookFault>
+        ensures { look_response tree_seen result
+            ≡ answer_over (state_of self.now).start ((state_of self.now).lists app.now)
+            (Looks app.now locale.now path.now) }
+    {
         let place = place_of(app, locale)?;
-        look_in(&self.packages, &self.parents, &place, path)
+        let opened = self.opened.look(
+            &self.packages,
+            &self.parents,
+            self.version,
+            place.app.as_bytes(),
+            place.name.as_bytes(),
+            path,
+        );
+        match opened {
+            Some(found) => found,
+            None => look_in(&self.packages, &self.parents, &place, path),
+        }
     }
 
     /// Looks up like `look`, or returns `TooManySteps` if the lookup takes more than this many
@@ -336,14 +394,6 @@ impl Engine {
     }
 }
 
-/// Returns true if nothing has changed since an engine had the version that was read. Of the last
-/// version nobody can know.
-fn is_current(read: u64, now: u64) -> bool
-    ensures { result ≡ is_current read now }
-{
-    read == now && now < u64::MAX
-}
-
 impl Engine {
     /// Opens a locale of an application for many lookups by `look_at`. Allocates nothing.
     ///
@@ -364,6 +414,30 @@ impl Engine {
         match place_of(app, locale) {
             Ok(place) => open_at(&self.packages, &self.parents, &place, self.version),
             Err(fault) => Err(LookFault::from(fault)),
+        }
+    }
+
+    /// Makes room to keep this many locales open (`keep_open`), in about 430 bytes each. Closes those
+    /// that are open.
+    pub fn keep_locales(&mut self, alloc: Global, count: usize) -> Result<(), AllocError>
+        ensures { self.new ≡ self.old }
+    {
+        self.opened = OpenLocales::with_slots(alloc, count)?;
+        Ok(())
+    }
+
+    /// Opens a locale for later lookups by `look`, which then read neither its trail nor that of
+    /// the aliases that lead back to it. Any change closes it. Allocates nothing.
+    #[tactic(auto, using(crate::proofs::Places::own_app))]
+    pub fn keep_open(&mut self, app: &[u8], locale: &[u8])
+        ensures { self.new ≡ self.old }
+    {
+        if self.opened.has(app, locale, self.version) {
+            return;
+        }
+        if let Ok(place) = place_of(app, locale) {
+            self.opened
+                .keep(&self.packages, &self.parents, self.version, &place);
         }
     }
 

@@ -15,15 +15,17 @@ ghost use Rattle.rb_fallback.specs.Stops.{AreStopsOf};
 ghost use Rattle.rb_engine.specs.Answer.{Refuses, lookup_in};
 ghost use Rattle.rb_engine.specs.LookResponse.{look_response};
 ghost use Rattle.rb_engine.specs.OpenLocale.{opened_stop, stop_indices};
+ghost use Rattle.rb_engine.specs.Version.{is_current};
 ghost use Rattle.rb_engine.specs.inner.Opening.{HasStops};
 ghost use Rattle.rb_engine.specs.declared.request.LookFault.TheVariants as Faults;
 
+use crate::item_shelf::ItemShelf;
 use crate::place::Place;
 use crate::request::LookFault;
 use crate::same_name::same_name;
 use rb_fallback::{Found, Stops, look_from};
 use rb_locales::Name;
-use rb_packages::{AppShelf, LentItem, Packages};
+use rb_packages::{AppShelf, Packages};
 use rb_parents::{Next, Parents, TRAIL_LIMIT, TrailFault, visit};
 use rb_views::Item;
 
@@ -46,6 +48,14 @@ pub struct OpenLocale {
 /// The engine has changed since the locale was opened, so it has to be opened again.
 #[derive(Clone, Copy, Debug, PartialEq, Eq)]
 pub struct Stale;
+
+/// Returns true if nothing has changed since an engine had the version that was read. Of the last
+/// version nobody can know.
+pub(crate) fn is_current(read: u64, now: u64) -> bool
+    ensures { result ≡ is_current read now }
+{
+    read == now && now < u64::MAX
+}
 
 impl OpenLocale {
     fn stop_index(&self, i: usize) -> Option<usize>
@@ -180,9 +190,17 @@ pub(crate) fn look_opened<'a>(
         (bundle_at (icudata_of packages.now)) (parent_of parents.now) name path.now }
 {
     let own = packages.shelf_at(opened.app);
+    let icu = packages.icu_shelf();
     let stops = OpenStops { own, opened };
-    match look_from(stops, own, packages.icu_shelf(), parents, path) {
-        Ok(found) => Ok(found.with_node(found.node.item())),
+    let found = look_from(
+        stops,
+        ItemShelf { shelf: own },
+        ItemShelf { shelf: icu },
+        parents,
+        path,
+    );
+    match found {
+        Ok(found) => Ok(found),
         Err(error) => Err(LookFault::from(error)),
     }
 }
@@ -195,13 +213,14 @@ pub(crate) struct OpenStops<'a, 'b> {
 }
 
 impl<'a, 'b> Stops<'a> for OpenStops<'a, 'b> {
-    type N = LentItem<'a>;
+    type N = Item<'a>;
 
     ghost stop = { λ s i. opened_stop s.opened.now (files_in s.own) i };
 
-    fn root(self, i: usize) -> Option<LentItem<'a>> {
-        match self.opened.stop_index(i) {
-            Some(index) => self.own.root_at(index),
+    fn root(self, i: usize) -> Option<Item<'a>> {
+        let index = self.opened.stop_index(i)?;
+        match self.own.root_at(index) {
+            Some(root) => Some(root.item()),
             None => None,
         }
     }

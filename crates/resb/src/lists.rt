@@ -4,6 +4,7 @@ ghost use Rattle.resb.specs.Lists.{zero_ended, Lists, CopiesKey};
 ghost use Rattle.resb.specs.Looks.{answer_in};
 
 use crate::held::take;
+use crate::looks::keep_open;
 use crate::numbers::{CLOSED, MEMORY, NO_ENTRY, NO_ROOM, OTHER_KIND, look_number, reply_number};
 use rb_engine::{Engine, Reply};
 use rb_handle::Handle;
@@ -122,9 +123,10 @@ pub extern "C" fn resb_key(
     ensures unchanged { result ≢ 0 → out.new ≡ out.old }
     ensures closed { IfNone (engine_of handle.old) (result ≡ 2) }
 {
-    let Some(engine) = take(alloc, handle) else {
+    let Some(mut engine) = take(alloc, handle) else {
         return CLOSED;
     };
+    keep_open(&mut engine, app, locale);
     let result = key_in(&engine, app, locale, path, index, out, len);
     *handle = Handle::of(engine);
     result

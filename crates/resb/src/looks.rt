@@ -10,6 +10,16 @@ use rb_engine::Engine;
 use rb_handle::Handle;
 use rb_views::Units;
 use std::alloc::Global;
+use std::sync::Arc;
+
+/// Keeps a locale open for the next lookups, if no other handle has the engine.
+pub(crate) fn keep_open(engine: &mut Arc<Engine>, app: &[u8], locale: &[u8])
+    ensures { engine.new.value ≡ engine.old.value }
+{
+    if let Some(engine) = Arc::get_mut(engine) {
+        engine.keep_open(app, locale);
+    }
+}
 
 fn look_in(engine: &Engine, app: &[u8], locale: &[u8], path: &[u8], found: &mut Found) -> u32
     ensures answer { result ≡ response_number (answer_in engine.now app.now locale.now path.now) }
@@ -24,6 +34,54 @@ fn look_in(engine: &Engine, app: &[u8], locale: &[u8], path: &[u8], found: &mut 
         }
         Err(fault) => look_number(fault),
     }
+}
+
+/// Looks up like `look_in` if the engine keeps the locale open under just these names.
+fn look_kept_in(
+    engine: &Engine,
+    app: &[u8],
+    locale: &[u8],
+    path: &[u8],
+    found: &mut Found,
+) -> Option<u32>
+    ensures answer { IfSome result (λ number. number
+        ≡ response_number (answer_in engine.now app.now locale.now path.now)) }
+    ensures describes { IfSome result (λ _. Describes
+        (answer_in engine.now app.now locale.now path.now)
+        found.new.kind found.new.count found.new.number) }
+    ensures unchanged { IfSome result (λ number. number ≢ 0 → found.new ≡ found.old) }
+    ensures none { IfNone result (found.new ≡ found.old) }
+{
+    match engine.look_kept(app, locale, path) {
+        Some(Ok(it)) => {
+            *found = Found::of(it.node);
+            Some(0)
+        }
+        Some(Err(fault)) => Some(look_number(fault)),
+        None => None,
+    }
+}
+
+/// Looks up from the locale that the engine keeps open, or keeps it open first.
+fn look_keeping(
+    engine: &mut Arc<Engine>,
+    app: &[u8],
+    locale: &[u8],
+    path: &[u8],
+    found: &mut Found,
+) -> u32
+    ensures stays { engine.new.value ≡ engine.old.value }
+    ensures answer { result
+        ≡ response_number (answer_in engine.old.value app.now locale.now path.now) }
+    ensures describes { Describes (answer_in engine.old.value app.now locale.now path.now)
+        found.new.kind found.new.count found.new.number }
+    ensures unchanged { result ≢ 0 → found.new ≡ found.old }
+{
+    if let Some(number) = look_kept_in(engine, app, locale, path, found) {
+        return number;
+    }
+    keep_open(engine, app, locale);
+    look_in(engine, app, locale, path, found)
 }
 
 /// Looks up the item at a path from a locale, and describes it.
@@ -45,10 +103,10 @@ pub extern "C" fn resb_look(
     ensures unchanged { result ≢ 0 → found.new ≡ found.old }
     ensures closed { IfNone (engine_of handle.old) (result ≡ 2) }
 {
-    let Some(engine) = take(alloc, handle) else {
+    let Some(mut engine) = take(alloc, handle) else {
         return CLOSED;
     };
-    let result = look_in(&engine, app, locale, path, found);
+    let result = look_keeping(&mut engine, app, locale, path, found);
     *handle = Handle::of(engine);
     result
 }
@@ -169,9 +227,10 @@ pub extern "C" fn resb_text(
     ensures unchanged { result ≢ 0 → out.new ≡ out.old }
     ensures closed { IfNone (engine_of handle.old) (result ≡ 2) }
 {
-    let Some(engine) = take(alloc, handle) else {
+    let Some(mut engine) = take(alloc, handle) else {
         return CLOSED;
     };
+    keep_open(&mut engine, app, locale);
     let result = copy_in(&engine, app, locale, path, out, len);
     *handle = Handle::of(engine);
     result

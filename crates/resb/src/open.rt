@@ -36,10 +36,15 @@ pub(crate) fn seeded(seed: &[u8]) -> Option<RandomState> {
     RandomState::new(&Seed { bytes: seed }).ok()
 }
 
-/// Moves an engine to where handles can share it.
+/// The number of locales that an engine keeps open for lookups by name.
+const KEPT_LOCALES: usize = 1024;
+
+/// Moves an engine to where handles can share it, with room to keep locales open.
 pub(crate) fn shareable(alloc: Global, engine: Engine) -> Option<Box<Arc<Engine>>>
     ensures { IfSome result (λ b. b.value.value ≡ engine) }
 {
+    let mut engine = engine;
+    engine.keep_locales(alloc, KEPT_LOCALES).ok()?;
     let counted = Arc::new(alloc, engine).ok()?;
     Box::new(alloc, counted).ok()
 }

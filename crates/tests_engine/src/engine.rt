@@ -1,5 +1,4 @@
-use crate::payloads::{Given, given_of, payload};
-use rb_engine::{Engine, Payload, Reply, Request};
+use rb_engine::{Engine, LookFault, OpenLocale, Payload, Request};
 use rb_fallback::Found;
 use rb_parents::Parents;
 use rb_tree::ByteList;
@@ -7,74 +6,69 @@ use rb_views::Item;
 use std::alloc::Global;
 use std::hash::RandomState;
 
-pub(crate) type Place<'a> = (&'a str, &'a str);
+type Place<'a> = (&'a str, &'a str);
 
 /// The text that a lookup finds, the actual locale, and the valid locale.
-pub(crate) type Hit<'a> = (&'a str, &'a str, &'a str);
+type Hit<'a> = (&'a str, &'a str, &'a str);
 
 /// A request or a lookup, with its answer.
 #[derive(Clone, Copy)]
 enum Step<'a> {
-    /// An install, and the word of the reply.
-    Install(Place<'a>, Given<'a>, &'a str),
+    /// An install of a text, and the word of the reply.
+    Install(Place<'a>, &'a str, &'a str),
     /// A removal, and the word of the reply.
     Remove(Place<'a>, &'a str),
-    /// A list of an application's bundles, and the number of names in the reply.
-    List(&'a str, usize),
-    /// A lookup of a path, and what it finds.
+    /// Lookups of a path, and what they find: by name, from an open locale, and from one that the
+    /// engine keeps open.
     Find(Place<'a>, &'a str, Hit<'a>),
-    /// A lookup of a path, and the word of its error.
+    /// The same lookups of a path, and the word of their error.
     Miss(Place<'a>, &'a str, &'a str),
 }
 
 /// Reads a step from its line, whose fields are separated by `|`:
 ///
-/// - `install|APP|LOCALE|KIND|OF|WORD`, where `given_of` reads KIND and OF
+/// - `install|APP|LOCALE|TEXT|WORD`
 /// - `remove|APP|LOCALE|WORD`
-/// - `list|APP|COUNT`
 /// - `find|APP|LOCALE|PATH|TEXT|ACTUAL|VALID`
 /// - `miss|APP|LOCALE|PATH|WORD`
 fn step_of(line: &str) -> Option<Step<'_>> {
     let mut fields = line.split('|');
     let op = fields.next()?;
-    let (app, second) = (fields.next()?, fields.next()?);
-    if op == "list" {
-        return Some(Step::List(app, second.parse().ok()?));
-    }
-    let (place, third) = ((app, second), fields.next()?);
-    if op == "remove" {
-        return Some(Step::Remove(place, third));
-    }
-    let fourth = fields.next()?;
+    let (place, third) = ((fields.next()?, fields.next()?), fields.next()?);
     match op {
-        "install" => Some(Step::Install(place, given_of(third, fourth)?, fields.next()?)),
+        "install" => Some(Step::Install(place, third, fields.next()?)),
+        "remove" => Some(Step::Remove(place, third)),
         "find" => {
-            let hit = (fourth, fields.next()?, fields.next()?);
+            let hit = (fields.next()?, fields.next()?, fields.next()?);
             Some(Step::Find(place, third, hit))
         }
-        "miss" => Some(Step::Miss(place, third, fourth)),
+        "miss" => Some(Step::Miss(place, third, fields.next()?)),
         _ => None,
     }
 }
 
-pub(crate) fn bytes(alloc: Global, text: &str) -> Option<ByteList> {
+fn bytes(alloc: Global, text: &str) -> Option<ByteList> {
     Some(ByteList::from_vec(text.as_bytes().to_vec(alloc).ok()?))
 }
 
 pub(crate) fn empty_engine(rt: &HostRuntime) -> Option<Engine> {
     let alloc = rt.alloc();
     let state = RandomState::new(rt).ok()?;
-    Engine::start(alloc, state, Vec::new(alloc), Parents::none(alloc)).ok()
+    let mut engine = Engine::start(alloc, state, Vec::new(alloc), Parents::none(alloc)).ok()?;
+    // Few, so that locales take each other's places.
+    engine.keep_locales(alloc, 3).ok()?;
+    Some(engine)
 }
 
-fn install_word(
+/// Installs a text, and returns the word of the reply.
+fn installed(
     alloc: Global,
     engine: &mut Engine,
     place: Place<'_>,
-    payload: Payload,
+    text: &str,
 ) -> Option<&'static str> {
-    let app = bytes(alloc, place.0)?;
-    let locale = bytes(alloc, place.1)?;
+    let (app, locale) = (bytes(alloc, place.0)?, bytes(alloc, place.1)?);
+    let payload = Payload::Text(bytes(alloc, text)?);
     let request = Request::Install {
         app,
         locale,
@@ -83,31 +77,9 @@ fn install_word(
     Some(engine.handle(alloc, request).word())
 }
 
-fn installs(
-    alloc: Global,
-    engine: &mut Engine,
-    place: Place<'_>,
-    given: Given<'_>,
-    word: &str,
-) -> bool {
-    match payload(alloc, given) {
-        Some(payload) => install_word(alloc, engine, place, payload) == Some(word),
-        None => false,
-    }
-}
-
-fn removal_word(alloc: Global, engine: &mut Engine, place: Place<'_>) -> Option<&'static str> {
-    let app = bytes(alloc, place.0)?;
-    let locale = bytes(alloc, place.1)?;
+fn removed(alloc: Global, engine: &mut Engine, place: Place<'_>) -> Option<&'static str> {
+    let (app, locale) = (bytes(alloc, place.0)?, bytes(alloc, place.1)?);
     Some(engine.handle(alloc, Request::Remove { app, locale }).word())
-}
-
-fn count(alloc: Global, engine: &mut Engine, app: &str) -> Option<usize> {
-    let app = bytes(alloc, app)?;
-    match engine.handle(alloc, Request::List { app }) {
-        Reply::Names(names) => Some(names.as_slice().len()),
-        _ => None,
-    }
 }
 
 fn has_text(item: Item<'_>, text: &str) -> bool {
@@ -132,16 +104,32 @@ fn is_hit(found: &Found<Item<'_>>, hit: Hit<'_>) -> bool {
         && found.valid.as_bytes() == valid.as_bytes()
 }
 
+pub(crate) fn opened(engine: &Engine, place: Place<'_>) -> Result<OpenLocale, LookFault> {
+    engine.open_locale(place.0.as_bytes(), place.1.as_bytes())
+}
+
 fn finds(engine: &Engine, place: Place<'_>, path: &str, hit: Hit<'_>) -> bool {
     match engine.look(place.0.as_bytes(), place.1.as_bytes(), path.as_bytes()) {
-        Ok(found) => is_hit(&found, hit) && finds_opened(engine, place, path, hit),
+        Ok(found) => is_hit(&found, hit),
         Err(_) => false,
     }
 }
 
-/// Checks that a lookup from the open locale finds the same.
+fn misses(engine: &Engine, place: Place<'_>, path: &str, word: &str) -> bool {
+    match engine.look(place.0.as_bytes(), place.1.as_bytes(), path.as_bytes()) {
+        Ok(_) => false,
+        Err(fault) => fault.word() == word,
+    }
+}
+
+/// Keeps a locale open, so that the next lookup is from there.
+fn kept_open<'a>(engine: &'a mut Engine, place: Place<'_>) -> &'a Engine {
+    engine.keep_open(place.0.as_bytes(), place.1.as_bytes());
+    engine
+}
+
 fn finds_opened(engine: &Engine, place: Place<'_>, path: &str, hit: Hit<'_>) -> bool {
-    let Ok(opened) = engine.open_locale(place.0.as_bytes(), place.1.as_bytes()) else {
+    let Ok(opened) = opened(engine, place) else {
         return false;
     };
     match engine.look_at(&opened, path.as_bytes()) {
@@ -150,57 +138,43 @@ fn finds_opened(engine: &Engine, place: Place<'_>, path: &str, hit: Hit<'_>) -> 
     }
 }
 
-pub(crate) fn misses(engine: &Engine, place: Place<'_>, path: &str, word: &str) -> bool {
-    match engine.look(place.0.as_bytes(), place.1.as_bytes(), path.as_bytes()) {
-        Ok(_) => false,
-        Err(fault) => fault.word() == word && misses_opened(engine, place, path, word),
-    }
-}
-
-/// Checks that a lookup from the open locale has the same error. A locale that can't be opened has
-/// it, unless it is one of the path.
+/// A locale that can't be opened has the error of the lookup, unless that is one of the path.
 fn misses_opened(engine: &Engine, place: Place<'_>, path: &str, word: &str) -> bool {
-    match engine.open_locale(place.0.as_bytes(), place.1.as_bytes()) {
+    match opened(engine, place) {
         Ok(opened) => match engine.look_at(&opened, path.as_bytes()) {
             Ok(Err(fault)) => fault.word() == word,
             _ => false,
         },
-        Err(fault) => fault.word() == word || word == "BadPath" || word == "PathTooLong",
+        Err(fault) => fault.word() == word || word == "BadPath",
     }
 }
 
 fn runs(alloc: Global, engine: &mut Engine, step: Step<'_>) -> bool {
     match step {
-        Step::Install(place, given, word) => installs(alloc, engine, place, given, word),
-        Step::Remove(place, word) => removal_word(alloc, engine, place) == Some(word),
-        Step::List(app, names) => count(alloc, engine, app) == Some(names),
-        Step::Find(place, path, hit) => finds(engine, place, path, hit),
-        Step::Miss(place, path, word) => misses(engine, place, path, word),
+        Step::Install(place, text, word) => installed(alloc, engine, place, text) == Some(word),
+        Step::Remove(place, word) => removed(alloc, engine, place) == Some(word),
+        Step::Find(place, path, hit) => {
+            finds(engine, place, path, hit)
+                && finds_opened(engine, place, path, hit)
+                && finds(kept_open(engine, place), place, path, hit)
+        }
+        Step::Miss(place, path, word) => {
+            misses(engine, place, path, word)
+                && misses_opened(engine, place, path, word)
+                && misses(kept_open(engine, place), place, path, word)
+        }
     }
 }
 
-/// Runs the step of a line. Returns false if the answer differs, or if the line is no step.
-pub(crate) fn is_answered(alloc: Global, engine: &mut Engine, line: &str) -> bool {
-    match step_of(line) {
-        Some(step) => runs(alloc, engine, step),
-        None => false,
-    }
-}
-
-/// Runs the steps of a text, one a line, up to the first whose answer differs.
+/// Runs the steps of a text, one a line, up to the first whose answer differs, or that is no step.
 pub(crate) fn answers(alloc: Global, engine: &mut Engine, steps: &str) -> bool {
     for line in steps.lines() {
-        if !is_answered(alloc, engine, line) {
+        let Some(step) = step_of(line) else {
+            return false;
+        };
+        if !runs(alloc, engine, step) {
             return false;
         }
     }
     true
-}
-
-/// Runs the steps of a text on a new engine.
-pub(crate) fn is_served(rt: &HostRuntime, steps: &str) -> bool {
-    match empty_engine(rt) {
-        Some(mut engine) => answers(rt.alloc(), &mut engine, steps),
-        None => false,
-    }
 }

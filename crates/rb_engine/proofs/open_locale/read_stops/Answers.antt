@@ -1,4 +1,4 @@
-use Rattle.std.proofs.Common.{◌≡◌, ◌∷◌, ◌++◌, ◌≤◌, ◌+◌, [], ap, sym, ◌∙◌, arith, length-append}
+use Rattle.std.proofs.Common.{◌≡◌, ◌∷◌, ◌++◌, [], ap, sym, ◌∙◌, arith, length-append}
 use Rattle.rb_parents.specs.Family.{parent_of}
 use Rattle.rb_parents.specs.Steps.{next_of}
 use Rattle.rb_parents.specs.Trail.{next, goes_to, end, bad, is_stop}

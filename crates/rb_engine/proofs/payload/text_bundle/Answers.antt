@@ -1,4 +1,4 @@
-use Rattle.std.proofs.Common.{◌≡◌, ◌⊎◌, ℕ, List, Option, Some, sym, subst, inl, inr, true}
+use Rattle.std.proofs.Common.{◌≡◌, ◌⊎◌, ℕ, List, Option, Some, subst, inl, inr, true}
 use Rattle.std.specs.Prelude.{MatchOption}
 use Rattle.std.proofs.lemmas.Result.{err_from_is_err_and}
 use Rattle.rb_tree.specs.SourceTree.{SourceTree}
@@ -6,7 +6,6 @@ use Rattle.rb_format.specs.declared.fault.FileFault.{FileFault}
 use Rattle.rb_format.specs.declared.fault.FileFault.TheVariants.{Memory}
 use Rattle.rb_format.specs.Checks.{first_fault}
 use Rattle.rb_format.specs.File.{Denotes}
-use Rattle.rb_parser.specs.Source.{IsGoodSource}
 use Rattle.rb_engine.proofs.StepLemmas.{text_none}
 use Rattle.rb_engine.proofs.payload.text_bundle.Goals as goal
 

@@ -1,4 +1,5 @@
 use Rattle.std.proofs.lemmas.Result.{err_from_is_err_and}
+use Rattle.rb_parents.specs.Family.{parent_of}
 use Rattle.rb_engine.proofs.Starting.{refused_below}
 use Rattle.rb_engine.proofs.engine.Engine.start.Goals as goal
 
@@ -6,3 +7,6 @@ pub returns-in_err-load_all-clause-index : goal.returns-in_err-load_all-clause-i
 returns-in_err-load_all-clause-index c =
     let p = err_from_is_err_and c.from_residual.result c.from_residual.ensures.1 in
     rw (p.1, p.2) (refused_below c.args.icudata.items c.in_err-load_all.field-0.0 c.in_err-load_all.ensures.refused)
+
+pub invariant_of-result : goal.invariant_of-result
+invariant_of-result c = c.none.ensures c.load_all.new.packages (parent_of c.args.parents) 0

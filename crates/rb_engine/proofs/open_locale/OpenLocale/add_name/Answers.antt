@@ -1,4 +1,4 @@
-use Rattle.std.proofs.Common.{◌≡◌, true, false, sym, ◌∙◌}
+use Rattle.std.proofs.Common.{sym, ◌∙◌}
 use Rattle.rb_packages.specs.Lent.{files_in}
 use Rattle.rb_engine.proofs.Opening.{stop_has, stop_more, stop_not}
 use Rattle.rb_engine.proofs.open_locale.OpenLocale.add_name.Goals as goal

@@ -1,0 +1,32 @@
+use Rattle.std.proofs.Common.{◌≡◌, ℕ, List, Ok, sym, ◌∙◌, subst}
+use Rattle.rb_parents.specs.Family.{family_pairs, parent_of}
+use Rattle.rb_views.specs.Seen.{tree_seen}
+use Rattle.rb_engine.specs.Place.{place_of}
+use Rattle.rb_engine.specs.Answer.{Start}
+use Rattle.rb_engine.specs.Kept.{state_of}
+use Rattle.rb_engine.specs.LookResponse.{look_response}
+use Rattle.rb_engine.proofs.KeptOpen.{answered_at}
+use Rattle.rb_engine.proofs.Lookups.{lookup_at_place}
+use Rattle.rb_engine.proofs.Places.{own_app, own_place}
+use Rattle.rb_engine.proofs.engine.Engine.look_named.Goals as goal
+
+pub returns-in-Some : goal.returns-in-Some
+returns-in-Some c =
+    let app = c.args.app.now in
+    let locale = c.args.locale.now in
+    let path = c.args.path.now in
+    let packages = c.self.inside.packages in
+    let place = c.in_ok-place.place in
+    let h : place_of app locale ≡ Ok place = sym c.place_of.ensures ∙ c.in_ok-place.was in
+    let own : place_of place.app place.name ≡ Ok place = own_place place (own_app app locale place h) c.as_bytes-2.ensures.canonical in
+    let start : Start = (state_of (record { packages = packages; parents = family_pairs c.self.inside.parents; version = c.self.inside.version })).start in
+    let a = answered_at (look_response tree_seen c.in-Some.found) packages (parent_of c.self.inside.parents) c.as_bytes.result.now c.as_bytes-2.result.now path place
+    (c.in-Some.ensures c.self.invariant) c.as_bytes.ensures c.as_bytes-2.ensures.bytes own in
+    rw (← c.self.view_is) (a ∙ lookup_at_place start app locale path place packages h)
+
+pub returns-in-None : goal.returns-in-None
+returns-in-None c =
+    let h : place_of c.args.app.now c.args.locale.now ≡ Ok c.in_ok-place.place = sym c.place_of.ensures ∙ c.in_ok-place.was in
+    let start : Start = (state_of (record { packages = c.self.inside.packages; parents = family_pairs c.self.inside.parents; version = c.self.inside.version })).start in
+    rw (← c.self.view_is)
+    (c.look_in.ensures ∙ lookup_at_place start c.args.app.now c.args.locale.now c.args.path.now c.in_ok-place.place c.self.inside.packages h)

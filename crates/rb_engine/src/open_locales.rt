@@ -1,0 +1,192 @@
+//! The locales that an engine keeps open for its lookups.
+ghost use Rattle.std.specs.Prelude.{◌≡◌, ◌<◌, ◌≤◌, ℕ, IfOk, IfSome, Ok, length, true};
+ghost use Rattle.std.specs.Bool.{OnTrue};
+ghost use Rattle.rb_parents.specs.Family.{parent_of};
+ghost use Rattle.rb_views.specs.Seen.{tree_seen};
+ghost use Rattle.rb_packages.specs.App.{app_of};
+ghost use Rattle.rb_packages.specs.Packages.{Stored};
+ghost use Rattle.rb_parents.specs.Trail.{ParentsOf};
+ghost use Rattle.rb_engine.specs.LookResponse.{look_response};
+ghost use Rattle.rb_engine.specs.Version.{is_current};
+ghost use Rattle.rb_engine.specs.inner.KeptLocales.{AreKept, IsAnsweredFor, IsOpenFor};
+
+use crate::open_locale::{OpenLocale, is_current, look_opened, open_at};
+use crate::place::Place;
+use crate::request::LookFault;
+use rb_fallback::Found;
+use rb_packages::Packages;
+use rb_parents::Parents;
+use rb_views::Item;
+use std::alloc::{AllocError, Global};
+
+/// An open locale, where it was opened, and the hash of its names.
+#[derive(Clone, Copy)]
+pub(crate) struct Slot {
+    pub(crate) hash: u64,
+    pub(crate) place: Place,
+    pub(crate) opened: OpenLocale,
+}
+
+/// A table of open locales. A locale is in one of a few slots that its names choose, so the table
+/// never grows. A slot of an older version counts as empty.
+#[derive(Drop)]
+pub(crate) struct OpenLocales {
+    pub(crate) slots: Vec<Option<Slot>>,
+}
+
+/// The number of slots in which a locale may be.
+const WINDOW: usize = 16;
+
+/// Mixes bytes into a hash. A caller who finds locales with equal hashes makes lookups slower, as
+/// if the table had no slots.
+fn mix(hash: u64, bytes: &[u8]) -> u64 {
+    let mut hash = hash;
+    for &byte in bytes {
+        hash = (hash ^ u64::from(byte)).wrapping_mul(0x100_0000_01B3);
+    }
+    hash
+}
+
+fn hash_of(app: &[u8], locale: &[u8]) -> u64 {
+    mix(mix(0xCBF2_9CE4_8422_2325, app), locale)
+}
+
+impl Slot {
+    /// Returns true if the slot has a locale by these names, open in this version.
+    fn has(&self, hash: u64, app: &[u8], locale: &[u8], version: u64) -> bool
+        ensures { OnTrue result ((self.now.place.app ≡ app.now) × (self.now.place.name ≡ locale.now)
+            × (is_current self.now.opened.version version ≡ true)) }
+    {
+        self.hash == hash
+            && is_current(self.opened.version, version)
+            && self.place.app.as_bytes() == app
+            && self.place.name.as_bytes() == locale
+    }
+}
+
+impl OpenLocales {
+    pub(crate) fn none(alloc: Global) -> OpenLocales
+        ensures { (packages : Stored) → (parents : ParentsOf) → (version : ℕ)
+            → AreKept result.slots.items packages parents version }
+    {
+        OpenLocales {
+            slots: Vec::new(alloc),
+        }
+    }
+
+    /// Makes a table with this many empty slots.
+    pub(crate) fn with_slots(alloc: Global, count: usize) -> Result<OpenLocales, AllocError>
+        ensures { IfOk result (λ locales. (packages : Stored) → (parents : ParentsOf)
+            → (version : ℕ) → AreKept locales.slots.items packages parents version) }
+    {
+        Ok(OpenLocales {
+            slots: vec![in alloc; None; count]?,
+        })
+    }
+
+    /// Returns the slots in which a locale with this hash may be, from an index up to another.
+    fn window(&self, hash: u64) -> (usize, usize)
+        ensures { result.1 ≤ length self.now.slots.items }
+    {
+        let count = self.slots.len();
+        if count <= WINDOW {
+            return (0, count);
+        }
+        let from = (hash % (count - WINDOW) as u64) as usize;
+        (from, from + WINDOW)
+    }
+
+    /// Returns the locale by these names, if it is open in this version.
+    fn find(&self, app: &[u8], locale: &[u8], version: u64) -> Option<&OpenLocale>
+        ensures { (packages : Stored) → (parents : ParentsOf)
+            → AreKept self.now.slots.items packages parents version → IfSome result
+            (λ opened. IsOpenFor opened.now packages parents app.now locale.now) }
+    {
+        let hash = hash_of(app, locale);
+        let (from, past) = self.window(hash);
+        for i in from..past {
+            match &self.slots[i] {
+                Some(slot) => {
+                    if slot.has(hash, app, locale, version) {
+                        return Some(&slot.opened);
+                    }
+                }
+                None => return None,
+            }
+        }
+        None
+    }
+
+    /// Returns the index of the slot that a locale with this hash takes, if the table has slots.
+    fn index_for(&self, hash: u64, version: u64) -> Option<usize>
+        ensures { IfSome result (λ i. i < length self.now.slots.items) }
+    {
+        let (from, past) = self.window(hash);
+        for i in from..past {
+            match &self.slots[i] {
+                Some(slot) => {
+                    if !is_current(slot.opened.version, version) {
+                        return Some(i);
+                    }
+                }
+                None => return Some(i),
+            }
+        }
+        if from < past { Some(from) } else { None }
+    }
+
+    /// Looks a path up from the locale by these names, or returns `None` if it isn't open in this
+    /// version.
+    pub(crate) fn look<'a>(
+        &self,
+        packages: &'a Packages,
+        parents: &Parents,
+        version: u64,
+        app: &[u8],
+        locale: &[u8],
+        path: &[u8],
+    ) -> Option<Result<Found<Item<'a>>, LookFault>>
+        ensures { AreKept self.now.slots.items packages.now (parent_of parents.now) version
+            → IfSome result (λ found. IsAnsweredFor (look_response tree_seen found) packages.now
+            (parent_of parents.now) app.now locale.now path.now) }
+    {
+        let opened = self.find(app, locale, version)?;
+        Some(look_opened(packages, parents, opened, path))
+    }
+
+    /// Returns true if the locale by these names is open in this version.
+    pub(crate) fn has(&self, app: &[u8], locale: &[u8], version: u64) -> bool {
+        self.find(app, locale, version).is_some()
+    }
+
+    /// Opens a locale over the bundles of this version, unless it is open. An error leaves the slot
+    /// as it is.
+    pub(crate) fn keep(
+        &mut self,
+        packages: &Packages,
+        parents: &Parents,
+        version: u64,
+        place: &Place,
+    )
+        requires { app_of place.now.app ≡ Ok place.now.app }
+        ensures { AreKept self.old.slots.items packages.now (parent_of parents.now) version
+            → AreKept self.new.slots.items packages.now (parent_of parents.now) version }
+    {
+        let app = place.app.as_bytes();
+        let locale = place.name.as_bytes();
+        if self.has(app, locale, version) {
+            return;
+        }
+        let hash = hash_of(app, locale);
+        let Some(index) = self.index_for(hash, version) else {
+            return;
+        };
+        if let Ok(opened) = open_at(packages, parents, place, version) {
+            self.slots[index] = Some(Slot {
+                hash,
+                place: *place,
+                opened,
+            });
+        }
+    }
+}
