@@ -1,5 +1,6 @@
 -- The answers of lookups, as trees follow them.
-use Rattle.std.proofs.Common.{◌≡◌, ◌↔◌, ℕ, List, Result, Ok, Err}
+use Rattle.std.proofs.Common.{◌≡◌, ◌↔◌, ◌++◌, ◌∙◌, ℕ, List, [], Option, Some, None, Result, Ok, Err, ap}
+use Rattle.rb_json.specs.Stored.{Stores}
 use Rattle.rb_tree.specs.Resource.{Resource}
 use Rattle.rb_tree.specs.Path.{IsPath, segments}
 use Rattle.rb_parents.specs.Trail.{Bundles, ParentsOf}
@@ -8,7 +9,10 @@ use Rattle.rb_fallback.specs.Search.{look_up}
 use Rattle.rb_fallback.specs.declared.found.Found.{Found}
 use Rattle.rb_fallback.specs.declared.fault.LookError.{LookError}
 use Rattle.rb_fallback.specs.declared.fault.LookError.TheVariants as look
-use Rattle.rb_inherit.specs.Lookups.{IsLookup}
+use Rattle.serde_json.specs.Written.{compact_text}
+use Rattle.rb_fallback.specs.Search.{Hit}
+use Rattle.rb_json.specs.Value.{value_of}
+use Rattle.rb_inherit.specs.Lookups.{Follows, FollowsLookup, IsLookup, IsTreeOf}
 
 pub error_is_lookup : {N : Type 0} (tree : N → Resource) (own icu : Bundles) (parents : ParentsOf) (n path : List ℕ) (e : LookError)
     → ((let r : Result (Found N) LookError = Err e in r ≡ Err look.BadPath) ↔ (IsPath path → ⊥))
@@ -25,3 +29,28 @@ found_is_lookup tree own icu parents n path f bad search = record {
   bad_path = (λ h. absurd cc, λ none. let h = bad.1 none in cc);
   search = search;
 }
+
+-- a tree that is stored otherwise is the same tree
+pub same_tree : (bundles : Bundles) (parents : ParentsOf) (n path : List ℕ) (A B : List ℕ → Type 0) (hit : Hit) → ((text : List ℕ) → A text → B text)
+    → IsTreeOf bundles parents n path A hit → IsTreeOf bundles parents n path B hit
+same_tree bundles parents n path A B hit f x = record {
+  leaf = λ l. f (compact_text (value_of hit.tree)) (x.leaf l);
+  other = λ o. let w = x.other o in record { value = w.value; takes = f (compact_text w.value) w.takes; is = w.is };
+}
+
+pub follows_on : {X Y : Type 0} (own icu : Bundles) (parents : ParentsOf) (n path : List ℕ) (P : X → Hit → Type 0) (Q : Y → Hit → Type 0) (x : X) (y : Y)
+    → ((hit : Hit) → P x hit → Q y hit) → FollowsLookup own icu parents n path P (Ok x) → FollowsLookup own icu parents n path Q (Ok y)
+follows_on {X} {Y} own icu parents n path P Q x y f (answer, (is, follows)) = (answer, (is, by answer follows))
+  where
+    by : (a : Result Hit LookError) → Follows P (Ok x) a → Follows Q (Ok y) a
+    by (Ok hit) h = f hit h
+    by (Err e) h = absurd cc
+
+-- what an empty buffer stores is all of its text
+pub stored_text : (old new : Option (List ℕ)) (text bytes : List ℕ) → old ≡ Some [] → new ≡ Some text → Stores old new bytes → text ≡ bytes
+stored_text None new text bytes e f h = absurd cc
+stored_text (Some start) None text bytes e f h = absurd cc
+stored_text (Some start) (Some all) text bytes e f h =
+    let empty : start ≡ [] = cc in
+    let same : text ≡ all = cc in
+    same ∙ (h ∙ ap (λ (l : List ℕ). l ++ bytes) empty)

@@ -1,18 +1,19 @@
 -- The earliest stop wins, one stop after another.
-use Rattle.std.proofs.Common.{◌≡◌, ℕ, List, Option, Some, None, Result, Ok, Err, slice_get, refl, ap, subst, ◌∙◌}
+use Rattle.std.proofs.Common.{◌≡◌, ◌++◌, ℕ, List, [], ◌∷◌, Bool, true, false, nat_lt, Result, Ok, Err, refl, sym, ap, subst, ◌∙◌, append_assoc, append-nil}
 use Rattle.std.specs.Prelude.{IfOk}
-use Rattle.rb_tree.specs.Parts.{children_of, kind_of}
-use Rattle.rb_inherit.specs.declared.error.TreeError.{TreeError}
-use Rattle.rb_inherit.specs.declared.place.Level.{Level}
+use Rattle.rb_tree.specs.Parts.{kind_of}
 use Rattle.rb_tree.specs.Resource.{Resource}
 use Rattle.rb_tree.specs.declared.node.Node.{Ghosts}
 use Rattle.rb_tree.specs.declared.kind.Kind.{Kind}
 use Rattle.rb_tree.specs.declared.kind.Kind.TheVariants as kind
+use Rattle.rb_fallback.specs.declared.fault.LookError.TheVariants as look
+use Rattle.rb_inherit.specs.declared.error.TreeError.{TreeError}
 use Rattle.rb_inherit.specs.declared.found.Found.{Found}
 use Rattle.rb_inherit.specs.declared.found.Found.TheVariants.{Nothing, Tables, Item, Failed}
 use Rattle.rb_inherit.specs.declared.layer.Layer.{Layer}
-use Rattle.rb_inherit.specs.inner.Merging.{Decides, FirstDecides, HasNoChild, IsChildOf}
-use Rattle.rb_inherit.specs.inner.Earlier.{Begins, BeginsBelow, IsTables, Stays}
+use Rattle.rb_inherit.specs.declared.place.Level.{Level}
+use Rattle.rb_inherit.specs.Merged.{Begins, Here, Joins, Layered, Part, item, fails, layered, tables}
+use Rattle.rb_inherit.specs.inner.Earlier.{Adds, AddsLayer, BeginsEmpty, Ends, Grows, IsTables, Stays, and_error, and_item, and_table, here_of, is_open_of, layered_in, part_of}
 
 pub stays_itself : {N : Type 0} (f : Found N) → Stays f f
 stays_itself Nothing = tt
@@ -32,66 +33,217 @@ stays_on (Tables is_open) g h a b = tables_stay g h a b
 stays_on (Item n level) g h a b = subst (λ x. Stays x h) a b
 stays_on (Failed e) g h a b = subst (λ x. Stays x h) a b
 
-begun : {N : Type 0} (k : Kind) (n : N) (level : ℕ) (f g : Found N) → Begins k n level f → Stays f g → Begins k n level g
-begun kind.String n level f g a b = subst (λ x. Stays x g) a b
-begun kind.Int n level f g a b = subst (λ x. Stays x g) a b
-begun kind.Ints n level f g a b = subst (λ x. Stays x g) a b
-begun kind.Binary n level f g a b = subst (λ x. Stays x g) a b
-begun kind.Alias n level f g a b = tt
-begun kind.Array n level f g a b = subst (λ x. Stays x g) a b
-begun kind.Table n level f g a b = tables_stay f g a b
+pub grows_itself : {A : Type 0} (xs : List A) → Grows xs xs
+grows_itself xs = ([], sym (append-nil xs))
 
-pub begins_on : {N : Type 0} (keys : List ℕ) (most : ℕ) (k : Kind) (n : N) (level : ℕ) (f g : Found N)
-    → BeginsBelow keys most k n level f → Stays f g → BeginsBelow keys most k n level g
-begins_on keys most k n level f g a b = record {
-  long = λ h. subst (λ x. Stays x g) (a.long h) b;
-  short = λ h. begun k n level f g (a.short h) b;
-}
+pub grows_on : {A : Type 0} (xs ys zs : List A) → Grows xs ys → Grows ys zs → Grows xs zs
+grows_on xs ys zs (a, e) (b, f) = (a ++ b, f ∙ (ap (λ l. l ++ b) e ∙ append_assoc xs a b))
 
-pub decides_on : {N : Type 0} {G : Ghosts N} (tree : N → Resource) (keys : List ℕ) (most : ℕ) (l : Layer N G) (t : Resource) (f g : Found N)
-    → Decides tree keys most l t f → Stays f g → Decides tree keys most l t g
-decides_on tree keys most l t f g d s = record {
-  node = d.node;
-  is = d.is;
-  begins = begins_on keys most _ d.node l.level f g d.begins s;
-}
+-- ---- by cases of the first part
+begins_table : (b : Bool) (k : Kind) (p : Part) (Rest : List Layered → Type 0) (h : Here) → b ≡ false → k ≡ kind.Table
+    → ((rest : List Layered) × ((h ≡ tables (layered p ∷ rest)) × Rest rest)) → Begins b k p Rest h
+begins_table true k p Rest h e f x = absurd cc
+begins_table false kind.Table p Rest h e f x = x
+begins_table false _ p Rest h e f x = absurd cc
 
-pub first_on : {N : Type 0} {G : Ghosts N} (tree : N → Resource) (layers : List (Layer N G)) (levels : List Level) (keys : List ℕ) (i : ℕ) (f g : Found N)
-    → FirstDecides tree layers levels keys i f → Stays f g → FirstDecides tree layers levels keys i g
-first_on tree layers levels keys i f g d s l level t a b e = decides_on tree keys level.keys_most l t f g (d l level t a b e) s
+joins_table : (b : Bool) (k : Kind) (p : Part) (Rest : List Layered → Type 0) (more rest : List Layered) → b ≡ false → k ≡ kind.Table
+    → more ≡ layered p ∷ rest → Rest rest → Joins b k p Rest more
+joins_table true k p Rest more rest e f x y = absurd cc
+joins_table false kind.Table p Rest more rest e f x y = (rest, (x, y))
+joins_table false _ p Rest more rest e f x y = absurd cc
 
-child_decides : {N : Type 0} {G : Ghosts N} (tree : N → Resource) (o : Option (Layer N G)) (node : N) (at : ℕ) (levels : List Level) (keys : List ℕ) (f : Found N)
-    → IsChildOf tree o (node, at)
-    → ((level : Level) → slice_get levels at ≡ Some level → BeginsBelow keys level.keys_most (kind_of (tree node)) node at f)
-    → (l : Layer N G) (level : Level) (t : Resource) → o ≡ Some l → slice_get levels l.level ≡ Some level
-    → slice_get (children_of (tree l.table)) l.at ≡ Some t → Decides tree keys level.keys_most l t f
-child_decides tree None node at levels keys f h begins l level t a b e = absurd h
-child_decides tree (Some m) node at levels keys f h begins l level t a b e =
-    let same : m ≡ l = cc in
-    let place : at ≡ l.level = h.1 ∙ ap (λ x. x.level) same in
-    let is : tree node ≡ t = cc in
-    let there : slice_get levels at ≡ Some level = ap (slice_get levels) place ∙ b in
+begins_alias : (b : Bool) (k : Kind) (p : Part) (Rest : List Layered → Type 0) (h : Here) → b ≡ false → k ≡ kind.Alias → Begins b k p Rest h
+begins_alias true k p Rest h e f = absurd cc
+begins_alias false kind.Alias p Rest h e f = tt
+begins_alias false _ p Rest h e f = absurd cc
+
+joins_alias : (b : Bool) (k : Kind) (p : Part) (Rest : List Layered → Type 0) (more : List Layered) → b ≡ false → k ≡ kind.Alias → Joins b k p Rest more
+joins_alias true k p Rest more e f = absurd cc
+joins_alias false kind.Alias p Rest more e f = tt
+joins_alias false _ p Rest more e f = absurd cc
+
+begins_item : (b : Bool) (k : Kind) (p : Part) (Rest : List Layered → Type 0) (h : Here) → b ≡ false → (k ≡ kind.Table → ⊥) → (k ≡ kind.Alias → ⊥)
+    → h ≡ item p → Begins b k p Rest h
+begins_item true k p Rest h e f g x = absurd cc
+begins_item false kind.Table p Rest h e f g x = absurd (f refl)
+begins_item false kind.Alias p Rest h e f g x = absurd (g refl)
+begins_item false _ p Rest h e f g x = x
+
+joins_item : (b : Bool) (k : Kind) (p : Part) (Rest : List Layered → Type 0) (more : List Layered) → b ≡ false → (k ≡ kind.Table → ⊥) → (k ≡ kind.Alias → ⊥)
+    → more ≡ [] → Joins b k p Rest more
+joins_item true k p Rest more e f g x = absurd cc
+joins_item false kind.Table p Rest more e f g x = absurd (f refl)
+joins_item false kind.Alias p Rest more e f g x = absurd (g refl)
+joins_item false _ p Rest more e f g x = x
+
+begins_long : (b : Bool) (k : Kind) (p : Part) (Rest : List Layered → Type 0) (h : Here) → b ≡ true → h ≡ fails look.PathTooLong → Begins b k p Rest h
+begins_long true k p Rest h e x = x
+begins_long false k p Rest h e x = absurd cc
+
+joins_long : (b : Bool) (k : Kind) (p : Part) (Rest : List Layered → Type 0) (more : List Layered) → b ≡ true → more ≡ [] → Joins b k p Rest more
+joins_long true k p Rest more e x = x
+joins_long false k p Rest more e x = absurd cc
+
+-- ---- one stop more
+abbrev Step : {N : Type 0} → (N → Resource) → ℕ → Part → Found N → Found N → List Layered → Type 0
+Step tree used p before after more =
+    (ls : List Layered) (ps : List Part) (h : Here) → BeginsEmpty before ls → Ends tree used after (ls ++ more) ps h → Ends tree used before ls (p ∷ ps) h
+
+step_table : {N : Type 0} (tree : N → Resource) (used : ℕ) (p : Part) → nat_lt p.most used ≡ false → kind_of p.tree ≡ kind.Table
+    → (before : Found N) → is_open_of before ≡ true → Step tree used p before (and_table before) (layered p ∷ [])
+step_table tree used p b k Nothing o = λ ls ps h e x.
+    begins_table _ _ p _ h b k (x.0, (x.1.0 ∙ ap (λ (l : List Layered). tables ((l ++ layered p ∷ []) ++ x.0)) e, x.1.1))
+step_table tree used p b k (Tables true) o = λ ls ps h e x.
+    (layered p ∷ x.0, (x.1.0 ∙ ap tables (append_assoc ls (layered p ∷ []) x.0), joins_table _ _ p _ _ x.0 b k refl x.1.1))
+step_table tree used p b k (Tables false) o = absurd cc
+step_table tree used p b k (Item n level) o = absurd cc
+step_table tree used p b k (Failed e) o = absurd cc
+
+step_item : {N : Type 0} (tree : N → Resource) (used : ℕ) (n : N) (level : Level) → nat_lt level.keys_most used ≡ false
+    → (kind_of (tree n) ≡ kind.Table → ⊥) → (kind_of (tree n) ≡ kind.Alias → ⊥)
+    → (before : Found N) → is_open_of before ≡ true → Step tree used (part_of tree n level) before (and_item before n level) []
+step_item tree used n level b t a Nothing o = λ ls ps h e x. begins_item _ _ (part_of tree n level) _ h b t a x
+step_item tree used n level b t a (Tables true) o = λ ls ps h e x.
+    ([], (x, joins_item _ _ (part_of tree n level) _ [] b t a refl))
+step_item tree used n level b t a (Tables false) o = absurd cc
+step_item tree used n level b t a (Item m other) o = absurd cc
+step_item tree used n level b t a (Failed e) o = absurd cc
+
+step_long : {N : Type 0} (tree : N → Resource) (used : ℕ) (p : Part) → nat_lt p.most used ≡ true
+    → (before : Found N) → is_open_of before ≡ true → Step tree used p before (and_error before look.PathTooLong) []
+step_long tree used p b Nothing o = λ ls ps h e x. begins_long _ _ p _ h b x
+step_long tree used p b (Tables true) o = λ ls ps h e x. ([], (x, joins_long _ _ p _ [] b refl))
+step_long tree used p b (Tables false) o = absurd cc
+step_long tree used p b (Item n level) o = absurd cc
+step_long tree used p b (Failed e) o = absurd cc
+
+alias_tables : {N : Type 0} (tree : N → Resource) (used : ℕ) (p : Part) → nat_lt p.most used ≡ false → kind_of p.tree ≡ kind.Alias
+    → (after : Found N) → is_open_of after ≡ false → IsTables after → (more : List Layered) → Step tree used p (Tables true) after more
+alias_tables tree used p b k Nothing o s more = absurd s
+alias_tables tree used p b k (Tables true) o s more = absurd cc
+alias_tables tree used p b k (Tables false) o s more = λ ls ps h e x. (more, (x, joins_alias _ _ p _ more b k))
+alias_tables tree used p b k (Item n level) o s more = absurd s
+alias_tables tree used p b k (Failed e) o s more = absurd s
+
+step_alias : {N : Type 0} (tree : N → Resource) (used : ℕ) (p : Part) → nat_lt p.most used ≡ false → kind_of p.tree ≡ kind.Alias
+    → (before : Found N) → is_open_of before ≡ true → (after : Found N) → is_open_of after ≡ false → Stays before after
+    → (more : List Layered) → Step tree used p before after more
+step_alias tree used p b k Nothing o after c s more = λ ls ps h e x. begins_alias _ _ p _ h b k
+step_alias tree used p b k (Tables true) o after c s more = alias_tables tree used p b k after c s more
+step_alias tree used p b k (Tables false) o after c s more = absurd cc
+step_alias tree used p b k (Item n level) o after c s more = absurd cc
+step_alias tree used p b k (Failed e) o after c s more = absurd cc
+
+step_closed : {N : Type 0} (tree : N → Resource) (used : ℕ) (p : Part) (before : Found N) → is_open_of before ≡ false → Step tree used p before before []
+step_closed tree used p Nothing o = absurd cc
+step_closed tree used p (Tables true) o = absurd cc
+step_closed tree used p (Tables false) o = λ ls ps h e x. x ∙ ap tables (append-nil ls)
+step_closed tree used p (Item n level) o = λ ls ps h e x. x
+step_closed tree used p (Failed e) o = λ ls ps h f x. x
+
+pub decided_closed : {N : Type 0} (f : Found N) → is_open_of f ≡ false → (ls : List Layered) → BeginsEmpty f ls
+decided_closed Nothing o ls = absurd cc
+decided_closed (Tables is_open) o ls = tt
+decided_closed (Item n level) o ls = tt
+decided_closed (Failed e) o ls = tt
+
+decided_table : {N : Type 0} (f : Found N) (ls : List Layered) → BeginsEmpty (and_table f) ls
+decided_table Nothing ls = tt
+decided_table (Tables is_open) ls = tt
+decided_table (Item n level) ls = tt
+decided_table (Failed e) ls = tt
+
+decided_item : {N : Type 0} (f : Found N) (n : N) (level : Level) (ls : List Layered) → BeginsEmpty (and_item f n level) ls
+decided_item Nothing n level ls = tt
+decided_item (Tables is_open) n level ls = tt
+decided_item (Item m other) n level ls = tt
+decided_item (Failed e) n level ls = tt
+
+decided_long : {N : Type 0} (f : Found N) (ls : List Layered) → BeginsEmpty (and_error f look.PathTooLong) ls
+decided_long Nothing ls = tt
+decided_long (Tables is_open) ls = tt
+decided_long (Item n level) ls = tt
+decided_long (Failed e) ls = tt
+
+-- ---- the records of one stop more
+pub table_adds : {N : Type 0} {G : Ghosts N} (tree : N → Resource) (used : ℕ) (n : N) (level : Level) (before : Found N) (old : List (Layer N G)) (after : Found N)
+    (new : List (Layer N G)) → nat_lt level.keys_most used ≡ false → kind_of (tree n) ≡ kind.Table → is_open_of before ≡ true → after ≡ and_table before
+    → AddsLayer tree n level old new → Adds tree used (part_of tree n level) before old after new
+table_adds {N} tree used n level before old after new b k o is a =
+    let begins : (ls : List Layered) → BeginsEmpty after ls = λ ls. rw is (decided_table before ls) in
     record {
-      node = node;
-      is = is;
-      begins = subst (λ (n : ℕ). BeginsBelow keys level.keys_most (kind_of t) node n f) place
-          (subst (λ (r : Resource). BeginsBelow keys level.keys_most (kind_of r) node at f) is (begins level there));
+      more = a.layer ∷ [];
+      layers = a.layers;
+      decided = begins;
+      ends = λ ls ps h e x.
+          step_table tree used (part_of tree n level) b k before o ls ps h e
+          (subst (λ (l : Layered). Ends tree used (and_table before) (ls ++ l ∷ []) ps h) a.is
+          (subst (λ (f : Found N). Ends tree used f (ls ++ layered_in tree (a.layer ∷ [])) ps h) is x));
     }
 
--- what the next child of a layer decides
-pub child_first : {N : Type 0} {G : Ghosts N} (tree : N → Resource) (layers : List (Layer N G)) (i : ℕ) (node : N) (at : ℕ) (levels : List Level) (keys : List ℕ)
-    (r : Result (Found N) TreeError) → IsChildOf tree (slice_get layers i) (node, at)
-    → ((level : Level) → slice_get levels at ≡ Some level → IfOk r (BeginsBelow keys level.keys_most (kind_of (tree node)) node at))
-    → IfOk r (FirstDecides tree layers levels keys i)
-child_first tree layers i node at levels keys (Ok f) h begins = λ l level t a b e. child_decides tree (slice_get layers i) node at levels keys f h begins l level t a b e
-child_first tree layers i node at levels keys (Err e) h begins = tt
+pub item_adds : {N : Type 0} {G : Ghosts N} (tree : N → Resource) (used : ℕ) (n : N) (level : Level) (before : Found N) (old : List (Layer N G)) (after : Found N)
+    → nat_lt level.keys_most used ≡ false → (kind_of (tree n) ≡ kind.Table → ⊥) → (kind_of (tree n) ≡ kind.Alias → ⊥) → is_open_of before ≡ true
+    → after ≡ and_item before n level → Adds tree used (part_of tree n level) before old after old
+item_adds {N} tree used n level before old after b t a o is = record {
+  more = [];
+  layers = sym (append-nil old);
+  decided = λ ls. rw is (decided_item before n level ls);
+  ends = λ ls ps h e x.
+      step_item tree used n level b t a before o ls ps h e
+      (subst (λ (f : Found N). Ends tree used f (ls ++ []) ps h) is x);
+}
 
-none_decides : {N : Type 0} {G : Ghosts N} (tree : N → Resource) (o : Option (Layer N G)) (keys : List ℕ) (most : ℕ) (f : Found N) → HasNoChild tree o
-    → (l : Layer N G) (t : Resource) → o ≡ Some l → slice_get (children_of (tree l.table)) l.at ≡ Some t → Decides tree keys most l t f
-none_decides tree None keys most f h l t a e = absurd cc
-none_decides tree (Some m) keys most f h l t a e = let same : m ≡ l = cc in absurd cc
+pub long_adds : {N : Type 0} {G : Ghosts N} (tree : N → Resource) (used : ℕ) (n : N) (level : Level) (before : Found N) (old : List (Layer N G)) (after : Found N)
+    → nat_lt level.keys_most used ≡ true → is_open_of before ≡ true → after ≡ and_error before look.PathTooLong
+    → Adds tree used (part_of tree n level) before old after old
+long_adds {N} tree used n level before old after b o is = record {
+  more = [];
+  layers = sym (append-nil old);
+  decided = λ ls. rw is (decided_long before ls);
+  ends = λ ls ps h e x.
+      step_long tree used (part_of tree n level) b before o ls ps h e
+      (subst (λ (f : Found N). Ends tree used f (ls ++ []) ps h) is x);
+}
 
--- a layer without a next child decides nothing
-pub none_first : {N : Type 0} {G : Ghosts N} (tree : N → Resource) (layers : List (Layer N G)) (i : ℕ) (levels : List Level) (keys : List ℕ) (f : Found N)
-    → HasNoChild tree (slice_get layers i) → FirstDecides tree layers levels keys i f
-none_first tree layers i levels keys f h l level t a b e = none_decides tree (slice_get layers i) keys level.keys_most f h l t a e
+pub alias_adds : {N : Type 0} {G : Ghosts N} (tree : N → Resource) (used : ℕ) (n : N) (level : Level) (before : Found N) (old : List (Layer N G)) (after : Found N)
+    (new : List (Layer N G)) → nat_lt level.keys_most used ≡ false → kind_of (tree n) ≡ kind.Alias → is_open_of before ≡ true → is_open_of after ≡ false
+    → Stays before after → Grows old new → Adds tree used (part_of tree n level) before old after new
+alias_adds tree used n level before old after new b k o c s g = record {
+  more = g.0;
+  layers = g.1;
+  decided = λ ls. decided_closed after c ls;
+  ends = step_alias tree used (part_of tree n level) b k before o after c s (layered_in tree g.0);
+}
+
+pub closed_adds : {N : Type 0} {G : Ghosts N} (tree : N → Resource) (used : ℕ) (p : Part) (before : Found N) (old : List (Layer N G))
+    → is_open_of before ≡ false → Adds tree used p before old before old
+closed_adds tree used p before old o = record {
+  more = [];
+  layers = sym (append-nil old);
+  decided = λ ls. decided_closed before o ls;
+  ends = λ ls ps h e x.
+      step_closed tree used p before o ls ps h e x;
+}
+
+-- no stop is left
+pub ends_here : {N : Type 0} (tree : N → Resource) (used : ℕ) (f : Found N) (ls : List Layered) → Ends tree used f ls [] (here_of tree f ls)
+ends_here tree used Nothing ls = refl
+ends_here tree used (Tables true) ls = ([], (sym (ap tables (append-nil ls)), refl))
+ends_here tree used (Tables false) ls = refl
+ends_here tree used (Item n level) ls = refl
+ends_here tree used (Failed e) ls = refl
+
+-- ---- the same of what a call returned
+pub ok_table_adds : {N : Type 0} {G : Ghosts N} (tree : N → Resource) (used : ℕ) (n : N) (level : Level) (before : Found N) (old : List (Layer N G))
+    (r : Result (Found N) TreeError) (new : List (Layer N G)) → nat_lt level.keys_most used ≡ false → kind_of (tree n) ≡ kind.Table → is_open_of before ≡ true
+    → IfOk r (λ after. after ≡ and_table before) → IfOk r (λ _. AddsLayer tree n level old new)
+    → IfOk r (λ after. Adds tree used (part_of tree n level) before old after new)
+ok_table_adds tree used n level before old (Ok after) new b k o is a = table_adds tree used n level before old after new b k o is a
+ok_table_adds tree used n level before old (Err e) new b k o is a = tt
+
+pub ok_alias_adds : {N : Type 0} {G : Ghosts N} (tree : N → Resource) (used : ℕ) (n : N) (level : Level) (before : Found N) (old : List (Layer N G))
+    (r : Result (Found N) TreeError) (new : List (Layer N G)) → nat_lt level.keys_most used ≡ false → kind_of (tree n) ≡ kind.Alias → is_open_of before ≡ true
+    → IfOk r (Stays before) → IfOk r (λ after. is_open_of after ≡ false) → IfOk r (λ _. Grows old new)
+    → IfOk r (λ after. Adds tree used (part_of tree n level) before old after new)
+ok_alias_adds tree used n level before old (Ok after) new b k o s c g = alias_adds tree used n level before old after new b k o c s g
+ok_alias_adds tree used n level before old (Err e) new b k o s c g = tt

@@ -1,4 +1,17 @@
 pub mod Answers
+pub mod Asked
+pub mod AtPath
 pub mod Earliest
+pub mod Entries
+pub mod Keys
+pub mod Layers
 pub mod Leaves
+pub mod Members
 pub mod Merges
+pub mod Nexts
+pub mod Places
+pub mod Roots
+pub mod Texts
+pub mod Trails
+pub mod Values
+pub mod Walks

@@ -1,2 +1,6 @@
+pub mod AtPath
 pub mod Earlier
 pub mod Merging
+pub mod Paths
+pub mod Trails
+pub mod Written

@@ -1,9 +1,15 @@
 //! From an item to what a place has: aliases are followed as a lookup follows them.
 
-ghost use Rattle.std.specs.Prelude.{◌≡◌, IfOk, Some, slice_get};
-ghost use Rattle.rb_tree.specs.Parts.{kind_of};
-ghost use Rattle.rb_inherit.specs.declared.place.Level.{Level};
-ghost use Rattle.rb_inherit.specs.inner.Earlier.{BeginsBelow, Stays};
+ghost use Rattle.std.specs.Prelude.{◌≡◌, ◌<◌, ℕ, [], IfOk, List, None, false, length, map, true};
+ghost use Rattle.rb_tree.specs.Path.{IsPath, segments};
+ghost use Rattle.rb_parents.specs.Trail.{names, stops, trail};
+ghost use Rattle.rb_inherit.specs.Merged.{Decides, at_path, room_below};
+ghost use Rattle.rb_inherit.specs.inner.AtPath.{AddsStops, CanAsk, HasParts, IsNew};
+ghost use Rattle.rb_inherit.specs.inner.AtPath.{parts_in, path_in};
+ghost use Rattle.rb_inherit.specs.inner.Earlier.{Adds, Grows, Stays, closed_of, here_of};
+ghost use Rattle.rb_inherit.specs.inner.Earlier.{is_open_of, layered_in, part_of};
+ghost use Rattle.rb_inherit.specs.inner.Paths.{steps_of};
+ghost use Rattle.rb_inherit.specs.inner.Trails.{IsKept, trees_in};
 
 use crate::error::TreeError;
 use crate::found::Found;
@@ -33,7 +39,7 @@ pub(crate) struct After<N> {
 }
 
 fn ended<N>(found: Found<N>) -> After<N>
-    ensures { result.found ≡ found }
+    ensures { result ≡ record { found = found; link = None } }
 {
     After { found, link: None }
 }
@@ -51,7 +57,9 @@ fn push_path_to<N: Node>(
     place: &mut Place<N>,
     link: Link<N>,
     path_at: Option<usize>,
-) -> Result<bool, TreeError> {
+) -> Result<bool, TreeError>
+    ensures { place.new ≡ record place.old { paths = place.new.paths } }
+{
     let begin = place.paths.len();
     match path_at {
         None => {
@@ -88,7 +96,9 @@ fn target_of<N: Node>(node: N, valid: &Name) -> Result<Target, LookError> {
 fn level_of<N: Node>(
     place: &mut Place<N>,
     link: Link<N>,
-) -> Result<Result<(Name, Level), LookError>, TreeError> {
+) -> Result<Result<(Name, Level), LookError>, TreeError>
+    ensures { place.new ≡ record place.old { paths = place.new.paths } }
+{
     let target = match target_of(link.node, &place.valid) {
         Ok(target) => target,
         Err(error) => return Ok(Err(error)),
@@ -107,32 +117,38 @@ fn level_of<N: Node>(
 }
 
 /// Adds what the stops of the last trail have at the end of a level's path, up to one that decides.
-#[tactic(auto, using(crate::proofs::Earliest::stays_itself, crate::proofs::Earliest::stays_on))]
+#[tactic(auto, using(crate::proofs::Earliest::stays_itself, crate::proofs::Earliest::stays_on, crate::proofs::Earliest::grows_itself, crate::proofs::Earliest::grows_on))]
 fn add_stops<N: Node>(
     place: &mut Place<N>,
     before: Found<N>,
     level: Level,
-    at: usize,
 ) -> Result<After<N>, TreeError>
-    ensures { IfOk result (λ after. Stays before after.found) }
+    ensures stays { IfOk result (λ after. Stays before after.found) }
+    ensures layers { IfOk result (λ _. Grows place.old.layers.items place.new.layers.items) }
+    ensures rest { place.new ≡ record place.old { layers = place.new.layers } }
+    ensures adds { CanAsk (length place.old.keys.items) place.old.paths.items level before
+        → IfOk result (λ after. AddsStops N.tree (length place.old.keys.items)
+        (parts_in level.keys_most (map N.tree place.old.trail.roots.items)
+        (steps_of (path_in place.old.paths.items level))) before place.old.layers.items
+        after.found after.link place.new.layers.items) }
 {
     let mut found = before;
     let mut is_missing = true;
     for i in 0..place.trail.roots.len() {
-        let Some(root) = place.trail.roots.get(i).copied() else {
-            break;
-        };
+        let root = place.trail.roots[i];
         match walk_on(root, place.path(level)) {
-            Walked::Gone => continue,
-            Walked::End(node) => found = place.add(found, node, at)?,
+            Walked::Gone => {}
+            Walked::End(node) => {
+                found = place.add(found, node, level)?;
+                is_missing = false;
+                if !found.is_open() {
+                    return Ok(ended(found));
+                }
+            }
             Walked::Link(node, rest) => {
                 let link = Some(Link { node, level, rest });
                 return Ok(After { found, link });
             }
-        }
-        is_missing = false;
-        if !found.is_open() {
-            break;
         }
     }
     if is_missing {
@@ -142,7 +158,7 @@ fn add_stops<N: Node>(
 }
 
 /// Adds what a level of a name has at the end of its path.
-#[tactic(auto, using(crate::proofs::Earliest::stays_itself, crate::proofs::Earliest::stays_on))]
+#[tactic(auto, using(crate::proofs::Earliest::stays_itself, crate::proofs::Earliest::stays_on, crate::proofs::Earliest::grows_itself, crate::proofs::Earliest::grows_on))]
 fn add_level<T: Stops>(
     shelves: T,
     place: &mut Place<T::N>,
@@ -150,7 +166,20 @@ fn add_level<T: Stops>(
     name: &Name,
     level: Level,
 ) -> Result<After<T::N>, TreeError>
-    ensures { IfOk result (λ after. Stays found after.found) }
+    ensures stays { IfOk result (λ after. Stays found after.found) }
+    ensures layers { IfOk result (λ _. Grows place.old.layers.items place.new.layers.items) }
+    ensures keys { place.new.keys.items ≡ place.old.keys.items }
+    ensures adds { CanAsk (length place.old.keys.items) place.old.paths.items level found
+        → IsKept T.N.tree (T.bundles shelves) (T.parents shelves) place.old.trail
+        → (ns : List (List ℕ))
+        → trail (T.bundles shelves level.icudata) (T.parents shelves) name.now ≡ names ns
+        → 0 < length (trees_in (T.bundles shelves level.icudata)
+        (stops (T.bundles shelves level.icudata) ns))
+        → IfOk result (λ after. AddsStops T.N.tree (length place.old.keys.items)
+        (parts_in level.keys_most (trees_in (T.bundles shelves level.icudata)
+        (stops (T.bundles shelves level.icudata) ns))
+        (steps_of (path_in place.old.paths.items level))) found place.old.layers.items
+        after.found after.link place.new.layers.items) }
 {
     if let Err(fault) = find_stops(shelves, place, level.icudata, name)? {
         place.spend(1)?;
@@ -161,19 +190,20 @@ fn add_level<T: Stops>(
     if place.trail.roots.is_empty() {
         return Ok(ended(found.with_error(LookError::NoBundle)));
     }
-    let at = place.push_level(level)?;
-    add_stops(place, found, level, at)
+    add_stops(place, found, level)
 }
 
 /// Adds what the level has to which an alias leads.
-#[tactic(auto, using(crate::proofs::Earliest::stays_itself, crate::proofs::Earliest::stays_on))]
+#[tactic(auto, using(crate::proofs::Earliest::stays_itself, crate::proofs::Earliest::stays_on, crate::proofs::Earliest::grows_itself, crate::proofs::Earliest::grows_on))]
 fn add_link<T: Stops>(
     shelves: T,
     place: &mut Place<T::N>,
     found: Found<T::N>,
     link: Link<T::N>,
 ) -> Result<After<T::N>, TreeError>
-    ensures { IfOk result (λ after. Stays found after.found) }
+    ensures stays { IfOk result (λ after. Stays found after.found) }
+    ensures layers { IfOk result (λ _. Grows place.old.layers.items place.new.layers.items) }
+    ensures keys { place.new.keys.items ≡ place.old.keys.items }
 {
     // a long text is read whole, and its tree may have it often
     place.spend((link.node.len() as u64 / 64).saturating_add(1))?;
@@ -185,13 +215,18 @@ fn add_link<T: Stops>(
 
 /// Adds what the levels have to which aliases lead, one after another. No later stop is asked: the
 /// result after an alias is final.
-#[tactic(auto, using(crate::proofs::Earliest::stays_itself, crate::proofs::Earliest::stays_on))]
+#[tactic(auto, using(crate::proofs::Earliest::stays_itself, crate::proofs::Earliest::stays_on, crate::proofs::Earliest::grows_itself, crate::proofs::Earliest::grows_on))]
 fn add_links<T: Stops>(
     shelves: T,
     place: &mut Place<T::N>,
     before: After<T::N>,
 ) -> Result<Found<T::N>, TreeError>
-    ensures { IfOk result (Stays before.found) }
+    ensures stays { IfOk result (Stays before.found) }
+    ensures closed { IfOk result (λ after. is_open_of after ≡ false) }
+    ensures layers { IfOk result (λ _. Grows place.old.layers.items place.new.layers.items) }
+    ensures keys { place.new.keys.items ≡ place.old.keys.items }
+    ensures none { before.link ≡ None → IfOk result (λ after. after ≡ closed_of before.found) }
+    ensures stay { before.link ≡ None → place.new ≡ place.old }
 {
     let After {
         mut found,
@@ -208,30 +243,19 @@ fn add_links<T: Stops>(
     Ok(found.closed())
 }
 
-/// Adds a child of a table or an array to what the place has, which its key already names.
-#[tactic(auto, using(crate::proofs::Earliest::stays_itself, crate::proofs::Earliest::stays_on))]
-pub(crate) fn add_child<T: Stops>(
+/// Adds what an alias leads to that is a child of a table or an array.
+fn add_alias<T: Stops>(
     shelves: T,
     place: &mut Place<T::N>,
     found: Found<T::N>,
     node: T::N,
-    at: usize,
+    level: Level,
 ) -> Result<Found<T::N>, TreeError>
     ensures stays { IfOk result (Stays found) }
-    ensures first { found ≡ Found.Nothing → (level : Level)
-        → slice_get place.old.levels.items at ≡ Some level
-        → IfOk result (BeginsBelow place.old.keys.items level.keys_most
-        (kind_of (T.N.tree node)) node at) }
+    ensures closed { IfOk result (λ after. is_open_of after ≡ false) }
+    ensures layers { IfOk result (λ _. Grows place.old.layers.items place.new.layers.items) }
+    ensures keys { place.new.keys.items ≡ place.old.keys.items }
 {
-    let Some(level) = place.levels.get(at).copied() else {
-        return Ok(found);
-    };
-    if place.is_long(level) {
-        return Ok(found.with_error(LookError::PathTooLong));
-    }
-    if node.kind() != Kind::Alias {
-        return place.add(found, node, at);
-    }
     let link = Some(Link {
         node,
         level,
@@ -240,17 +264,47 @@ pub(crate) fn add_child<T: Stops>(
     add_links(shelves, place, After { found, link })
 }
 
+/// Adds a child of a table or an array to what the place has, which its key already names.
+pub(crate) fn add_child<T: Stops>(
+    shelves: T,
+    place: &mut Place<T::N>,
+    found: Found<T::N>,
+    node: T::N,
+    level: Level,
+) -> Result<Found<T::N>, TreeError>
+    requires { is_open_of found ≡ true }
+    ensures adds { IfOk result (λ after. Adds T.N.tree (length place.old.keys.items)
+        (part_of T.N.tree node level) found place.old.layers.items after place.new.layers.items) }
+    ensures keys { place.new.keys.items ≡ place.old.keys.items }
+{
+    if place.is_long(level) {
+        return Ok(found.with_error(LookError::PathTooLong));
+    }
+    match node.kind() {
+        Kind::Alias => add_alias(shelves, place, found, node, level),
+        Kind::Table => place.add_table(found, node, level),
+        _ => Ok(found.with_item(node, level)),
+    }
+}
+
 /// Adds what the stops of a name have at the path of a tree.
 pub(crate) fn add_root<T: Stops>(
     shelves: T,
     place: &mut Place<T::N>,
     name: &Name,
     path: &[u8],
-) -> Result<Found<T::N>, TreeError> {
+) -> Result<Found<T::N>, TreeError>
+    ensures keys { IfOk result (λ _. place.new.keys.items ≡ place.old.keys.items) }
+    ensures decides { IsNew place.old → IsPath path.now
+        → (p : HasParts (T.bundles shelves false) (T.parents shelves) name.now path.now)
+        → IfOk result (λ found. Decides 0 (at_path (room_below (length path.now))
+        (T.bundles shelves false) (stops (T.bundles shelves false) p.ns) (segments path.now))
+        (here_of T.N.tree found (layered_in T.N.tree place.new.layers.items))) }
+{
     let begin = place.paths.len();
-    if push_text(&mut place.paths, path).is_err() {
+    let Ok(()) = push_text(&mut place.paths, path) else {
         return Err(TreeError::Memory);
-    }
+    };
     let level = place.level_from(false, 1, begin, usize::MAX);
     let after = add_level(shelves, place, Found::Nothing, name, level)?;
     add_links(shelves, place, after)

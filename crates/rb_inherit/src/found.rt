@@ -1,5 +1,6 @@
 //! What a place of the tree has, as the stops are asked in order.
 
+use crate::place::Level;
 use rb_fallback::LookError;
 
 /// What the stops that were asked have at a place.
@@ -10,18 +11,19 @@ pub(crate) enum Found<N> {
     /// Tables, which are merged; more may follow while it is open.
     Tables { is_open: bool },
     /// An item other than a table, of a level.
-    Item { node: N, level: usize },
+    Item { node: N, level: Level },
     /// An alias that can't be followed.
     Failed(LookError),
 }
 
 impl<N: Copy> Found<N> {
-    ghost use Rattle.std.specs.Prelude.{◌≡◌, true};
-    ghost use Rattle.rb_inherit.specs.inner.Earlier.{IsTables, Stays};
+    ghost use Rattle.std.specs.Prelude.{◌≡◌, false};
+    ghost use Rattle.rb_inherit.specs.inner.Earlier.{Stays, and_error, and_item, and_table};
+    ghost use Rattle.rb_inherit.specs.inner.Earlier.{closed_of, is_open_of};
 
     /// Returns true if a later stop may add to it.
     pub(crate) fn is_open(&self) -> bool
-        ensures { self.now ≡ Found.Nothing → result ≡ true }
+        ensures { result ≡ is_open_of self.now }
     {
         match self {
             Found::Nothing => true,
@@ -33,7 +35,7 @@ impl<N: Copy> Found<N> {
     /// Returns what a place has if the next stop has a table.
     pub(crate) fn with_table(self) -> Found<N>
         ensures stays { Stays self result }
-        ensures first { self ≡ Found.Nothing → IsTables result }
+        ensures is { result ≡ and_table self }
     {
         match self {
             Found::Nothing => Found::Tables { is_open: true },
@@ -42,9 +44,9 @@ impl<N: Copy> Found<N> {
     }
 
     /// Returns what a place has if the next stop has another item, which ends tables.
-    pub(crate) fn with_item(self, node: N, level: usize) -> Found<N>
+    pub(crate) fn with_item(self, node: N, level: Level) -> Found<N>
         ensures stays { Stays self result }
-        ensures first { self ≡ Found.Nothing → result ≡ Found.Item node level }
+        ensures is { result ≡ and_item self node level }
     {
         match self {
             Found::Nothing => Found::Item { node, level },
@@ -55,9 +57,12 @@ impl<N: Copy> Found<N> {
 
     /// Returns what a place has if no later stop is asked, as after an alias.
     pub(crate) fn closed(self) -> Found<N>
-        ensures { Stays self result }
+        ensures stays { Stays self result }
+        ensures closed { is_open_of result ≡ false }
+        ensures is { result ≡ closed_of self }
     {
         match self {
+            Found::Nothing => Found::Failed(LookError::Missing),
             Found::Tables { .. } => Found::Tables { is_open: false },
             found => found,
         }
@@ -66,7 +71,7 @@ impl<N: Copy> Found<N> {
     /// Returns what a place has if a lookup of it fails at the next stop, which ends tables.
     pub(crate) fn with_error(self, error: LookError) -> Found<N>
         ensures stays { Stays self result }
-        ensures first { self ≡ Found.Nothing → result ≡ Found.Failed error }
+        ensures is { result ≡ and_error self error }
     {
         match self {
             Found::Nothing => Found::Failed(error),

@@ -1,23 +1,36 @@
 //! The tables that are merged.
 
-ghost use Rattle.std.specs.Prelude.{◌≡◌, option_map, slice_get};
+ghost use Rattle.std.specs.Prelude.{◌≡◌, ◌<◌, IfSome, option_map, slice_get};
 ghost use Rattle.std.specs.Option.{option_copied};
 ghost use Rattle.std.specs.Map.{keys_of};
 ghost use Rattle.rb_tree.specs.Parts.{children_of, kind_of, len_of, pairs_of};
 ghost use Rattle.rb_tree.specs.declared.kind.Kind.TheVariants as Kinds;
 
+use crate::place::Level;
 use rb_tree::Node;
 use std::alloc::AllocError;
 
+/// A table, and the number of its entries.
+pub(crate) struct Table<N: Node> {
+    pub(crate) node: N,
+    pub(crate) len: usize,
+    ghost is_table: { kind_of (N.tree node) ≡ Kinds.Table },
+    ghost counts: { len ≡ len_of (N.tree node) },
+}
+
+impl<N: Node> Clone for Table<N> {
+    fn clone(&self) -> Result<Table<N>, AllocError> {
+        Ok(*self)
+    }
+}
+
+impl<N: Node> Copy for Table<N> {}
+
 /// A table that is merged with others, and its first entry that isn't written yet.
 pub(crate) struct Layer<N: Node> {
-    pub(crate) table: N,
-    /// The number of the table's entries.
-    pub(crate) len: usize,
+    pub(crate) table: Table<N>,
     pub(crate) at: usize,
-    pub(crate) level: usize,
-    ghost is_table: { kind_of (N.tree table) ≡ Kinds.Table },
-    ghost counts: { len ≡ len_of (N.tree table) },
+    pub(crate) level: Level,
 }
 
 impl<N: Node> Clone for Layer<N> {
@@ -30,12 +43,15 @@ impl<N: Node> Copy for Layer<N> {}
 
 impl<N: Node> Layer<N> {
     /// Returns a table none of whose entries is written yet.
-    pub(crate) fn of(table: N, level: usize) -> Layer<N>
-        requires { kind_of (N.tree table) ≡ Kinds.Table }
+    pub(crate) fn of(node: N, level: Level) -> Layer<N>
+        requires { kind_of (N.tree node) ≡ Kinds.Table }
+        ensures node { result.table.node ≡ node }
+        ensures at { result.at ≡ 0 }
+        ensures level { result.level ≡ level }
     {
+        let len = node.len();
         Layer {
-            table,
-            len: table.len(),
+            table: Table { node, len },
             at: 0,
             level,
         }
@@ -44,10 +60,10 @@ impl<N: Node> Layer<N> {
     /// Returns the next key.
     pub(crate) fn key(&self) -> Option<&[u8]>
         ensures { option_copied result
-            ≡ slice_get (keys_of (pairs_of (N.tree self.now.table))) self.now.at }
+            ≡ slice_get (keys_of (pairs_of (N.tree self.now.table.node))) self.now.at }
     {
-        if self.at < self.len {
-            Some(self.table.key_at(self.at))
+        if self.at < self.table.len {
+            Some(self.table.node.key_at(self.at))
         } else {
             None
         }
@@ -55,11 +71,12 @@ impl<N: Node> Layer<N> {
 
     /// Returns the next child.
     pub(crate) fn child(&self) -> Option<N>
-        ensures { option_map N.tree result
-            ≡ slice_get (children_of (N.tree self.now.table)) self.now.at }
+        ensures child { option_map N.tree result
+            ≡ slice_get (children_of (N.tree self.now.table.node)) self.now.at }
+        ensures within { IfSome result (λ _. self.now.at < 18446744073709551615) }
     {
-        if self.at < self.len {
-            Some(self.table.at(self.at))
+        if self.at < self.table.len {
+            Some(self.table.node.at(self.at))
         } else {
             None
         }

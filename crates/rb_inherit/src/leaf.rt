@@ -11,6 +11,8 @@ ghost use Rattle.rb_json.specs.Value.{key_text, tagged, value_of};
 ghost use Rattle.rb_json.specs.inner.Listed.{listed};
 ghost use Rattle.rb_json.specs.inner.Run.{IsRun};
 ghost use Rattle.rb_inherit.specs.Leaves.{IsLeaf};
+ghost use Rattle.rb_inherit.specs.inner.Written.{IsLeafOf};
+ghost use Rattle.rb_inherit.specs.Merged.{Writes};
 
 use rb_json::{
     Outlet, is_well_formed, signed, skips_items, spell_bytes, spell_hex, spell_integer, spell_text,
@@ -174,8 +176,10 @@ pub(crate) fn put_error<O: Outlet>(out: &mut O, code: &str)
 
 /// Writes an item that has no children, in the form of `json_text`.
 pub(crate) fn put_leaf<O: Outlet, N: Node>(out: &mut O, node: N)
-    ensures { IsLeaf (kind_of (N.tree node))
+    ensures leaf { IsLeaf (kind_of (N.tree node))
         → O.takes out.old out.new (compact_text (value_of (N.tree node))) }
+    ensures value { Writes (O.takes out.old out.new)
+        (IsLeafOf (kind_of (N.tree node)) (N.tree node)) }
 {
     match node.kind() {
         Kind::String => put_string(out, node),

@@ -1,13 +1,14 @@
 //! The keys of tables that are merged, in ascending order.
 
-use crate::place::Place;
+use crate::layer::Layer;
+use crate::place::{Level, Place};
 use rb_tree::Node;
 
 impl<N: Node> Place<N> {
-    ghost use Rattle.std.specs.Prelude.{◌≡◌, ◌↔◌, IfNone, IfSome, IsTrue, Some, slice_get};
+    ghost use Rattle.std.specs.Prelude.{◌≡◌, IfNone, IfSome, false, slice_get};
     ghost use Rattle.std.specs.Option.{option_copied};
-    ghost use Rattle.rb_inherit.specs.inner.Merging.{HasNoChild, IsChildOf, IsLeast, key_in};
-    ghost use Rattle.rb_inherit.specs.inner.Merging.{precedes};
+    ghost use Rattle.rb_inherit.specs.inner.Merging.{HasNoChild, HasNoKey, IsLeast, Takes};
+    ghost use Rattle.rb_inherit.specs.inner.Merging.{is_key, key_in, precedes};
 
     /// Returns the next key of a layer.
     fn next_key(&self, i: usize) -> Option<&[u8]>
@@ -15,6 +16,16 @@ impl<N: Node> Place<N> {
     {
         match self.layers.get(i) {
             Some(layer) => layer.key(),
+            None => None,
+        }
+    }
+
+    /// Returns a layer.
+    pub(crate) fn layer(&self, i: usize) -> Option<Layer<N>>
+        ensures { result ≡ slice_get self.now.layers.items i }
+    {
+        match self.layers.get(i) {
+            Some(layer) => Some(*layer),
             None => None,
         }
     }
@@ -47,19 +58,29 @@ impl<N: Node> Place<N> {
         least
     }
 
+    /// Checks whether one of some layers has a next key.
+    pub(crate) fn has_key(&self, from: usize, to: usize) -> bool
+        ensures { result ≡ false → HasNoKey (key_in N.tree self.now.layers.items) from to }
+    {
+        match self.next_key(self.least(from, to)) {
+            Some(_) => true,
+            None => false,
+        }
+    }
+
     /// Counts the entries of some layers.
     pub(crate) fn entry_count(&self, from: usize, to: usize) -> usize {
         let mut count = 0usize;
         for layer in self.layers.get(from..to).unwrap_or(&[]) {
-            count = count.saturating_add(layer.len);
+            count = count.saturating_add(layer.table.len);
         }
         count
     }
 
     /// Returns the next child of a layer, and the layer's level. The layer's next entry is then the
     /// one after it.
-    pub(crate) fn take_child(&mut self, i: usize) -> Option<(N, usize)>
-        ensures some { IfSome result (IsChildOf N.tree (slice_get self.old.layers.items i)) }
+    pub(crate) fn take_child(&mut self, i: usize) -> Option<(N, Level)>
+        ensures some { IfSome result (Takes N.tree self.old.layers.items i self.new.layers.items) }
         ensures none { IfNone result (HasNoChild N.tree (slice_get self.old.layers.items i)) }
         ensures rest { self.new ≡ record self.old { layers = self.new.layers } }
     {
@@ -75,10 +96,10 @@ impl<N: Node> Place<N> {
 
     /// Checks whether a key is the next one of a layer.
     pub(crate) fn is_next(&self, i: usize, key: &[u8]) -> bool
-        ensures { IsTrue result ↔ (key_in N.tree self.now.layers.items i ≡ Some key.now) }
+        ensures { result ≡ is_key key.now (key_in N.tree self.now.layers.items i) }
     {
         match self.next_key(i) {
-            Some(next) => next == key,
+            Some(next) => key == next,
             None => false,
         }
     }

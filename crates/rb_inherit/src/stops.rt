@@ -1,5 +1,9 @@
 //! The stops of trails. Most aliases lead to the valid locale, so the last trail is kept.
 
+ghost use Rattle.std.specs.Prelude.{◌≡◌, ℕ, IfOk, List, Some, false, map, option_and_then};
+ghost use Rattle.std.specs.Prelude.{option_map, slice_get, true};
+ghost use Rattle.rb_inherit.specs.inner.Trails.{IsKept, IsTrailOf, tree_in, trees_in};
+
 use crate::error::TreeError;
 use crate::place::Place;
 use crate::shelves::Stops;
@@ -23,7 +27,9 @@ pub(crate) struct LastTrail<N> {
 
 impl<N: Node> LastTrail<N> {
     /// Returns no trail.
-    pub(crate) fn new(alloc: Global, name: Name) -> LastTrail<N> {
+    pub(crate) fn new(alloc: Global, name: Name) -> LastTrail<N>
+        ensures { result.is_known ≡ false }
+    {
         LastTrail {
             is_known: false,
             icudata: false,
@@ -34,9 +40,29 @@ impl<N: Node> LastTrail<N> {
     }
 
     /// Checks whether it is the trail of a name.
-    fn is_of(&self, icudata: bool, name: &Name) -> bool {
+    fn is_of(&self, icudata: bool, name: &Name) -> bool
+        ensures known { result ≡ true → self.now.is_known ≡ true }
+        ensures icudata { result ≡ true → self.now.icudata ≡ icudata }
+        ensures name { result ≡ true → self.now.name ≡ name.now }
+    {
         self.is_known && self.icudata == icudata && self.name.as_bytes() == name.as_bytes()
     }
+}
+
+/// Returns the root of the stop at an index of a trail.
+fn root_at<T: Stops>(shelves: T, icudata: bool, route: &Route, i: usize) -> Option<T::N>
+    ensures { (ns : List (List ℕ))
+        → map (slice_get route.now.names.items) route.now.stops.items ≡ map Some ns
+        → option_map T.N.tree result
+        ≡ option_and_then (tree_in (T.bundles shelves icudata)) (slice_get ns i) }
+{
+    let Some(stop) = route.stops.get(i) else {
+        return None;
+    };
+    let Some(name) = route.names.get(*stop as usize) else {
+        return None;
+    };
+    shelves.root(icudata, name)
 }
 
 /// Returns the roots of the stops of a trail.
@@ -45,20 +71,18 @@ fn roots_of<T: Stops>(
     shelves: T,
     icudata: bool,
     route: &Route,
-) -> Result<Vec<T::N>, TreeError> {
+) -> Result<Vec<T::N>, TreeError>
+    ensures { (ns : List (List ℕ))
+        → map (slice_get route.now.names.items) route.now.stops.items ≡ map Some ns
+        → IfOk result
+        (λ roots. map T.N.tree roots.items ≡ trees_in (T.bundles shelves icudata) ns) }
+{
     let mut roots = Vec::new(alloc);
     for i in 0..route.stops.len() {
-        let Some(stop) = route.stops.get(i) else {
-            break;
-        };
-        let Some(name) = route.names.get(*stop as usize) else {
-            continue;
-        };
-        let Some(root) = shelves.root(icudata, name) else {
-            continue;
-        };
-        if roots.push(root).is_err() {
-            return Err(TreeError::Memory);
+        if let Some(root) = root_at(shelves, icudata, route, i) {
+            let Ok(()) = roots.push(root) else {
+                return Err(TreeError::Memory);
+            };
         }
     }
     Ok(roots)
@@ -70,7 +94,13 @@ fn read_trail<T: Stops>(
     place: &mut Place<T::N>,
     icudata: bool,
     name: &Name,
-) -> Result<Result<(), TrailFault>, TreeError> {
+) -> Result<Result<(), TrailFault>, TreeError>
+    ensures rest { place.new ≡ record place.old { trail = place.new.trail } }
+    ensures trail { IfOk result (IsTrailOf T.N.tree (T.bundles shelves icudata)
+        (T.parents shelves) name.now place.new.trail.roots.items) }
+    ensures kept { IsKept T.N.tree (T.bundles shelves) (T.parents shelves) place.old.trail
+        → IsKept T.N.tree (T.bundles shelves) (T.parents shelves) place.new.trail }
+{
     let route = match shelves.route(icudata, name) {
         Ok(route) => route,
         Err(fault) => return Ok(Err(fault)),
@@ -92,7 +122,14 @@ pub(crate) fn find_stops<T: Stops>(
     place: &mut Place<T::N>,
     icudata: bool,
     name: &Name,
-) -> Result<Result<(), TrailFault>, TreeError> {
+) -> Result<Result<(), TrailFault>, TreeError>
+    ensures rest { place.new ≡ record place.old { trail = place.new.trail } }
+    ensures trail { IsKept T.N.tree (T.bundles shelves) (T.parents shelves) place.old.trail
+        → IfOk result (IsTrailOf T.N.tree (T.bundles shelves icudata)
+        (T.parents shelves) name.now place.new.trail.roots.items) }
+    ensures kept { IsKept T.N.tree (T.bundles shelves) (T.parents shelves) place.old.trail
+        → IsKept T.N.tree (T.bundles shelves) (T.parents shelves) place.new.trail }
+{
     if place.trail.is_of(icudata, name) {
         Ok(Ok(()))
     } else {

@@ -1,12 +1,15 @@
-ghost use Rattle.std.specs.Prelude.{◌≡◌, ◌↔◌, IfOk, IsTrue, Some};
+ghost use Rattle.std.specs.Prelude.{◌≡◌, ◌↔◌, IfOk, IsTrue, Some, false};
 ghost use Rattle.serde_json.specs.Written.{compact_text};
 ghost use Rattle.rb_tree.specs.Parts.{kind_of};
+ghost use Rattle.rb_tree.specs.Path.{IsPath};
 ghost use Rattle.rb_json.specs.Value.{value_of};
 ghost use Rattle.rb_parents.specs.Family.{parent_of};
 ghost use Rattle.rb_fallback.specs.Answers.{hit_of};
 ghost use Rattle.rb_fallback.specs.Search.{first_stop};
 ghost use Rattle.rb_inherit.specs.Leaves.{IsLeaf};
 ghost use Rattle.rb_inherit.specs.Lookups.{FollowsLookup, IsTreeOf};
+ghost use Rattle.rb_inherit.specs.Merged.{IsTreeAt, Writes};
+ghost use Rattle.rb_inherit.specs.inner.AtPath.{HasParts, IsNew};
 
 use crate::count::Count;
 use crate::error::TreeError;
@@ -66,8 +69,13 @@ fn put_stops<T: Stops, O: Outlet>(
     path: &[u8],
     item: T::N,
 ) -> Result<(), TreeError>
-    ensures { IfOk result (λ _. IsLeaf (kind_of (T.N.tree item))
+    ensures leaf { IfOk result (λ _. IsLeaf (kind_of (T.N.tree item))
         → O.takes out.old out.new (compact_text (value_of (T.N.tree item)))) }
+    ensures other { IsNew place.old → IsPath path.now
+        → HasParts (T.bundles shelves false) (T.parents shelves) name.now path.now
+        → IfOk result (λ _. (IsLeaf (kind_of (T.N.tree item)) → ⊥)
+        → Writes (O.takes out.old out.new)
+        (IsTreeAt (T.bundles shelves false) (T.parents shelves) name.now path.now)) }
 {
     let found = add_root(shelves, place, name, path)?;
     if is_leaf(item.kind()) {
@@ -90,8 +98,8 @@ fn put_from<'a, S: Shelf<'a>, I: Shelf<'a, N = S::N>, O: Outlet>(
     limits: TreeLimits,
 ) -> Result<Found<S::N>, TreeError>
     ensures lookup { FollowsLookup (S.bundles own) (I.bundles icu) (parent_of parents.now) name.now
-        path.now (λ f hit. (hit ≡ hit_of S.N.tree f) × IsTreeOf (O.takes out.old out.new) hit)
-        result }
+        path.now (λ f hit. (hit ≡ hit_of S.N.tree f) × IsTreeOf (S.bundles own)
+        (parent_of parents.now) name.now path.now (O.takes out.old out.new) hit) result }
     ensures valid { IfOk result
         (λ f. first_stop (S.bundles own) (parent_of parents.now) name.now ≡ Some f.valid) }
 {
@@ -125,7 +133,8 @@ pub fn put_tree<'a, S: Shelf<'a>, I: Shelf<'a, N = S::N>, O: Outlet>(
     limits: TreeLimits,
 ) -> Result<(), TreeError>
     ensures { FollowsLookup (S.bundles own) (I.bundles icu) (parent_of parents.now) name.now
-        path.now (λ _ hit. IsTreeOf (O.takes out.old out.new) hit) result }
+        path.now (λ _ hit. IsTreeOf (S.bundles own) (parent_of parents.now) name.now path.now
+        (O.takes out.old out.new) hit) result }
 {
     let _ = put_from(out, alloc, own, icu, parents, name, path, limits)?;
     Ok(())
@@ -175,7 +184,8 @@ pub fn tree_text<'a, S: Shelf<'a>, I: Shelf<'a, N = S::N>>(
     limits: TreeLimits,
 ) -> Result<Vec<u8>, TreeError>
     ensures { FollowsLookup (S.bundles own) (I.bundles icu) (parent_of parents.now) name.now
-        path.now (λ text hit. IsTreeOf (λ bytes. text.items ≡ bytes) hit) result }
+        path.now (λ text hit. IsTreeOf (S.bundles own) (parent_of parents.now) name.now path.now
+        (λ bytes. text.items ≡ bytes) hit) result }
 {
     let size = tree_size(alloc, own, icu, parents, name, path, limits)?;
     let Ok(bytes) = Vec::with_capacity(alloc, size.bytes as usize) else {

@@ -1,17 +1,18 @@
--- Defines, for private contracts, which of the tables that are merged has the next key, and what that table decides.
+-- Defines, for private contracts, which of the tables that are merged has the next key, and how they go on after it.
 -- Keys ascend by their bytes, as those of a table do (ICU `uresdata.h`).
-use Rattle.std.specs.Prelude.{◌≡◌, ◌<◌, ◌≤◌, ℕ, List, Bool, true, false, Option, Some, None}
-use Rattle.std.specs.Prelude.{option_and_then, slice_get}
+use Rattle.std.specs.Prelude.{◌≡◌, ◌<◌, ◌≤◌, ℕ, suc, List, [], ◌∷◌, ◌++◌, map, take, drop, Bool, true, false, cond}
+use Rattle.std.specs.Prelude.{Option, Some, None, option_and_then, slice_get, slice_set, nat_eq}
 use Rattle.std.specs.Map.{keys_of}
 use Rattle.std.specs.Ordering.{nat_cmp, is_lt}
-use Rattle.std.specs.Cmp.Lexicographic.{slice_cmp}
+use Rattle.std.specs.Cmp.Lexicographic.{pointwise, slice_cmp}
 use Rattle.rb_tree.specs.Resource.{Resource}
-use Rattle.rb_tree.specs.Parts.{children_of, kind_of, pairs_of}
+use Rattle.rb_tree.specs.Parts.{children_of, pairs_of}
 use Rattle.rb_tree.specs.declared.node.Node.{Ghosts}
+use Rattle.rb_inherit.specs.Merged.{Decides, Part}
 use Rattle.rb_inherit.specs.declared.found.Found.{Found}
 use Rattle.rb_inherit.specs.declared.layer.Layer.{Layer}
 use Rattle.rb_inherit.specs.declared.place.Level.{Level}
-use Rattle.rb_inherit.specs.inner.Earlier.{BeginsBelow}
+use Rattle.rb_inherit.specs.inner.Earlier.{Adds, here_of, layered_in}
 
 -- a table's key at an index, if it has so many
 abbrev pub key_of : Resource → ℕ → Option (List ℕ)
@@ -19,7 +20,7 @@ key_of t i = slice_get (keys_of (pairs_of t)) i
 
 -- the next key of the layer at an index
 abbrev pub key_in : {N : Type 0} {G : Ghosts N} → (N → Resource) → List (Layer N G) → ℕ → Option (List ℕ)
-key_in tree layers i = option_and_then (λ l. key_of (tree l.table) l.at) (slice_get layers i)
+key_in tree layers i = option_and_then (λ l. key_of (tree l.table.node) l.at) (slice_get layers i)
 
 -- one key is less than another; a layer without a next key comes last
 abbrev pub precedes : Option (List ℕ) → Option (List ℕ) → Bool
@@ -33,27 +34,63 @@ pub record IsLeast (key : ℕ → Option (List ℕ)) (from to least : ℕ) : Typ
   pub others : (i : ℕ) → from ≤ i → i < to → precedes (key i) (key least) ≡ false
   pub first : (i : ℕ) → from ≤ i → i < least → precedes (key least) (key i) ≡ true
 
--- the next child of a layer, and the layer's level
-abbrev pub IsChildOf : {N : Type 0} {G : Ghosts N} → (N → Resource) → Option (Layer N G) → N × ℕ → Type 0
-IsChildOf tree None r = ⊥
-IsChildOf tree (Some l) r = (slice_get (children_of (tree l.table)) l.at ≡ Some (tree r.0)) × (r.1 ≡ l.level)
+-- none of some layers has a next key
+abbrev pub HasNoKey : (ℕ → Option (List ℕ)) → ℕ → ℕ → Type 0
+HasNoKey key from to = (least : ℕ) × (IsLeast key from to least × (key least ≡ None))
+
+-- ---- the next entries of layers
+abbrev pub is_key : List ℕ → Option (List ℕ) → Bool
+is_key k None = false
+is_key k (Some j) = pointwise nat_eq k j
+
+-- the layer after its next entry
+abbrev pub stepped : {N : Type 0} {G : Ghosts N} → Layer N G → Layer N G
+stepped l = record l { at = suc l.at }
+
+-- the layer after its next entry, if that has the key
+abbrev pub moved : {N : Type 0} {G : Ghosts N} → (N → Resource) → List ℕ → Layer N G → Layer N G
+moved tree k l = record l { at = cond (is_key k (key_of (tree l.table.node) l.at)) (suc l.at) l.at }
+
+abbrev pub part_if : Bool → Option Resource → ℕ → List Part
+part_if false t most = []
+part_if true None most = []
+part_if true (Some t) most = record { tree = t; most = most } ∷ []
+
+-- the next child of a layer, if it has the key
+abbrev pub next_part : {N : Type 0} {G : Ghosts N} → (N → Resource) → List ℕ → Layer N G → List Part
+next_part tree k l =
+    part_if (is_key k (key_of (tree l.table.node) l.at)) (slice_get (children_of (tree l.table.node)) l.at)
+    l.level.keys_most
+
+abbrev pub next_parts : {N : Type 0} {G : Ghosts N} → (N → Resource) → List ℕ → List (Layer N G) → List Part
+next_parts tree k [] = []
+next_parts tree k (l ∷ ls) = next_part tree k l ++ next_parts tree k ls
+
+-- the next child of the layer at an index and its level were taken
+pub record Takes {N : Type 0} {G : Ghosts N} (tree : N → Resource) (old : List (Layer N G)) (i : ℕ)
+    (new : List (Layer N G)) (r : N × Level) : Type 0 where
+  pub layer : Layer N G
+  pub at : slice_get old i ≡ Some layer
+  pub child : slice_get (children_of (tree layer.table.node)) layer.at ≡ Some (tree r.0)
+  pub level : r.1 ≡ layer.level
+  pub layers : new ≡ slice_set old i (stepped layer)
 
 -- there is none
 abbrev pub HasNoChild : {N : Type 0} {G : Ghosts N} → (N → Resource) → Option (Layer N G) → Type 0
 HasNoChild tree None = Unit {0}
-HasNoChild tree (Some l) = slice_get (children_of (tree l.table)) l.at ≡ None
+HasNoChild tree (Some l) = slice_get (children_of (tree l.table.node)) l.at ≡ None
 
--- the next child of a layer decides what is found at its key
-pub record Decides {N : Type 0} {G : Ghosts N} (tree : N → Resource) (keys : List ℕ) (most : ℕ) (l : Layer N G)
-    (t : Resource) (found : Found N) : Type 0 where
-  pub node : N
-  pub is : tree node ≡ t
-  pub begins : BeginsBelow keys most (kind_of t) node l.level found
+-- the next child of the layer at an index was added to what was found
+abbrev pub AddsNext : {N : Type 0} {G : Ghosts N} → (N → Resource) → ℕ → Found N → List (Layer N G) → ℕ
+    → Found N → List (Layer N G) → Type 0
+AddsNext {N} {G} tree used before old i after new =
+    (l : Layer N G) (t : Resource) → slice_get old i ≡ Some l
+    → slice_get (children_of (tree l.table.node)) l.at ≡ Some t
+    → Adds tree used (record { tree = t; most = l.level.keys_most }) before (slice_set old i (stepped l)) after new
 
--- the first of some layers decides, if it has a next child and its level is known
-abbrev pub FirstDecides : {N : Type 0} {G : Ghosts N} → (N → Resource) → List (Layer N G) → List Level → List ℕ
-    → ℕ → Found N → Type 0
-FirstDecides {N} {G} tree layers levels keys from found =
-    (l : Layer N G) (level : Level) (t : Resource) → slice_get layers from ≡ Some l
-    → slice_get levels l.level ≡ Some level
-    → slice_get (children_of (tree l.table)) l.at ≡ Some t → Decides tree keys level.keys_most l t found
+-- what the layers from an index on have at a key was found, and they are past it
+pub record FindsAt {N : Type 0} {G : Ghosts N} (tree : N → Resource) (used : ℕ) (key : List ℕ) (from : ℕ)
+    (old : List (Layer N G)) (found : Found N) (new : List (Layer N G)) : Type 0 where
+  pub more : List (Layer N G)
+  pub layers : new ≡ (take from old ++ map (λ l. moved tree key l) (drop from old)) ++ more
+  pub decides : Decides used (next_parts tree key (drop from old)) (here_of tree found (layered_in tree more))

@@ -1,17 +1,41 @@
-use Rattle.std.proofs.Common.{◌+◌, ◌*◌}
+use Rattle.std.proofs.Common.{◌≡◌, ◌+◌, ◌*◌, length}
+use Rattle.rb_tree.specs.Parts.{children_of}
+use Rattle.rb_inherit.specs.Merged.{IsTree}
+use Rattle.rb_inherit.proofs.Entries.{Entered, ItemsSoFar}
 use Rattle.rb_inherit.proofs.tree.+tree.Given as goal
 
 abbrev pub decreases-put_found : goal.decreases-put_found
-decreases-put_found g l = 3 * l.levels
+decreases-put_found g l = 4 * l.levels
 
 abbrev pub decreases-put_tables : goal.decreases-put_tables
-decreases-put_tables g l = 3 * l.levels + 2
+decreases-put_tables g l = 4 * l.levels + 3
+
+abbrev pub decreases-put_entries : goal.decreases-put_entries
+decreases-put_entries g l = 4 * l.levels + 2
+
+abbrev pub decreases-put_at : goal.decreases-put_at
+decreases-put_at g l = 4 * l.levels + 1
 
 abbrev pub decreases-put_array : goal.decreases-put_array
-decreases-put_array g l = 3 * l.levels + 2
+decreases-put_array g l = 4 * l.levels + 3
 
-abbrev pub decreases-put_entry : goal.decreases-put_entry
-decreases-put_entry g l = 3 * l.levels + 1
+abbrev pub decreases-put_items : goal.decreases-put_items
+decreases-put_items g l = 4 * l.levels + 2
 
 abbrev pub decreases-put_element : goal.decreases-put_element
-decreases-put_element g l = 3 * l.levels + 1
+decreases-put_element g l = 4 * l.levels + 1
+
+abbrev pub invariant-put_entries-loop-i : goal.invariant-put_entries-loop-i
+invariant-put_entries-loop-i g l = record {
+  entered : Entered g.T.N.Node.tree (g.O.Outlet.takes l.fn.out l.out) (IsTree l.levels) (length l.fn.place.keys.items) l.from
+      l.fn.place.layers.items l.place.layers.items l.i;
+  keys : l.place.keys.items ≡ l.fn.place.keys.items;
+}
+
+abbrev pub invariant-put_items-loop-i : goal.invariant-put_items-loop-i
+invariant-put_items-loop-i g l = record {
+  items : ItemsSoFar (g.O.Outlet.takes l.fn.out l.out) (IsTree l.levels) (length l.fn.place.keys.items) l.level.keys_most
+      (children_of (g.T.N.Node.tree l.node)) l.i;
+  layers : l.place.layers.items ≡ l.fn.place.layers.items;
+  keys : l.place.keys.items ≡ l.fn.place.keys.items;
+}
