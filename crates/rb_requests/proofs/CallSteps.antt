@@ -1,31 +1,22 @@
 -- The results of the engine's parts, as one call under limits.
-use Rattle.std.proofs.Common.{◌≡◌, ◌≢◌, ◌⊎◌, ℕ, inl, inr, Bool, true, false, not, cond, List, length, Option, Some, None, Result, Ok, Err, refl, sym, ◌∙◌, ap, subst}
+use Rattle.std.proofs.Common.{◌≡◌, ◌≢◌, ◌⊎◌, ℕ, inl, inr, Bool, true, false, not, List, Option, Some, None, Result, Ok, Err, refl, sym, ◌∙◌, ap, subst}
 use Rattle.std.specs.Map.{remove_entry}
 use Rattle.std.specs.Str.{bytes_eq}
-use Rattle.std.specs.Prelude.{MatchBool, is_ok}
+use Rattle.std.specs.Prelude.{is_ok}
 use Rattle.std.proofs.lemmas.Bool.{false≢true}
-use Rattle.rb_tree.specs.Resource.{Resource}
-use Rattle.rb_tree.specs.SourceTree.{SourceTree}
-use Rattle.rb_format.specs.File.{source_tree_of}
-use Rattle.rb_fallback.specs.declared.found.Found.{Found}
 use Rattle.rb_packages.specs.Packages.{Files, Stored, files_of, icudata_files, OthersStay}
 use Rattle.rb_packages.specs.Usage.{apps_of}
-use Rattle.rb_engine.specs.Ask.{Call, Requests, LooksUp, Looks, IsContent, spelled, denoted, caller}
-use Rattle.rb_engine.specs.Answer.{Response, Replies, Finds, Refuses as NotFound, answer_over, refusal}
-use Rattle.rb_engine.specs.Change.{IsFileOf, files_after, RemovesAt, Removes}
+use Rattle.rb_engine.specs.Ask.{Call, Requests, caller}
+use Rattle.rb_engine.specs.Answer.{Response, Replies, refusal}
+use Rattle.rb_engine.specs.Change.{IsFileOf, files_after, Removes}
 use Rattle.rb_engine.specs.History.{Step, Answered, is_memory, is_memory_reply, may_run_out_of_memory}
 use Rattle.rb_engine.specs.Kept.{Kept, state_of}
-use Rattle.rb_engine.specs.LookResponse.{look_response}
 use Rattle.rb_engine.specs.Place.{place_of}
 use Rattle.rb_engine.specs.Source.{Reads, change_request}
-use Rattle.rb_engine.specs.Start.{HasBundle}
-use Rattle.rb_engine.specs.Steps.{takes_more}
 use Rattle.rb_engine.specs.declared.handle.Change.{Change}
 use Rattle.rb_engine.specs.declared.handle.Change.TheVariants as change
 use Rattle.rb_engine.specs.declared.place.Place.{Place}
-use Rattle.rb_engine.specs.declared.request.LookFault.{LookFault}
 use Rattle.rb_engine.specs.declared.request.Payload.{Payload}
-use Rattle.rb_engine.specs.declared.request.Payload.TheVariants.{Text, File}
 use Rattle.rb_engine.specs.declared.request.Reply.{Reply}
 use Rattle.rb_engine.specs.declared.request.Reply.TheVariants as reply
 use Rattle.rb_engine.specs.declared.request.Request.TheVariants as request
@@ -33,11 +24,11 @@ use Rattle.rb_engine.proofs.Histories.{answer_not_memory}
 use Rattle.rb_engine.proofs.StepLemmas.{app-place_of}
 use Rattle.rb_engine.proofs.Unread.{none_brought}
 use Rattle.rb_requests.specs.Limits.{is_over, payload_len, file_refusal, change_refusal, call_refusal}
-use Rattle.rb_requests.specs.Steps.{Outcome, Answers, Refuses, Brings, BringsAt, CallBrings, is_read, may_starve, Starves, IsRefused, IsAnswered, CallComesTo, put_file, taken_out, files_then}
+use Rattle.rb_requests.specs.Steps.{Answers, Refuses, BringsAt, CallBrings, is_read, may_starve, IsAnswered, CallComesTo, put_file, taken_out, files_then}
 use Rattle.rb_requests.specs.inner.LongPayload.{long_payload}
 use Rattle.rb_requests.specs.declared.limits.Limits.{Limits}
 use Rattle.rb_requests.specs.declared.limits.Refusal.{Refusal}
-use Rattle.rb_requests.specs.declared.limits.Refusal.TheVariants.{BundleTooLong, TooManySteps}
+use Rattle.rb_requests.specs.declared.limits.Refusal.TheVariants.{BundleTooLong}
 
 -- ---- a request that brings a bundle, by its change
 

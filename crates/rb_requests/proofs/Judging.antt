@@ -1,10 +1,9 @@
 -- The refusals of limits, by which limits are on.
-use Rattle.std.proofs.Common.{◌≡◌, ℕ, Bool, true, false, eqb, List, length, Option, None, refl}
+use Rattle.std.proofs.Common.{◌≡◌, ℕ, Bool, true, false, eqb, List, length, None, refl}
 use Rattle.rb_packages.specs.Packages.{Files}
 use Rattle.rb_engine.specs.declared.handle.Change.{Change}
 use Rattle.rb_requests.specs.Limits.{len_at, takes_place, file_refusal}
 use Rattle.rb_requests.specs.declared.limits.Limits.{Limits}
-use Rattle.rb_requests.specs.declared.limits.Refusal.{Refusal}
 
 -- without limits on stored files no file is refused
 pub keeps_nothing : (limits : Limits) (made : Change) (name : List ℕ) (files : Files) (apps : ℕ) (file : List ℕ) → limits.bundle_bytes ≡ None

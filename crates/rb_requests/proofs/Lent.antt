@@ -12,11 +12,12 @@ use Rattle.rb_requests.specs.declared.texts.Texts.{Texts}
 use Rattle.rb_requests.specs.Asked.{decoded, data_of}
 use Rattle.rb_requests.specs.inner.Line.{AreTextsOf, AsksNothing, lent, text_in, payload_by}
 
-text_of_member : (m : Member) (d : Data) → IsMember m d → as_str d ≡ text_in m
+pub text_of_member : (m : Member) (d : Data) → IsMember m d → as_str d ≡ text_in m
 text_of_member (members.Text s) d e = ap as_str e
-text_of_member members.Other d e = e
+text_of_member (members.Flag b) d e = ap as_str e
+text_of_member members.Other d e = e.0
 
-held_text : (t : Option Member) (x : Option Data) → IsAt t x → option_and_then as_str x ≡ lent t
+pub held_text : (t : Option Member) (x : Option Data) → IsAt t x → option_and_then as_str x ≡ lent t
 held_text None x e = ap (option_and_then as_str) e
 held_text (Some m) x (d, e, h) = ap (option_and_then as_str) e ∙ text_of_member m d h
 
@@ -26,7 +27,7 @@ payload_with x y =
     if is_some x then (if is_some y then None else option_map Text (option_and_then as_str x))
     else option_and_then (λ h. decoded (decode_of h)) (option_and_then as_str y)
 
-held_payload : (t f : Option Member) (x y : Option Data) → IsAt t x → IsAt f y → payload_with x y ≡ payload_by t f
+pub held_payload : (t f : Option Member) (x y : Option Data) → IsAt t x → IsAt f y → payload_with x y ≡ payload_by t f
 held_payload None f x y e h = ap (λ o. payload_with o y) e ∙ ap (option_and_then (λ digits. decoded (decode_of digits))) (held_text f y h)
 held_payload (Some m) None x y (d, e, h) k =
     ap (λ o. payload_with o y) e ∙ ap (payload_with (Some d)) k ∙ ap (option_map Text) (text_of_member m d h)

@@ -7,6 +7,8 @@ pub mod CallSteps
 pub mod Histories
 pub mod Quota
 pub mod Lent
+pub mod ChangesFound
+pub mod ExtendedFound
 pub mod Stepping
 pub mod NoLimits
 pub mod Placing
@@ -18,3 +20,6 @@ pub mod Serving
 pub mod LineIsolation
 pub mod LimitedLines
 pub mod ReplyLimits
+pub mod Changing
+pub mod Releasing
+pub mod Extending

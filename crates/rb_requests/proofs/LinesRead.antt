@@ -2,10 +2,9 @@
 use Rattle.std.proofs.Common.{◌≡◌, ◌<◌, ◌≤◌, ℕ, ◌+◌, ◌-◌, ◌^◌, min, Bool, true, false, cond, eqb, List, [], ◌∷◌, ◌++◌, length, Option, Some, None, refl, sym}
 use Rattle.std.proofs.Common.{◌∙◌, ap, subst, arith, append-nil, append_assoc, length-append}
 use Rattle.std.specs.Io.KnownBytes.{Consumes, Keeps, IsAtEnd}
-use Rattle.std.proofs.KnownBytes.{Consumes-nil, Consumes-trans, Consumes-kept, Consumes-all}
-use Rattle.std.proofs.lemmas.Bool.{false≢true}
+use Rattle.std.proofs.KnownBytes.{Consumes-trans, Consumes-kept, Consumes-all}
 use Rattle.std.proofs.lemmas.Bool.Decides.{nat_tests}
-use Rattle.rb_requests.specs.inner.Taken.{ReadsPlain, ReadsPart, ReadsFewer, ReadsLong, ReadsEnded, ReadsLast, ReadsEnd}
+use Rattle.rb_requests.specs.inner.Taken.{ReadsPlain, ReadsPart, ReadsLong, ReadsEnded, ReadsLast, ReadsEnd}
 use Rattle.rb_requests.specs.inner.Taken.{IsSoFar, Holds, ReadsHeld}
 use Rattle.rb_requests.specs.declared.reading.Held.{Held}
 use Rattle.rb_requests.specs.declared.reading.Longest.{Longest}

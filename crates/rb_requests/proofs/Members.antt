@@ -9,7 +9,7 @@ use Rattle.json.specs.declared.token.Token as lent
 use Rattle.json.proofs.Grammar.{value_is, value-begin_array, value-begin_object}
 use Rattle.serde_json.specs.Data.{Data, Num, null, boolean, number, object, array, Items, item, Members, no_members}
 use Rattle.serde_json.specs.Read.{of_json, of_items, of_members, converted, number_of}
-use Rattle.serde_json.specs.Find.{as_str}
+use Rattle.serde_json.specs.Find.{as_bool, as_str}
 use Rattle.rb_requests.specs.inner.Texts.{BeginsWithNoBrace}
 use Rattle.rb_requests.proofs.MembersRead.{whole, converted-object}
 
@@ -37,16 +37,16 @@ pub null_read : (depth : ℕ) (ts r : List Token) → ts ≡ Token.null ∷ r �
 null_read depth ts r e = ap (converted of_json) (ap (value depth) e ∙ value_is depth _)
 
 number_kept : (s : List ℕ) (r : List Token) (o : Option Num) → number_of s ≡ o → true ≡ is_some o
-    → (d : Data) × (as_str d ≡ None) × (converted of_json (Some (json.number s, r)) ≡ Some (d, r))
+    → (d : Data) × ((as_str d ≡ None) × (as_bool d ≡ None)) × (converted of_json (Some (json.number s, r)) ≡ Some (d, r))
 number_kept s r None e h = absurd (false≢true (sym h))
-number_kept s r (Some n) e h = (number n, refl, rw e refl)
+number_kept s r (Some n) e h = (number n, (refl, refl), rw e refl)
 
 number_lost : (s : List ℕ) (r : List Token) (o : Option Num) → number_of s ≡ o → false ≡ is_some o → converted of_json (Some (json.number s, r)) ≡ None
 number_lost s r None e h = rw e refl
 number_lost s r (Some n) e h = absurd (false≢true h)
 
 pub number_in_range : (depth : ℕ) (ts r : List Token) (s : List ℕ) → ts ≡ Token.number s ∷ r → true ≡ is_some (number_of s)
-    → (d : Data) × (as_str d ≡ None) × (converted of_json (value depth ts) ≡ Some (d, r))
+    → (d : Data) × ((as_str d ≡ None) × (as_bool d ≡ None)) × (converted of_json (value depth ts) ≡ Some (d, r))
 number_in_range depth ts r s e h =
     let k = number_kept s r (number_of s) refl h in
     (k.0, k.1, ap (converted of_json) (ap (value depth) e ∙ value_is depth _) ∙ k.2)

@@ -1,7 +1,7 @@
 -- A line within the limit on replies, or above it.
 use Rattle.std.proofs.Common.{◌≡◌, ℕ, true, false, List, length, Option, Some, None, refl, arith, codes}
 use Rattle.rb_replies.specs.Within.{IsAbove}
-use Rattle.rb_requests.specs.inner.ExportReply.{limited_line}
+use Rattle.rb_requests.specs.ExportReply.{limited_line}
 use Rattle.rb_requests.specs.Limits.{is_over}
 use Rattle.rb_requests.specs.Within.{error_line}
 use Rattle.rb_requests.specs.declared.limits.Limits.{Limits}

@@ -11,11 +11,11 @@ use Rattle.rb_requests.specs.Lines.{RepliesBy, lines_of, feeds}
 use Rattle.rb_requests.specs.Device.{risen, risen_by}
 use Rattle.rb_requests.specs.Served.{Moment, at, where_known, IsShort, Answers, AnswersWithin, FirstAnswered, IsNext, After, AfterRead}
 use Rattle.rb_requests.specs.Served.{AfterLong, AfterLimit, AfterMemory, AfterFaultWithin, reads_failed}
-use Rattle.rb_requests.specs.inner.OneLine.{Wrote, WrotePart, MayTakeEffect, FailsLine}
+use Rattle.rb_requests.specs.inner.OneLine.{Wrote, MayTakeEffect, FailsLine}
 use Rattle.rb_requests.specs.inner.Taken.{ReadsPart, ReadsFewer, ReadsLong, ReadsEnded, ReadsLast, ReadsEnd, EndsAfter}
 use Rattle.rb_requests.specs.declared.lines.Served.{Served}
 use Rattle.rb_requests.specs.declared.lines.ServeFault.{ServeFault}
-use Rattle.rb_requests.specs.declared.lines.ServeFault.TheVariants.{Read, Write, LineLimit, LineTooLong, Memory}
+use Rattle.rb_requests.specs.declared.lines.ServeFault.TheVariants.{Read, LineLimit, LineTooLong, Memory}
 use Rattle.rb_requests.proofs.LinesRead.{feeds-append, lines_of-ended, lines_of-last}
 
 pub settled : (a b c : Option (List ℕ)) (x : List ℕ) → Appends a b x → Keeps b c → Appends a c x

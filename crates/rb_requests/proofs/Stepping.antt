@@ -17,12 +17,12 @@ use Rattle.rb_requests.specs.declared.limits.Limits.{Limits}
 use Rattle.rb_replies.specs.Replied.{reply_line}
 use Rattle.rb_replies.specs.Within.{limit_of, IsAbove}
 use Rattle.rb_requests.specs.Asked.{call_in}
-use Rattle.rb_requests.specs.Within.{AnswersRead, outcome_line, may_be_long, error_line}
+use Rattle.rb_requests.specs.Within.{AnswersRead, CallReply, outcome_line, may_be_long, error_line}
 use Rattle.rb_requests.specs.declared.answer.Starved.{Starved}
 use Rattle.rb_requests.specs.declared.answer.Starved.TheVariants.{Before, After}
 use Rattle.rb_requests.specs.declared.ask.Line.{Line}
 use Rattle.rb_requests.specs.inner.Line.{line_view, AreTextsOf}
-use Rattle.rb_requests.specs.inner.Starving.{CallReply, LeavesOf, untold_reply}
+use Rattle.rb_requests.specs.inner.Starving.{LeavesOf, untold_reply}
 
 -- the call of a line, by its texts
 pub call_read : {o : Option Line} (texts : Texts) (line : Line) → ((d : Data) → AreTextsOf texts d → option_map line_view o ≡ call_in d)

@@ -1,7 +1,12 @@
 pub mod Limits
 pub mod Words
 pub mod Asked
+pub mod ExtendedAsked
 pub mod Requested
+pub mod Refused
+pub mod Released
+pub mod ExportReply
+pub mod ExtendedReply
 pub mod Lines
 pub mod Served
 pub mod Within

@@ -81,13 +81,17 @@ abbrev pub usage_reply : Kept → Result (List ℕ) AppFault → List ℕ
 usage_reply kept (Err e) = reply_line (Some (Replies (refusal (app_refusal e))))
 usage_reply kept (Ok app) = usage_line (files_of app kept.packages)
 
+-- a call is judged, and this is its reply
+abbrev pub CallReply : Limits → Kept → Call → List ℕ → Kept → Type 0
+CallReply limits old call text new =
+    (outcome : Outcome) × CallIsJudged limits old call outcome new × (text ≡ outcome_line limits outcome)
+
 -- ---- the reply to a line
 
 -- a line that is read: a call is refused by a limit or answered by the engine; a question for usage is answered; any
 -- other line is no request
 abbrev pub AnswersRead : Limits → Kept → Option Call → Option (List ℕ) → List ℕ → Kept → Type 0
-AnswersRead limits old (Some call) usage text new =
-    (outcome : Outcome) × CallIsJudged limits old call outcome new × (text ≡ outcome_line limits outcome)
+AnswersRead limits old (Some call) usage text new = CallReply limits old call text new
 AnswersRead limits old None (Some app) text new = (text ≡ usage_reply old (app_of app)) × (new ≡ old)
 AnswersRead limits old None None text new = (text ≡ error_line (codes "BadLine")) × (new ≡ old)
 

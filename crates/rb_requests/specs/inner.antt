@@ -1,6 +1,9 @@
 pub mod Line
 pub mod LongPayload
 pub mod Texts
+pub mod ChangesRead
+pub mod ExtendedRead
+pub mod ExtendedLines
 pub mod Longest
 pub mod OneLine
 pub mod Starving
@@ -8,4 +11,6 @@ pub mod Taken
 pub mod Putting
 pub mod Streaming
 pub mod Placing
-pub mod ExportReply
+pub mod Judged
+pub mod Drafted
+pub mod ExtendedTold

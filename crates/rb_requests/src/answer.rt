@@ -8,15 +8,15 @@ ghost use Rattle.rb_engine.specs.LookResponse.{look_response};
 ghost use Rattle.rb_fallback.specs.Answers.{hit_of};
 ghost use Rattle.rb_requests.specs.Steps.{Answers};
 ghost use Rattle.rb_views.specs.Seen.{tree_seen};
-ghost use Rattle.rb_requests.specs.Within.{AnswersRead, ReadReply, asked_usage, error_line};
-ghost use Rattle.rb_requests.specs.Within.{is_limited as limited, outcome_line, usage_in};
-ghost use Rattle.rb_requests.specs.Within.{usage_reply};
+ghost use Rattle.rb_requests.specs.Within.{AnswersRead, CallReply, ReadReply, asked_usage};
+ghost use Rattle.rb_requests.specs.Within.{error_line, is_limited as limited, outcome_line};
+ghost use Rattle.rb_requests.specs.Within.{usage_in, usage_reply};
 ghost use Rattle.rb_requests.specs.Requested.{request_of};
 ghost use Rattle.rb_requests.specs.Words.{line_error_word};
 ghost use Rattle.rb_requests.specs.inner.Line.{AreTextsOf};
 ghost use Rattle.rb_requests.specs.inner.Placing.{PlacesReply};
 ghost use Rattle.rb_requests.specs.inner.Putting.{writer};
-ghost use Rattle.rb_requests.specs.inner.Starving.{CallReply, DataReply, LeavesOf, untold_reply};
+ghost use Rattle.rb_requests.specs.inner.Starving.{DataReply, LeavesOf, untold_reply};
 
 use crate::ask::{Line, LineRequest, lent_texts, line_of, usage_app};
 use crate::changes::handle;
@@ -73,7 +73,7 @@ pub(crate) fn is_limited(limits: &Limits) -> bool
 }
 
 /// Classifies a reply that memory ran out for: only a request that was done changed anything.
-fn untold(reply: &Reply) -> Starved
+pub(crate) fn untold(reply: &Reply) -> Starved
     ensures { result ≡ untold_reply reply.now }
 {
     match reply {
@@ -82,7 +82,7 @@ fn untold(reply: &Reply) -> Starved
     }
 }
 
-fn is_memory(reply: &Reply) -> bool
+pub(crate) fn is_memory(reply: &Reply) -> bool
     ensures { result ≡ ran_out (Replies reply.now) }
 {
     matches!(reply, Reply::Memory)
@@ -131,7 +131,7 @@ pub(crate) fn answer_request(
 }
 
 /// Makes the line the reply to a request, or an error if that reply is longer than the limit.
-fn tell_answer(
+pub(crate) fn tell_answer(
     alloc: Global,
     limits: &Limits,
     answer: &Reply,
@@ -212,6 +212,16 @@ pub(crate) fn answer_look<S: Sink>(
     }
 }
 
+/// Keeps the locale of a lookup open, so that the next lookups needn't find its trail. A limit on
+/// steps counts the trail, so such lookups find it each time.
+pub(crate) fn keep_locale(engine: &mut Engine, limits: &Limits, app: &str, locale: &str)
+    ensures { engine.new ≡ engine.old }
+{
+    if limits.steps.is_none() {
+        engine.keep_open(app.as_bytes(), locale.as_bytes());
+    }
+}
+
 pub(crate) fn answer_usage(
     alloc: Global,
     engine: &Engine,
@@ -272,6 +282,7 @@ fn answer_texts<S: Sink>(
         None => answer_other(alloc, engine, limits, texts, reply)?,
         Some(Line::Request(request)) => answer_request(alloc, engine, limits, request, reply)?,
         Some(Line::Look { app, locale, path }) => {
+            keep_locale(engine, limits, app, locale);
             return Ok(answer_look(alloc, engine, limits, app, locale, path, reply, sink)?);
         }
     }

@@ -63,7 +63,10 @@ pub(crate) fn payload_of<'a>(
 }
 
 /// Decodes a file from hexadecimal digits, or returns `None` if they are malformed.
-fn decode<'a>(alloc: Global, digits: &str) -> Result<Option<BundleSource<'a>>, AllocError>
+pub(crate) fn decode<'a>(
+    alloc: Global,
+    digits: &str,
+) -> Result<Option<BundleSource<'a>>, AllocError>
     ensures { IfOk result (λ o. option_map payload_from o ≡ decoded (decode_of digits.now)) }
 {
     match hex::decode(alloc, digits.as_bytes()) {
@@ -109,7 +112,7 @@ fn remove_of<'a>(texts: &Texts<'a>) -> Option<Line<'a>>
     }
 }
 
-fn list_of<'a>(texts: &Texts<'a>) -> Option<Line<'a>>
+pub(crate) fn list_of<'a>(texts: &Texts<'a>) -> Option<Line<'a>>
     ensures { (d : Data) → AreTextsOf texts.now d → option_map line_view result ≡ list_in d }
 {
     match texts.app {

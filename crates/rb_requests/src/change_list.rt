@@ -1,8 +1,24 @@
 //! Reads the changes of a release. Their texts are borrowed from the line, or from a scratch.
-ghost use Rattle.std.specs.Prelude.{◌<◌, ◌≤◌, length, OnOk};
+ghost use Rattle.std.specs.Prelude.{◌≡◌, ◌<◌, [], ◌∷◌, ◌++◌, List, length, is_some, option_map, Some};
+ghost use Rattle.std.specs.Prelude.{None, IfOk, IfErr, OnOk, OnErr, ℕ};
+ghost use Rattle.std.specs.List.{list_all};
+ghost use Rattle.std.specs.Char.{is_ascii_hexdigit};
+ghost use Rattle.json.specs.Json.{items as items_of, members as members_of, value as value_of};
+ghost use Rattle.serde_json.specs.Data.{Data, Items, Members, no_items, no_members, put, item};
+ghost use Rattle.serde_json.specs.Read.{converted, of_json, of_items, of_members};
+ghost use Rattle.hex.specs.Hex.{decode_of};
+ghost use Rattle.rb_requests.specs.Asked.{decoded};
+ghost use Rattle.rb_requests.specs.ExtendedAsked.{PutsAt, RemovesAt, all_changes};
+ghost use Rattle.rb_requests.specs.inner.ChangesRead.{AreChanges, AreOf, AreSoFar, HoldsChange};
+ghost use Rattle.rb_requests.specs.inner.ChangesRead.{IsChange, change_by, change_seen};
+ghost use Rattle.rb_requests.specs.inner.ChangesRead.{flag_by, kept as first, payload_seen};
+ghost use Rattle.rb_requests.specs.inner.ChangesRead.{texts_seen};
+ghost use Rattle.rb_requests.specs.inner.Line.{payload_by};
+ghost use Rattle.rb_requests.specs.inner.Texts.{IsMember};
+ghost use Rattle.rb_requests.specs.declared.change_list.LineChange.{LineChange};
 
-use crate::member::{Member, read_value};
-use crate::pass::{Flag, next_key, pass_value, read_flag, takes_end};
+use crate::member::{Member, pass_value, read_value};
+use crate::texts::after;
 use json::{Invalid, Reader, Token};
 use rb_engine::BUNDLE_LIMIT;
 use std::alloc::{AllocError, Global};
@@ -47,19 +63,48 @@ struct ChangeTexts<'a> {
     locale: Option<Member<'a>>,
     text: Option<Member<'a>>,
     file: Option<Member<'a>>,
-    remove: Option<Flag>,
+    remove: Option<Member<'a>>,
 }
 
-fn are_pairs(digits: &str) -> bool {
-    digits.len() % 2 == 0
-        && digits
-            .as_bytes()
-            .iter()
-            .all(|digit| digit.is_ascii_hexdigit())
+fn are_digits(text: &[u8]) -> bool
+    ensures { result ≡ list_all is_ascii_hexdigit text.now }
+{
+    text.iter().all(|digit| digit.is_ascii_hexdigit())
+}
+
+fn are_pairs(digits: &str) -> bool
+    ensures { result ≡ is_some (decoded (decode_of digits.now)) }
+{
+    digits.len() % 2 == 0 && are_digits(digits.as_bytes())
+}
+
+/// Returns a member that is true or false, and false if it is missing.
+pub(crate) fn flag_of(member: Option<Member<'_>>) -> Option<bool>
+    ensures { result ≡ flag_by member.entry }
+{
+    match member {
+        None => Some(false),
+        Some(Member::Flag(flag)) => Some(flag),
+        _ => None,
+    }
+}
+
+/// Returns the payload of a change that isn't a removal.
+fn incoming<'a>(text: Option<Member<'a>>, file: Option<Member<'a>>) -> Option<ChangePayload<'a>>
+    ensures { (locale : List ℕ) → option_map (payload_seen locale) result
+        ≡ option_map (λ p. Some (PutsAt locale p)) (payload_by text.entry file.entry) }
+{
+    match (text, file) {
+        (Some(Member::Text(text)), None) => Some(ChangePayload::Text(text)),
+        (None, Some(Member::Text(digits))) => file_of(digits),
+        _ => None,
+    }
 }
 
 impl<'a> ChangeTexts<'a> {
-    fn none() -> Self {
+    fn none() -> Self
+        ensures { HoldsChange result no_members }
+    {
         ChangeTexts {
             locale: None,
             text: None,
@@ -68,32 +113,48 @@ impl<'a> ChangeTexts<'a> {
         }
     }
 
-    fn payload(&self) -> Option<ChangePayload<'a>> {
-        match (self.text, self.file, self.remove) {
-            (None, None, Some(Flag::Set(true))) => Some(ChangePayload::Removal),
-            (Some(Member::Text(text)), None, None) => Some(ChangePayload::Text(text)),
-            (Some(Member::Text(text)), None, Some(Flag::Set(false))) => {
-                Some(ChangePayload::Text(text))
-            }
-            (None, Some(Member::Text(digits)), None) => file_of(digits),
-            (None, Some(Member::Text(digits)), Some(Flag::Set(false))) => file_of(digits),
+    fn with(self, key: &str, member: Member<'a>) -> Self
+        ensures { (found : Members) (d : Data) → IsMember member.entry d
+            → HoldsChange self.entry found → HoldsChange result (put key.now d found) }
+    {
+        ChangeTexts {
+            locale: after(key, "locale", member, self.locale),
+            text: after(key, "text", member, self.text),
+            file: after(key, "file", member, self.file),
+            remove: after(key, "remove", member, self.remove),
+        }
+    }
+
+    fn payload(&self, is_removal: bool) -> Option<ChangePayload<'a>>
+        ensures { (locale : List ℕ) → option_map (payload_seen locale) result
+            ≡ option_map Some (change_by locale self.now.text self.now.file is_removal) }
+    {
+        if !is_removal {
+            return incoming(self.text, self.file);
+        }
+        match (self.text, self.file) {
+            (None, None) => Some(ChangePayload::Removal),
             _ => None,
         }
     }
 
     /// Returns the change, or `None` if the members are none.
-    fn change(&self) -> Option<LineChange<'a>> {
+    fn change(&self) -> Option<LineChange<'a>>
+        ensures { option_map change_seen result ≡ option_map Some (texts_seen self.now) }
+    {
         let Some(Member::Text(locale)) = self.locale else {
             return None;
         };
-        match self.payload() {
-            Some(payload) => Some(LineChange { locale, payload }),
-            None => None,
-        }
+        let is_removal = flag_of(self.remove)?;
+        let payload = self.payload(is_removal)?;
+        Some(LineChange { locale, payload })
     }
 }
 
-fn file_of(digits: &str) -> Option<ChangePayload<'_>> {
+fn file_of(digits: &str) -> Option<ChangePayload<'_>>
+    ensures { (locale : List ℕ) → option_map (payload_seen locale) result
+        ≡ option_map (λ p. Some (PutsAt locale p)) (decoded (decode_of digits.now)) }
+{
     if are_pairs(digits) {
         Some(ChangePayload::File(digits))
     } else {
@@ -101,44 +162,38 @@ fn file_of(digits: &str) -> Option<ChangePayload<'_>> {
     }
 }
 
-/// Reads the member at a key.
-fn read_member<'a>(
+/// Reads the members after the opening brace of a change.
+fn read_members<'a>(
     reader: &mut Reader<'a>,
-    key: &str,
     depth: usize,
     texts: &mut ChangeTexts<'a>,
 ) -> Result<(), Invalid>
-    ensures { OnOk result (length reader.new < length reader.old) }
+    requires { HoldsChange texts.old no_members }
+    ensures ok { OnOk result ((found : Members) × HoldsChange texts.new found
+        × (converted (λ ms. of_members ms no_members)
+        (members_of (value_of depth) (length reader.old) reader.old) ≡ Some (found, reader.new))) }
+    ensures err { OnErr result (converted (λ ms. of_members ms no_members)
+        (members_of (value_of depth) (length reader.old) reader.old) ≡ None) }
+    ensures shorter { OnOk result (length reader.new < length reader.old) }
 {
-    if key == "remove" {
-        texts.remove = Some(read_flag(reader, depth)?);
-        return Ok(());
+    'members: loop {
+        match reader.next_key() {
+            Ok(Some(key)) => match read_value(reader, depth) {
+                Ok(member) => *texts = texts.with(key, member),
+                Err(_) => return Err(Invalid),
+            },
+            Ok(None) => return Ok(()),
+            Err(_) => return Err(Invalid),
+        }
     }
-    let member = read_value(reader, depth)?;
-    if key == "locale" {
-        texts.locale = Some(member);
-    } else if key == "text" {
-        texts.text = Some(member);
-    } else if key == "file" {
-        texts.file = Some(member);
-    }
-    Ok(())
-}
-
-/// Reads the members after the opening brace of a change.
-fn read_members<'a>(reader: &mut Reader<'a>, depth: usize) -> Result<ChangeTexts<'a>, Invalid>
-    ensures { OnOk result (length reader.new ≤ length reader.old) }
-{
-    let mut texts = ChangeTexts::none();
-    'members: while let Some(key) = next_key(reader)? {
-        read_member(reader, key, depth, &mut texts)?;
-    }
-    Ok(texts)
 }
 
 /// Reads an item of the changes, or returns `None` if it is no change.
 fn read_change<'a>(reader: &mut Reader<'a>, depth: usize) -> Result<Option<LineChange<'a>>, Invalid>
-    ensures { OnOk result (length reader.new < length reader.old) }
+    ensures ok { IfOk result (λ change. (d : Data) × IsChange change d
+        × (converted of_json (value_of depth reader.old) ≡ Some (d, reader.new))) }
+    ensures err { OnErr result (converted of_json (value_of depth reader.old) ≡ None) }
+    ensures shorter { OnOk result (length reader.new < length reader.old) }
 {
     let token = reader.next().ok_or(Invalid)?;
     match token {
@@ -146,12 +201,69 @@ fn read_change<'a>(reader: &mut Reader<'a>, depth: usize) -> Result<Option<LineC
             if depth == 0 {
                 return Err(Invalid);
             }
-            let texts = read_members(reader, depth - 1)?;
+            let mut texts = ChangeTexts::none();
+            read_members(reader, depth - 1, &mut texts)?;
             Ok(texts.change())
         }
         other => {
             pass_value(reader, other, depth)?;
             Ok(None)
+        }
+    }
+}
+
+/// The changes that were read so far, and whether all items are changes.
+#[derive(Drop)]
+struct ChangesSoFar<'a> {
+    changes: Vec<LineChange<'a>>,
+    are_changes: bool,
+}
+
+impl<'a> ChangesSoFar<'a> {
+    fn none(alloc: Global) -> Self
+        ensures { AreSoFar result (λ ds. ds) }
+    {
+        ChangesSoFar {
+            changes: Vec::new(alloc),
+            are_changes: true,
+        }
+    }
+
+    /// Stores a change, unless there are enough.
+    fn keep(&mut self, change: LineChange<'a>) -> Result<(), AllocError>
+        ensures kept { (all : List LineChange) → self.old.changes.items ≡ first all
+            → OnOk result (self.new.changes.items ≡ first (all ++ change.entry ∷ [])) }
+        ensures same { self.new.are_changes ≡ self.old.are_changes }
+    {
+        if self.changes.len() < KEPT {
+            self.changes.push(change)?;
+        }
+        Ok(())
+    }
+
+    /// Adds an item, which may be no change.
+    fn add(&mut self, change: Option<LineChange<'a>>) -> Result<(), AllocError>
+        ensures { (before : Items → Items) (d : Data) → IsChange change.entry d
+            → AreSoFar self.old before
+            → OnOk result (AreSoFar self.new (λ ds. before (item d ds))) }
+    {
+        match change {
+            Some(change) => self.keep(change),
+            None => {
+                self.are_changes = false;
+                Ok(())
+            }
+        }
+    }
+
+    fn into_changes(self) -> Changes<'a>
+        ensures { (before : Items → Items) → AreSoFar self.entry before
+            → AreOf result (all_changes (before no_items)) }
+    {
+        if self.are_changes {
+            Changes::All(self.changes)
+        } else {
+            Changes::Other
         }
     }
 }
@@ -162,26 +274,23 @@ fn read_items<'a>(
     reader: &mut Reader<'a>,
     depth: usize,
 ) -> Result<Changes<'a>, ChangesFault>
-    ensures { OnOk result (length reader.new ≤ length reader.old) }
+    ensures ok { IfOk result (λ changes. (ds : Items) × AreOf changes (all_changes ds)
+        × (converted of_items (items_of (value_of depth) (length reader.old) reader.old)
+        ≡ Some (ds, reader.new))) }
+    ensures err { IfErr result (λ e. e ≡ ChangesFault.Invalid → converted of_items
+        (items_of (value_of depth) (length reader.old) reader.old) ≡ None) }
+    ensures shorter { OnOk result (length reader.new < length reader.old) }
 {
-    let mut changes = Vec::new(alloc);
-    let mut are_changes = true;
-    'items: while !takes_end(reader) {
-        match read_change(reader, depth) {
-            Ok(Some(change)) => {
-                if changes.len() < KEPT && changes.push(change).is_err() {
-                    return Err(ChangesFault::Memory);
-                }
-            }
-            Ok(None) => are_changes = false,
-            Err(_) => return Err(ChangesFault::Invalid),
-        }
+    let mut so_far = ChangesSoFar::none(alloc);
+    'items: while !reader.take_end_array() {
+        let Ok(change) = read_change(reader, depth) else {
+            return Err(ChangesFault::Invalid);
+        };
+        let Ok(()) = so_far.add(change) else {
+            return Err(ChangesFault::Memory);
+        };
     }
-    if are_changes {
-        Ok(Changes::All(changes))
-    } else {
-        Ok(Changes::Other)
-    }
+    Ok(so_far.into_changes())
 }
 
 /// Reads the value at `changes`, whose arrays and objects nest at most `depth` deep.
@@ -190,7 +299,11 @@ pub(crate) fn read_changes<'a>(
     reader: &mut Reader<'a>,
     depth: usize,
 ) -> Result<Changes<'a>, ChangesFault>
-    ensures { OnOk result (length reader.new < length reader.old) }
+    ensures ok { IfOk result (λ changes. (d : Data) × AreChanges changes d
+        × (converted of_json (value_of depth reader.old) ≡ Some (d, reader.new))) }
+    ensures err { IfErr result (λ e. e ≡ ChangesFault.Invalid
+        → converted of_json (value_of depth reader.old) ≡ None) }
+    ensures shorter { OnOk result (length reader.new < length reader.old) }
 {
     let Some(token) = reader.next() else {
         return Err(ChangesFault::Invalid);

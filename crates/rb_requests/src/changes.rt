@@ -39,7 +39,7 @@ pub(crate) fn is_sum_over(limit: Option<u64>, a: u64, b: u64) -> bool
     }
 }
 
-fn source_len(source: &BundleSource<'_>) -> u64
+pub(crate) fn source_len(source: &BundleSource<'_>) -> u64
     ensures { result ≡ payload_length (payload_of source.now) }
 {
     match source {

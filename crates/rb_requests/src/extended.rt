@@ -1,100 +1,247 @@
 //! Answers extended requests.
-use crate::answer::{Placed, Starved, answer_look, answer_request, answer_usage, tell_line_error};
-use crate::ask::Line;
+ghost use Rattle.std.specs.Prelude.{◌≡◌, IfErr, IfOk, IsTrue, List, OnOk, Ok, Some, None};
+ghost use Rattle.std.specs.Prelude.{ℕ, true, false};
+ghost use Rattle.serde_json.specs.Data.{Data, Members, no_members, object};
+ghost use Rattle.rb_engine.specs.Answer.{Replies};
+ghost use Rattle.rb_engine.specs.Change.{IsFileOf};
+ghost use Rattle.rb_engine.specs.Place.{place_of};
+ghost use Rattle.rb_engine.specs.Source.{Reads, payload_of};
+ghost use Rattle.rb_engine.specs.declared.request.Payload.{Payload};
+ghost use Rattle.rb_requests.specs.Asked.{data_of};
+ghost use Rattle.rb_requests.specs.ExtendedAsked.{ExtendedAsk, ReleaseChange, extended_in};
+ghost use Rattle.rb_requests.specs.ExtendedAsked.{extended_of as extended_asked};
+ghost use Rattle.rb_requests.specs.ExtendedReply.{AskReply, CalledReply, ChangeReply};
+ghost use Rattle.rb_requests.specs.ExtendedReply.{ExtendedReply, PutReply, ReleaseReply};
+ghost use Rattle.rb_requests.specs.ExtendedReply.{is_stored, put_change as change_put};
+ghost use Rattle.rb_requests.specs.Requested.{request_of};
+ghost use Rattle.rb_requests.specs.Steps.{Answers, is_read};
+ghost use Rattle.rb_requests.specs.Within.{outcome_line};
+ghost use Rattle.rb_requests.specs.inner.ChangesRead.{changes_seen};
+ghost use Rattle.rb_requests.specs.inner.ExtendedLines.{AreAllOf, line_asks};
+ghost use Rattle.rb_requests.specs.inner.ExtendedRead.{HoldsAll};
+ghost use Rattle.rb_requests.specs.inner.ExtendedTold.{change_line, held_place};
+ghost use Rattle.rb_requests.specs.inner.Judged.{IsTold};
+ghost use Rattle.rb_requests.specs.inner.Line.{line_view};
+ghost use Rattle.rb_requests.specs.inner.Placing.{PlacesReply};
+ghost use Rattle.rb_requests.specs.inner.Putting.{writer};
+ghost use Rattle.rb_requests.specs.inner.Starving.{LeavesOf};
+ghost use Rattle.rb_engine.specs.Ask.{Requests};
+
+use crate::answer::{
+    Placed, Starved, answer_look, answer_request, answer_usage, is_memory, keep_locale,
+    tell_answer, tell_line_error, tell_word, untold,
+};
+use crate::ask::{Line, LineRequest};
 use crate::change_list::LineChange;
 use crate::changes::put;
 use crate::device::Sink;
 use crate::export::{answer_export, answer_sizes};
-use crate::extended_ask::{ExtendedLine, Storing, extended_of};
+use crate::extended_ask::{ExtendedLine, extended_of};
 use crate::extended_texts::{ExtendedTexts, read_extended_texts};
-use crate::judged::{Unmade, judge, made_within};
-use crate::limits::Limits;
+use crate::judged::{Unmade, judge};
+use crate::limits::{Limited, Limits};
 use crate::release::release;
 use crate::tree_reply::answer_tree;
 use crate::words::LineError;
 use bstr::ByteSlice;
 use json::Scratch;
-use rb_engine::{BundleSource, Change, Engine, Reply};
+use rb_engine::{Brought, BundleSource, Change, Engine, Reply};
 use rb_replies::ReplyLine;
-use std::alloc::Global;
+use std::alloc::{AllocError, Global};
 
-/// What was done for a line that changes bundles.
-#[derive(Clone, Copy, Debug)]
-enum Made {
-    /// The change was made.
-    Done,
-    /// A bundle was put, and whether it replaced another.
-    Stored(bool),
-}
-
-/// Returns how a bundle is put: the change, and whether it replaces another.
-fn change_for(storing: Storing, is_there: bool) -> (Change, Made) {
-    match storing {
-        Storing::Change(change) => (change, Made::Done),
-        Storing::Put => {
-            if is_there {
-                (Change::Replace, Made::Stored(true))
-            } else {
-                (Change::Install, Made::Stored(false))
-            }
-        }
+/// Makes the line the reply to a change of a bundle. A `put` says whether it replaced another.
+fn tell_stored(
+    alloc: Global,
+    limits: &Limits,
+    replaced: Option<bool>,
+    answer: &Reply,
+    reply: &mut ReplyLine,
+) -> Result<(), AllocError>
+    ensures { OnOk result
+        (reply.new ≡ change_line limits.now replaced (Answers (Replies answer.now))) }
+{
+    match (replaced, answer) {
+        (Some(is_replaced), Reply::Done) => reply.tell_stored(alloc, is_replaced),
+        _ => tell_answer(alloc, limits, answer, reply),
     }
 }
 
-fn store(
+/// Stores a bundle that was read, and makes the line the reply.
+fn store_read(
     alloc: Global,
     engine: &mut Engine,
     limits: &Limits,
-    storing: Storing,
-    app: &str,
-    locale: &str,
-    source: BundleSource<'_>,
-) -> Result<Made, Unmade> {
-    let brought = judge(alloc, limits, app, locale, source)?;
-    let is_there = engine.file_len(&brought).is_some();
-    let (change, made) = change_for(storing, is_there);
-    made_within(put(engine, limits, change, brought))?;
-    Ok(made)
-}
-
-/// Makes the line the reply to a change that was made. Out of memory, the change stays.
-fn tell_made(alloc: Global, made: Made, reply: &mut ReplyLine) -> Result<(), Starved> {
-    let told = match made {
-        Made::Done => reply.tell_reply(alloc, &Reply::Done),
-        Made::Stored(is_replaced) => reply.tell_stored(alloc, is_replaced),
-    };
-    match told {
-        Ok(()) => Ok(()),
-        Err(_) => Err(Starved::After),
-    }
-}
-
-/// Makes the line the reply to a change, which was made or not.
-fn tell_change(
-    alloc: Global,
-    change: Result<Made, Unmade>,
+    change: Change,
+    replaced: Option<bool>,
+    brought: Brought,
     reply: &mut ReplyLine,
-) -> Result<(), Starved> {
-    match change {
-        Ok(made) => tell_made(alloc, made, reply),
-        Err(Unmade::Memory) => Err(Starved::Before),
-        Err(Unmade::Refused(word, detail)) => Ok(reply.tell_refusal(alloc, word, detail)?),
+) -> Result<(), Starved>
+    ensures reply { (app locale : List ℕ) (payload : Payload)
+        → Reads app locale payload (Ok brought)
+        → IsFileOf payload brought.1 → is_read limits.now (place_of app locale) payload ≡ true
+        → OnOk result (ChangeReply limits.now engine.old change app locale payload
+        (change_line limits.now replaced) reply.new engine.new) }
+    ensures fault { (app locale : List ℕ) (payload : Payload)
+        → Reads app locale payload (Ok brought)
+        → IsFileOf payload brought.1 → is_read limits.now (place_of app locale) payload ≡ true
+        → IfErr result (λ s. LeavesOf (ChangeReply limits.now engine.old change app locale payload
+        (change_line limits.now replaced)) s engine.old engine.new) }
+{
+    let answer = match put(engine, limits, change, brought) {
+        Limited::Answer(answer) => answer,
+        Limited::Refused(refusal) => return Ok(tell_word(alloc, refusal.word(), reply)?),
+    };
+    if is_memory(&answer) {
+        return Err(Starved::Before);
+    }
+    match tell_stored(alloc, limits, replaced, &answer, reply) {
+        Ok(()) => Ok(()),
+        Err(_) => Err(untold(&answer)),
     }
 }
 
+/// Makes the line the reply to a change that isn't made.
+fn tell_unmade(alloc: Global, unmade: Unmade, reply: &mut ReplyLine) -> Result<(), Starved>
+    ensures line { OnOk result (IsTold unmade reply.new) }
+    ensures memory { IfErr result (λ s. s ≡ Starved.Before) }
+{
+    match unmade {
+        Unmade::Refused(word, detail) => Ok(reply.tell_refusal(alloc, word, detail)?),
+        Unmade::Memory => Err(Starved::Before),
+    }
+}
+
+/// Makes the line the reply to an install or a replacement.
+fn answer_change(
+    alloc: Global,
+    engine: &mut Engine,
+    limits: &Limits,
+    change: Change,
+    app: &[u8],
+    locale: &[u8],
+    source: BundleSource<'_>,
+    reply: &mut ReplyLine,
+) -> Result<(), Starved>
+    ensures reply { OnOk result (ChangeReply limits.now engine.old change app.now locale.now
+        (payload_of source.entry) (outcome_line limits.now) reply.new engine.new) }
+    ensures fault { IfErr result (λ s. LeavesOf (ChangeReply limits.now engine.old change app.now
+        locale.now (payload_of source.entry) (outcome_line limits.now)) s engine.old engine.new) }
+{
+    match judge(alloc, limits, app, locale, source) {
+        Ok(brought) => store_read(alloc, engine, limits, change, None, brought, reply),
+        Err(unmade) => tell_unmade(alloc, unmade, reply),
+    }
+}
+
+/// Returns how a bundle is put.
+fn put_change(is_there: bool) -> Change
+    ensures { result ≡ change_put is_there }
+{
+    if is_there {
+        Change::Replace
+    } else {
+        Change::Install
+    }
+}
+
+/// Makes the line the reply to a `put`.
+fn answer_put(
+    alloc: Global,
+    engine: &mut Engine,
+    limits: &Limits,
+    app: &[u8],
+    locale: &[u8],
+    source: BundleSource<'_>,
+    reply: &mut ReplyLine,
+) -> Result<(), Starved>
+    ensures reply { OnOk result (PutReply limits.now engine.old app.now locale.now
+        (payload_of source.entry)
+        (is_stored engine.old (place_of app.now locale.now)) reply.new engine.new) }
+    ensures fault { IfErr result (λ s. LeavesOf (PutReply limits.now engine.old app.now locale.now
+        (payload_of source.entry)
+        (is_stored engine.old (place_of app.now locale.now))) s engine.old engine.new) }
+{
+    let brought = match judge(alloc, limits, app, locale, source) {
+        Ok(brought) => brought,
+        Err(unmade) => return tell_unmade(alloc, unmade, reply),
+    };
+    let is_there = engine.file_len(&brought).is_some();
+    let change = put_change(is_there);
+    store_read(
+        alloc,
+        engine,
+        limits,
+        change,
+        Some(is_there),
+        brought,
+        reply,
+    )
+}
+
+/// Makes the line the reply to a release.
 fn answer_release(
     alloc: Global,
     engine: &mut Engine,
     limits: &Limits,
-    app: &str,
+    app: &[u8],
     changes: &[LineChange<'_>],
     reply: &mut ReplyLine,
-) -> Result<(), Starved> {
-    let result = match release(alloc, engine, limits, app, changes) {
-        Ok(()) => Ok(Made::Done),
-        Err(unmade) => Err(unmade),
-    };
-    tell_change(alloc, result, reply)
+) -> Result<(), Starved>
+    ensures reply { OnOk result ((cs : List ReleaseChange) → changes_seen changes.now ≡ Some cs
+        → ReleaseReply limits.now engine.old app.now cs reply.new engine.new) }
+    ensures fault { IfErr result (λ s. (cs : List ReleaseChange) → changes_seen changes.now ≡ Some cs
+        → LeavesOf (ReleaseReply limits.now engine.old app.now cs) s engine.old engine.new) }
+{
+    match release(alloc, engine, limits, app, changes) {
+        Ok(()) => match reply.tell_reply(alloc, &Reply::Done) {
+            Ok(()) => Ok(()),
+            Err(_) => Err(Starved::After),
+        },
+        Err(unmade) => tell_unmade(alloc, unmade, reply),
+    }
+}
+
+/// Makes the line the reply to a request that has the same form without extended requests.
+fn answer_plain_request(
+    alloc: Global,
+    engine: &mut Engine,
+    limits: &Limits,
+    request: LineRequest<'_>,
+    reply: &mut ReplyLine,
+) -> Result<(), Starved>
+    ensures reply { OnOk result (CalledReply limits.now engine.old
+        (Requests (request_of request.entry)) reply.new engine.new) }
+    ensures fault { IfErr result (λ s. LeavesOf (CalledReply limits.now engine.old
+        (Requests (request_of request.entry))) s engine.old engine.new) }
+{
+    match request {
+        LineRequest::Change {
+            change,
+            app,
+            locale,
+            source,
+        } => {
+            let (app, locale) = (app.as_bytes(), locale.as_bytes());
+            answer_change(alloc, engine, limits, change, app, locale, source, reply)
+        }
+        LineRequest::Remove { app, locale } => {
+            let request = LineRequest::Remove { app, locale };
+            answer_request(alloc, engine, limits, request, reply)
+        }
+        LineRequest::List { app } => {
+            answer_request(alloc, engine, limits, LineRequest::List { app }, reply)
+        }
+    }
+}
+
+/// Returns the place of a reply that is in the reply line.
+fn held(told: Result<(), Starved>) -> Result<Placed, Starved>
+    ensures { result ≡ held_place told }
+{
+    match told {
+        Ok(()) => Ok(Placed::Held),
+        Err(starved) => Err(starved),
+    }
 }
 
 fn answer_plain<S: Sink>(
@@ -104,14 +251,23 @@ fn answer_plain<S: Sink>(
     line: Line<'_>,
     reply: &mut ReplyLine,
     sink: &mut S,
-) -> Result<Placed, Starved> {
+) -> Result<Placed, Starved>
+    ensures reply { PlacesReply result reply.new
+        (writer (S.written sink.old) (S.faults sink.old) (S.settled sink.old))
+        (writer (S.written sink.new) (S.faults sink.new) (S.settled sink.new))
+        (λ text. CalledReply limits.now engine.old (line_view line.entry) text engine.new) }
+    ensures fault { IfErr result (λ s. LeavesOf
+        (CalledReply limits.now engine.old (line_view line.entry)) s engine.old engine.new) }
+{
     match line {
-        Line::Request(request) => answer_request(alloc, engine, limits, request, reply)?,
+        Line::Request(request) => {
+            held(answer_plain_request(alloc, engine, limits, request, reply))
+        }
         Line::Look { app, locale, path } => {
-            return Ok(answer_look(alloc, engine, limits, app, locale, path, reply, sink)?);
+            keep_locale(engine, limits, app, locale);
+            Ok(answer_look(alloc, engine, limits, app, locale, path, reply, sink)?)
         }
     }
-    Ok(Placed::Held)
 }
 
 /// Makes the line the reply to a request, or writes that reply to the sink.
@@ -122,35 +278,45 @@ fn answer_line<S: Sink>(
     line: ExtendedLine<'_>,
     reply: &mut ReplyLine,
     sink: &mut S,
-) -> Result<Placed, Starved> {
+) -> Result<Placed, Starved>
+    ensures reply { PlacesReply result reply.new
+        (writer (S.written sink.old) (S.faults sink.old) (S.settled sink.old))
+        (writer (S.written sink.new) (S.faults sink.new) (S.settled sink.new))
+        (λ text. (ask : ExtendedAsk) → line_asks line.entry ≡ Some ask
+        → AskReply limits.now engine.old ask text engine.new) }
+    ensures fault { IfErr result (λ s. (ask : ExtendedAsk) → line_asks line.entry ≡ Some ask
+        → LeavesOf (AskReply limits.now engine.old ask) s engine.old engine.new) }
+{
     match line {
-        ExtendedLine::Plain(line) => return answer_plain(alloc, engine, limits, line, reply, sink),
-        ExtendedLine::Export {
-            app,
-            locale,
-            is_text,
-        } => {
-            return Ok(answer_export(alloc, engine, limits, app, locale, is_text, reply, sink)?);
-        }
-        ExtendedLine::Tree { app, locale, path } => {
-            return Ok(answer_tree(alloc, engine, limits, app, locale, path, reply, sink)?);
-        }
-        ExtendedLine::Store {
-            storing,
+        ExtendedLine::Plain(line) => answer_plain(alloc, engine, limits, line, reply, sink),
+        ExtendedLine::Put {
             app,
             locale,
             source,
         } => {
-            let result = store(alloc, engine, limits, storing, app, locale, source);
-            tell_change(alloc, result, reply)?;
+            let (app, locale) = (app.as_bytes(), locale.as_bytes());
+            held(answer_put(alloc, engine, limits, app, locale, source, reply))
         }
-        ExtendedLine::Sizes { app } => answer_sizes(alloc, engine, limits, app, reply)?,
-        ExtendedLine::Usage { app } => answer_usage(alloc, engine, app, reply)?,
+        ExtendedLine::Export {
+            app,
+            locale,
+            is_text,
+        } => Ok(answer_export(alloc, engine, limits, app, locale, is_text, reply, sink)?),
+        ExtendedLine::Tree { app, locale, path } => {
+            Ok(answer_tree(alloc, engine, limits, app, locale, path, reply, sink)?)
+        }
+        ExtendedLine::Sizes { app } => {
+            answer_sizes(alloc, engine, limits, app, reply)?;
+            Ok(Placed::Held)
+        }
+        ExtendedLine::Usage { app } => {
+            answer_usage(alloc, engine, app, reply)?;
+            Ok(Placed::Held)
+        }
         ExtendedLine::Release { app, changes } => {
-            answer_release(alloc, engine, limits, app, changes, reply)?
+            held(answer_release(alloc, engine, limits, app.as_bytes(), changes, reply))
         }
     }
-    Ok(Placed::Held)
 }
 
 /// Makes the line the reply to a line with these members, or writes that reply to the sink.
@@ -161,7 +327,15 @@ fn answer_texts<S: Sink>(
     asked: &ExtendedTexts<'_>,
     reply: &mut ReplyLine,
     sink: &mut S,
-) -> Result<Placed, Starved> {
+) -> Result<Placed, Starved>
+    ensures reply { PlacesReply result reply.new
+        (writer (S.written sink.old) (S.faults sink.old) (S.settled sink.old))
+        (writer (S.written sink.new) (S.faults sink.new) (S.settled sink.new))
+        (λ text. (d : Data) → AreAllOf asked.now d
+        → ExtendedReply limits.now engine.old (extended_in d) text engine.new) }
+    ensures fault { IfErr result (λ s. (d : Data) → AreAllOf asked.now d → LeavesOf
+        (ExtendedReply limits.now engine.old (extended_in d)) s engine.old engine.new) }
+{
     match extended_of(alloc, asked)? {
         Some(line) => answer_line(alloc, engine, limits, line, reply, sink),
         None => {
@@ -180,13 +354,38 @@ pub(crate) fn extended_reply_of<S: Sink>(
     line: &[u8],
     reply: &mut ReplyLine,
     sink: &mut S,
-) -> Result<Placed, Starved> {
+) -> Result<Placed, Starved>
+    ensures reply { PlacesReply result reply.new
+        (writer (S.written sink.old) (S.faults sink.old) (S.settled sink.old))
+        (writer (S.written sink.new) (S.faults sink.new) (S.settled sink.new))
+        (λ text. ExtendedReply limits.now engine.old (extended_asked line.now) text engine.new) }
+    ensures fault { IfErr result (λ s. LeavesOf
+        (ExtendedReply limits.now engine.old (extended_asked line.now)) s engine.old engine.new) }
+{
     let mut asked = ExtendedTexts::none();
-    if let Ok(text) = line.to_str() {
-        if read_extended_texts(alloc, text, scratch, &mut asked)? {
-            return answer_texts(alloc, engine, limits, &asked, reply, sink);
-        }
+    if lent_extended_texts(alloc, line, scratch, &mut asked)? {
+        return answer_texts(alloc, engine, limits, &asked, reply, sink);
     }
     tell_line_error(alloc, LineError::BadLine, reply)?;
     Ok(Placed::Held)
+}
+
+/// Checks whether a line is an object, and if so stores its members at the names that count. Any
+/// other line is no request.
+fn lent_extended_texts<'a>(
+    alloc: Global,
+    line: &'a [u8],
+    scratch: &'a mut Scratch,
+    asked: &mut ExtendedTexts<'a>,
+) -> Result<bool, AllocError>
+    requires { HoldsAll asked.old no_members }
+    ensures object { IfOk result (λ all. IsTrue all
+        → (found : Members) × HoldsAll asked.new found
+        × (data_of line.now ≡ Some (object found))) }
+    ensures other { IfOk result (λ all. all ≡ false → extended_asked line.now ≡ None) }
+{
+    match line.to_str() {
+        Ok(text) => read_extended_texts(alloc, text, scratch, asked),
+        Err(_) => Ok(false),
+    }
 }

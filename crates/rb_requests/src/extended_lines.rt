@@ -1,8 +1,15 @@
 //! Answers the lines of an input, extended requests among them.
-ghost use Rattle.std.specs.Prelude.{◌≡◌, ◌≤◌, IfOk};
+ghost use Rattle.std.specs.Prelude.{◌≡◌, ◌≤◌, IfErr, IfOk, List, OnOk, ℕ};
 ghost use Rattle.rb_requests.specs.Device.{risen_by};
+ghost use Rattle.rb_requests.specs.ExtendedReply.{ExtendedUpTo, ExtendedWithin};
+ghost use Rattle.rb_requests.specs.Served.{AfterFaultWithin, AnswersWithin, at};
 ghost use Rattle.rb_requests.specs.Served.{reads_failed, writes_failed};
-ghost use Rattle.rb_requests.specs.inner.OneLine.{line_settled};
+ghost use Rattle.rb_requests.specs.Within.{longest_read};
+ghost use Rattle.rb_requests.specs.declared.reading.Longest.{Longest};
+ghost use Rattle.rb_requests.specs.inner.OneLine.{FailsLine, MayTakeEffect, Wrote, line_settled};
+ghost use Rattle.rb_requests.specs.inner.Placing.{PlacesReply};
+ghost use Rattle.rb_requests.specs.inner.Putting.{writer};
+ghost use Rattle.rb_requests.specs.inner.Taken.{IsHeldUnder};
 
 use crate::answer::{Placed, tell_line_error};
 use crate::device::{Failed, Feed, Sink};
@@ -28,7 +35,17 @@ fn tell_line<S: Sink>(
     held: Held,
     reply: &mut ReplyLine,
     sink: &mut S,
-) -> Result<Placed, AllocError> {
+) -> Result<Placed, AllocError>
+    ensures reply { PlacesReply result reply.new
+        (writer (S.written sink.old) (S.faults sink.old) (S.settled sink.old))
+        (writer (S.written sink.new) (S.faults sink.new) (S.settled sink.new))
+        (λ text. (longest : Longest) → (whole : List ℕ)
+        → IsHeldUnder limits.now longest whole line.now held
+        → ExtendedUpTo longest.kept limits.now engine.old whole text engine.new) }
+    ensures fault { IfErr result (λ e. (longest : Longest) → (whole : List ℕ)
+        → IsHeldUnder limits.now longest whole line.now held
+        → MayTakeEffect (ExtendedUpTo longest.kept limits.now) engine.old whole engine.new) }
+{
     let error = match held_error(held) {
         Some(error) => error,
         None => match extended_reply_of(alloc, engine, limits, scratch, line, reply, sink) {
@@ -52,7 +69,18 @@ fn serve_line<S: Sink>(
     line: &[u8],
     held: Held,
     reply: &mut ReplyLine,
-) -> Result<(), ServeFault> {
+) -> Result<(), ServeFault>
+    ensures line { OnOk result ((longest : Longest) → (whole : List ℕ)
+        → IsHeldUnder limits.now longest whole line.now held
+        → Wrote (ExtendedUpTo longest.kept limits.now) engine.old whole
+        (S.written sink.old) (S.written sink.new) engine.new) }
+    ensures fault { IfErr result (λ fault. (longest : Longest) → (whole : List ℕ)
+        → IsHeldUnder limits.now longest whole line.now held
+        → FailsLine (ExtendedUpTo longest.kept limits.now) fault engine.old whole
+        (S.written sink.old) (S.written sink.new) engine.new) }
+    ensures count { S.faults sink.new ≡ writes_failed (S.faults sink.old) result }
+    ensures settled { S.settled sink.new ≡ line_settled (S.settled sink.old) result }
+{
     let placed = match tell_line(alloc, engine, limits, scratch, line, held, reply, sink) {
         Ok(placed) => placed,
         Err(_) => return Err(ServeFault::Memory),
@@ -70,6 +98,7 @@ fn serve_line<S: Sink>(
 /// ```rust
 /// serve_extended(alloc, &mut engine, &Limits::NONE, &mut feed, &mut sink, 10) // Ok(Served { lines: 1 })
 /// ```
+#[tactic(auto, using(crate::proofs::Serving::at_first))]
 pub fn serve_extended<F: Feed, S: Sink>(
     alloc: Global,
     engine: &mut Engine,
@@ -78,7 +107,23 @@ pub fn serve_extended<F: Feed, S: Sink>(
     sink: &mut S,
     max_lines: u64,
 ) -> Result<Served, ServeFault>
+    // All the input is read, what is written is the replies to its lines under limits and nothing
+    // else, and they have taken effect.
+    ensures all { IfOk result (λ served. AnswersWithin
+        (ExtendedWithin limits.now) (longest_read limits.now)
+        (at engine.old (F.left feed.old) (S.written sink.old) (S.settled sink.old))
+        (at engine.new (F.left feed.new) (S.written sink.new) (S.settled sink.new)) served.lines) }
     ensures most { IfOk result (λ served. served.lines ≤ max_lines) }
+    ensures settled { IfOk result
+        (λ served. S.settled sink.new ≡ risen_by (S.settled sink.old) served.lines) }
+    // The first lines are answered and their replies flushed; the fault says how far the next came.
+    ensures fault { IfErr result (λ fault. AfterFaultWithin
+        (ExtendedWithin limits.now) (longest_read limits.now) fault
+        (at engine.old (F.left feed.old) (S.written sink.old) (S.settled sink.old))
+        (at engine.new (F.left feed.new) (S.written sink.new) (S.settled sink.new)) max_lines) }
+    // A count of failed calls rises by one at its device's fault, and otherwise stays.
+    ensures reads { F.faults feed.new ≡ reads_failed (F.faults feed.old) result }
+    ensures writes { S.faults sink.new ≡ writes_failed (S.faults sink.old) result }
 {
     let longest = longest_of(limits);
     let mut line = Vec::new(alloc);

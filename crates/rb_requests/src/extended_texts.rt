@@ -1,10 +1,16 @@
 //! Reads a line's members that count for extended requests.
-ghost use Rattle.std.specs.Prelude.{◌<◌, length, OnOk};
+ghost use Rattle.std.specs.Prelude.{◌≡◌, ◌≢◌, ◌<◌, codes, length, IfErr, IfOk, IsTrue, OnErr, OnOk};
+ghost use Rattle.std.specs.Prelude.{Some, None};
+ghost use Rattle.json.specs.Json.{members as members_of, value as value_of};
+ghost use Rattle.serde_json.specs.Data.{Data, Members, no_members, object, put};
+ghost use Rattle.serde_json.specs.Read.{converted, of_json, of_members, read};
+ghost use Rattle.rb_requests.specs.inner.ChangesRead.{AreChanges};
+ghost use Rattle.rb_requests.specs.inner.ExtendedRead.{HoldsAll};
+ghost use Rattle.rb_requests.specs.inner.Texts.{IsMember};
 
 use crate::change_list::{Changes, ChangesFault, read_changes};
 use crate::member::{Member, read_value};
-use crate::pass::{Flag, next_key, read_flag};
-use crate::texts::{Texts, opens_object};
+use crate::texts::{Texts, after, opens_object};
 use json::{Reader, Scratch};
 use std::alloc::{AllocError, Global};
 
@@ -14,19 +20,39 @@ pub(crate) struct ExtendedTexts<'a> {
     pub texts: Texts<'a>,
     /// The member `as`.
     pub form: Option<Member<'a>>,
-    pub sizes: Option<Flag>,
+    pub sizes: Option<Member<'a>>,
     pub changes: Option<Changes<'a>>,
 }
 
 impl<'a> ExtendedTexts<'a> {
     /// Returns the texts of an object without members.
-    pub(crate) fn none() -> Self {
+    pub(crate) fn none() -> Self
+        ensures { HoldsAll result no_members }
+    {
         ExtendedTexts {
             texts: Texts::none(),
             form: None,
             sizes: None,
             changes: None,
         }
+    }
+
+    /// Stores a member, unless its name doesn't count. The member `changes` is stored apart.
+    fn store(&mut self, key: &str, member: Member<'a>)
+        requires { key.now ≢ codes "changes" }
+        ensures { (found : Members) (d : Data) → IsMember member.entry d
+            → HoldsAll self.old found → HoldsAll self.new (put key.now d found) }
+    {
+        self.texts = self.texts.with(key, member);
+        self.form = after(key, "as", member, self.form);
+        self.sizes = after(key, "sizes", member, self.sizes);
+    }
+
+    fn store_changes(&mut self, changes: Changes<'a>)
+        ensures { (found : Members) (d : Data) → AreChanges changes.entry d
+            → HoldsAll self.old found → HoldsAll self.new (put (codes "changes") d found) }
+    {
+        self.changes = Some(changes);
     }
 }
 
@@ -37,32 +63,27 @@ fn read_member<'a>(
     key: &str,
     asked: &mut ExtendedTexts<'a>,
 ) -> Result<(), ChangesFault>
-    ensures { OnOk result (length reader.new < length reader.old) }
+    ensures ok { OnOk result ((d : Data)
+        × (converted of_json (value_of 126 reader.old) ≡ Some (d, reader.new))
+        × ((found : Members) → HoldsAll asked.old found → HoldsAll asked.new (put key.now d found))) }
+    ensures err { IfErr result (λ e. e ≡ ChangesFault.Invalid
+        → converted of_json (value_of 126 reader.old) ≡ None) }
+    ensures shorter { OnOk result (length reader.new < length reader.old) }
 {
     if key == "changes" {
-        asked.changes = Some(read_changes(alloc, reader, 126)?);
-        return Ok(());
-    }
-    if key == "sizes" {
-        return match read_flag(reader, 126) {
-            Ok(flag) => {
-                asked.sizes = Some(flag);
+        return match read_changes(alloc, reader, 126) {
+            Ok(changes) => {
+                asked.store_changes(changes);
                 Ok(())
             }
-            Err(_) => Err(ChangesFault::Invalid),
+            Err(fault) => Err(fault),
         };
     }
-    match read_value(reader, 126) {
-        Ok(member) => {
-            if key == "as" {
-                asked.form = Some(member);
-            } else {
-                asked.texts = asked.texts.with(key, member);
-            }
-            Ok(())
-        }
-        Err(_) => Err(ChangesFault::Invalid),
-    }
+    let Ok(member) = read_value(reader, 126) else {
+        return Err(ChangesFault::Invalid);
+    };
+    asked.store(key, member);
+    Ok(())
 }
 
 /// Reads the members after an opening brace.
@@ -70,10 +91,21 @@ fn read_members<'a>(
     alloc: Global,
     reader: &mut Reader<'a>,
     asked: &mut ExtendedTexts<'a>,
-) -> Result<(), ChangesFault> {
+) -> Result<(), ChangesFault>
+    requires { HoldsAll asked.old no_members }
+    ensures ok { OnOk result ((found : Members) × HoldsAll asked.new found
+        × (converted (λ ms. of_members ms no_members)
+        (members_of (value_of 126) (length reader.old) reader.old) ≡ Some (found, reader.new))) }
+    ensures err { IfErr result (λ e. e ≡ ChangesFault.Invalid
+        → converted (λ ms. of_members ms no_members)
+        (members_of (value_of 126) (length reader.old) reader.old) ≡ None) }
+{
     'members: loop {
-        match next_key(reader) {
-            Ok(Some(key)) => read_member(alloc, reader, key, asked)?,
+        match reader.next_key() {
+            Ok(Some(key)) => match read_member(alloc, reader, key, asked) {
+                Ok(()) => {}
+                Err(fault) => return Err(fault),
+            },
             Ok(None) => return Ok(()),
             Err(_) => return Err(ChangesFault::Invalid),
         }
@@ -88,7 +120,13 @@ pub(crate) fn read_extended_texts<'a>(
     text: &'a str,
     scratch: &'a mut Scratch,
     asked: &mut ExtendedTexts<'a>,
-) -> Result<bool, AllocError> {
+) -> Result<bool, AllocError>
+    requires { HoldsAll asked.old no_members }
+    ensures read { IfOk result (λ all. IsTrue all
+        → (found : Members) × HoldsAll asked.new found × (read text.now ≡ Some (object found))) }
+    ensures all { IfOk result
+        (λ all. (found : Members) → read text.now ≡ Some (object found) → IsTrue all) }
+{
     let mut reader = Reader::new(text, scratch)?;
     if !opens_object(&mut reader) {
         return Ok(false);

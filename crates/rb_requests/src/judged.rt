@@ -1,11 +1,24 @@
 //! Judges the payloads of extended requests, with what is wrong with a text or a file.
-use crate::changes::is_too_long;
-use crate::limits::{Limited, Limits, Refusal};
-use rb_engine::{Brought, BundleSource, DraftFault, ReadFault, Reply};
+ghost use Rattle.std.specs.Prelude.{◌≡◌, ◌≢◌, Some, option_map};
+ghost use Rattle.rb_lexer.specs.declared.fault.SourceKind.TheVariants.{Memory};
+ghost use Rattle.rb_locales.specs.Locale.{name};
+ghost use Rattle.rb_packages.specs.App.{app_of};
+ghost use Rattle.rb_engine.specs.ReadFaults.{IsFirstFault};
+ghost use Rattle.rb_engine.specs.Source.{payload_of};
+ghost use Rattle.rb_engine.specs.declared.request.Payload.{Payload};
+ghost use Rattle.rb_requests.specs.Refused.{IsFirstError, at_index, file_reason, only, text_reason};
+ghost use Rattle.rb_requests.specs.Released.{IsUntaken};
+ghost use Rattle.rb_requests.specs.inner.Judged.{IfRefused, Judges, reason_of};
+ghost use Rattle.rb_requests.specs.inner.Judged.{names_error as error_of_names};
+
+use crate::changes::{is_over, source_len};
+use crate::limits::{Limits, Refusal};
+use rb_engine::{App, Brought, BundleSource, DraftFault, ReadFault, Reply};
 use rb_format::FileFault;
-use rb_lexer::SourceFault;
+use rb_lexer::{SourceFault, SourceKind};
+use rb_locales::Name;
 use rb_replies::Detail;
-use std::alloc::{AllocError, Global};
+use std::alloc::Global;
 
 /// The reason why a change isn't made.
 #[derive(Clone, Copy, Debug)]
@@ -18,12 +31,16 @@ pub(crate) enum Unmade {
 
 impl Unmade {
     /// Returns a refusal that has only a code.
-    pub(crate) fn plain(word: &'static str) -> Unmade {
+    pub(crate) fn plain(word: &'static str) -> Unmade
+        ensures { reason_of result ≡ Some (only word.now) }
+    {
         Unmade::Refused(word, Detail::NONE)
     }
 
     /// Returns the reason as that of a release's change with an index.
-    pub(crate) fn at(self, index: usize) -> Unmade {
+    pub(crate) fn at(self, index: usize) -> Unmade
+        ensures { reason_of result ≡ option_map (at_index index) (reason_of self) }
+    {
         match self {
             Unmade::Refused(word, detail) => Unmade::Refused(
                 word,
@@ -38,18 +55,26 @@ impl Unmade {
     }
 }
 
-fn bad_text(fault: SourceFault) -> Unmade {
-    Unmade::Refused(
-        Reply::BadText.word(),
-        Detail {
-            code: Some(fault.kind.word()),
-            index: None,
-            line: Some(fault.line),
-        },
-    )
+/// Converts the error of a text: out of memory isn't one of the text.
+fn bad_text(fault: SourceFault) -> Unmade
+    ensures { IfRefused result (λ r. (fault.kind ≢ Memory) × (r ≡ text_reason fault)) }
+{
+    match fault.kind {
+        SourceKind::Memory => Unmade::Memory,
+        kind => Unmade::Refused(
+            Reply::BadText.word(),
+            Detail {
+                code: Some(kind.word()),
+                index: None,
+                line: Some(fault.line),
+            },
+        ),
+    }
 }
 
-fn bad_file(fault: FileFault) -> Unmade {
+fn bad_file(fault: FileFault) -> Unmade
+    ensures { IfRefused result (λ r. r ≡ file_reason fault) }
+{
     Unmade::Refused(
         Reply::BadFile.word(),
         Detail {
@@ -60,36 +85,39 @@ fn bad_file(fault: FileFault) -> Unmade {
     )
 }
 
-/// Returns why an engine didn't make a change, or nothing if it did.
-fn made(reply: Reply) -> Result<(), Unmade> {
-    match reply {
-        Reply::Done => Ok(()),
-        Reply::Memory => Err(Unmade::Memory),
-        refusal => Err(Unmade::plain(refusal.word())),
-    }
-}
-
-/// Returns why a change was not made under limits, or nothing if it was.
-pub(crate) fn made_within(answer: Limited<Reply>) -> Result<(), Unmade> {
-    match answer {
-        Limited::Answer(reply) => made(reply),
-        Limited::Refused(refusal) => Err(Unmade::plain(refusal.word())),
-    }
-}
-
-pub(crate) fn undrafted(fault: DraftFault) -> Unmade {
+pub(crate) fn undrafted(fault: DraftFault) -> Unmade
+    ensures { IfRefused result IsUntaken }
+{
     match fault {
+        DraftFault::Absent => Unmade::plain(Reply::Absent.word()),
+        DraftFault::Full => Unmade::plain(Reply::Full.word()),
         DraftFault::Memory => Unmade::Memory,
-        refusal => Unmade::plain(refusal.word()),
     }
 }
 
-fn unread(fault: ReadFault) -> Unmade {
+/// Returns why a payload with valid names isn't read.
+fn unread(fault: ReadFault) -> Unmade
+    ensures { (payload : Payload) → IsFirstFault payload fault
+        → IfRefused result (IsFirstError payload) }
+{
     match fault {
         ReadFault::BadText(fault) => bad_text(fault),
         ReadFault::BadFile(fault) => bad_file(fault),
-        ReadFault::Refused(Reply::Memory) => Unmade::Memory,
-        ReadFault::Refused(refusal) => Unmade::plain(refusal.word()),
+        // The names are valid, so memory ran out.
+        ReadFault::Refused(_) => Unmade::Memory,
+    }
+}
+
+/// Returns the code of the first error of an application's name and a locale's, if one is invalid.
+fn names_error(app: &[u8], locale: &[u8]) -> Option<&'static str>
+    ensures { option_map (λ s. s.now) result ≡ error_of_names (app_of app.now) (name locale.now) }
+{
+    if let Err(fault) = App::read(app) {
+        return Some(fault.word());
+    }
+    match Name::read(locale) {
+        Ok(_) => None,
+        Err(_) => Some(Reply::BadLocale.word()),
     }
 }
 
@@ -97,12 +125,17 @@ fn unread(fault: ReadFault) -> Unmade {
 pub(crate) fn judge(
     alloc: Global,
     limits: &Limits,
-    app: &str,
-    locale: &str,
+    app: &[u8],
+    locale: &[u8],
     source: BundleSource<'_>,
-) -> Result<Brought, Unmade> {
-    let (app, locale) = (app.as_bytes(), locale.as_bytes());
-    if is_too_long(limits, app, locale, &source) {
+) -> Result<Brought, Unmade>
+    ensures { Judges limits.now app.now locale.now (payload_of source.entry) result }
+{
+    match names_error(app, locale) {
+        Some(word) => return Err(Unmade::plain(word)),
+        None => {}
+    }
+    if is_over(limits.bundle_bytes, source_len(&source)) {
         return Err(Unmade::plain(Refusal::BundleTooLong.word()));
     }
     match Brought::judge(alloc, app, locale, source) {

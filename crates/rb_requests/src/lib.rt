@@ -20,7 +20,6 @@ mod lines;
 mod lookups;
 mod member;
 mod number;
-mod pass;
 mod reading;
 mod release;
 mod stream;

@@ -1,5 +1,6 @@
-ghost use Rattle.std.specs.Prelude.{◌≡◌, ◌<◌, length, Some, None, IfOk, OnOk, OnErr};
+ghost use Rattle.std.specs.Prelude.{◌≡◌, ◌<◌, ◌≤◌, ◌∷◌, length, Some, None, IfOk, OnOk, OnErr};
 ghost use Rattle.json.specs.Json.{items as items_of, members as members_of, value as value_of};
+ghost use Rattle.json.specs.Reads.{token_of};
 ghost use Rattle.serde_json.specs.Data.{Data, Items, Members, no_members};
 ghost use Rattle.serde_json.specs.Read.{converted, of_json, of_items, of_members};
 ghost use Rattle.rb_requests.specs.inner.Texts.{IsMember};
@@ -11,6 +12,7 @@ use json::{Invalid, Reader, Token};
 #[derive(Clone, Copy, Debug, PartialEq, Eq)]
 pub enum Member<'a> {
     Text(&'a str),
+    Flag(bool),
     /// Any other value, which is not stored.
     Other,
 }
@@ -34,7 +36,8 @@ pub(crate) fn read_value<'a>(reader: &mut Reader<'a>, depth: usize) -> Result<Me
                 Err(Invalid)
             }
         }
-        Token::Bool(_) | Token::Null => Ok(Member::Other),
+        Token::Bool(flag) => Ok(Member::Flag(flag)),
+        Token::Null => Ok(Member::Other),
         Token::EndObject | Token::EndArray | Token::Key(_) | Token::Bad => Err(Invalid),
         Token::BeginArray => {
             if depth == 0 {
@@ -55,7 +58,7 @@ pub(crate) fn read_value<'a>(reader: &mut Reader<'a>, depth: usize) -> Result<Me
 
 #[cycle(read_value)]
 #[inline(never)]
-pub(crate) fn pass_items(reader: &mut Reader<'_>, depth: usize) -> Result<(), Invalid>
+fn pass_items(reader: &mut Reader<'_>, depth: usize) -> Result<(), Invalid>
     ensures ok { OnOk result ((ds : Items) × (converted of_items
         (items_of (value_of depth) (length reader.old) reader.old) ≡ Some (ds, reader.new))) }
     ensures err { OnErr result
@@ -70,7 +73,7 @@ pub(crate) fn pass_items(reader: &mut Reader<'_>, depth: usize) -> Result<(), In
 
 #[cycle(read_value)]
 #[inline(never)]
-pub(crate) fn pass_members(reader: &mut Reader<'_>, depth: usize) -> Result<(), Invalid>
+fn pass_members(reader: &mut Reader<'_>, depth: usize) -> Result<(), Invalid>
     ensures ok { OnOk result ((found : Members)
         × (converted (λ ms. of_members ms no_members)
         (members_of (value_of depth) (length reader.old) reader.old) ≡ Some (found, reader.new))) }
@@ -82,4 +85,41 @@ pub(crate) fn pass_members(reader: &mut Reader<'_>, depth: usize) -> Result<(), 
         let _member = read_value(reader, depth)?;
     }
     Ok(())
+}
+
+/// Reads a value after its first token. Its arrays and objects nest at most `depth` deep.
+pub(crate) fn pass_value(
+    reader: &mut Reader<'_>,
+    token: Token<'_>,
+    depth: usize,
+) -> Result<(), Invalid>
+    ensures ok { OnOk result ((d : Data) × (converted of_json
+        (value_of depth (token_of token.entry ∷ reader.old)) ≡ Some (d, reader.new))) }
+    ensures err { OnErr result
+        (converted of_json (value_of depth (token_of token.entry ∷ reader.old)) ≡ None) }
+    ensures shorter { OnOk result (length reader.new ≤ length reader.old) }
+{
+    match token {
+        Token::String(_) | Token::Bool(_) | Token::Null => Ok(()),
+        Token::Number(text) => {
+            if is_in_range(text) {
+                Ok(())
+            } else {
+                Err(Invalid)
+            }
+        }
+        Token::EndObject | Token::EndArray | Token::Key(_) | Token::Bad => Err(Invalid),
+        Token::BeginArray => {
+            if depth == 0 {
+                return Err(Invalid);
+            }
+            pass_items(reader, depth - 1)
+        }
+        Token::BeginObject => {
+            if depth == 0 {
+                return Err(Invalid);
+            }
+            pass_members(reader, depth - 1)
+        }
+    }
 }

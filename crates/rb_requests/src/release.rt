@@ -1,21 +1,57 @@
 //! Releases: changes of one application's bundles, all of which are made or none.
-ghost use Rattle.std.specs.Prelude.{◌≡◌, OnErr};
+ghost use Rattle.std.specs.Prelude.{◌≡◌, ◌⊎◌, ◌++◌, ◌∷◌, [], List, ℕ, length, true, false};
+ghost use Rattle.std.specs.Prelude.{IfErr, IfOk, OnErr, OnOk, Some, codes};
+ghost use Rattle.hex.specs.Hex.{decode_of};
+ghost use Rattle.rb_packages.specs.App.{app_of};
+ghost use Rattle.rb_engine.specs.Source.{payload_of};
+ghost use Rattle.rb_engine.specs.declared.request.Payload.{Payload};
+ghost use Rattle.rb_requests.specs.Asked.{decoded};
+ghost use Rattle.rb_requests.specs.ExtendedAsked.{PutsAt, ReleaseChange, RemovesAt};
+ghost use Rattle.rb_requests.specs.Limits.{is_over as over};
+ghost use Rattle.rb_requests.specs.Refused.{only};
+ghost use Rattle.rb_requests.specs.Released.{IsReleased, IsSumRefused, IsUnreleased, IsUntaken};
+ghost use Rattle.rb_requests.specs.declared.limits.Limits.{Limits};
+ghost use Rattle.rb_requests.specs.inner.ChangesRead.{change_seen, changes_seen};
+ghost use Rattle.rb_requests.specs.inner.Drafted.{Drafts, DraftsAll, DraftsAt};
+ghost use Rattle.rb_requests.specs.inner.Judged.{IfRefused};
 
+use crate::ask::decode;
 use crate::change_list::{ChangePayload, LineChange};
 use crate::changes::{is_over, is_sum_over};
 use crate::judged::{Unmade, judge, undrafted};
 use crate::limits::{Limits, Refusal};
-use hex::FromHexError;
-use rb_engine::{App, BUNDLE_LIMIT, BundleSource, Draft, DraftFault, Engine, Reply};
+use rb_engine::{App, BUNDLE_LIMIT, Brought, BundleSource, Draft, Engine, Reply};
 use rb_locales::Name;
-use rb_tree::ByteList;
 use std::alloc::Global;
 
-fn decoded(alloc: Global, digits: &str) -> Result<BundleSource<'static>, Unmade> {
-    match hex::decode(alloc, digits.as_bytes()) {
-        Ok(bytes) => Ok(BundleSource::File(ByteList::from_vec(bytes))),
-        Err(FromHexError::OutOfMemory) => Err(Unmade::Memory),
-        Err(_) => Err(Unmade::plain(Reply::BadFile.word())),
+/// Decodes the file of a change, whose digits were read before.
+fn file_source(alloc: Global, digits: &str) -> Result<BundleSource<'static>, Unmade>
+    ensures file { (p : Payload) → decoded (decode_of digits.now) ≡ Some p
+        → IfOk result (λ source. payload_of source ≡ p) }
+    ensures memory { (p : Payload) → decoded (decode_of digits.now) ≡ Some p
+        → IfErr result (λ unmade. unmade ≡ Unmade.Memory) }
+{
+    match decode(alloc, digits) {
+        Ok(Some(source)) => Ok(source),
+        Ok(None) => Err(Unmade::plain(Reply::BadFile.word())),
+        Err(_) => Err(Unmade::Memory),
+    }
+}
+
+/// Adds a bundle to a draft, unless its file is too long.
+fn add_brought(limits: &Limits, brought: Brought, draft: &mut Draft) -> Result<(), Unmade>
+    ensures app { draft.new.app ≡ draft.old.app }
+    ensures added { OnOk result ((over limits.now.bundle_bytes (length brought.1) ≡ false)
+        × (draft.new.edits ≡ draft.old.edits ++ (brought.0.name, Some brought.1) ∷ [])) }
+    ensures refused { IfErr result (λ unmade. IfRefused unmade (λ r. IsUntaken r
+        ⊎ ((over limits.now.bundle_bytes (length brought.1) ≡ true)
+        × (r ≡ only (codes "BundleTooLong"))))) }
+{
+    let is_long = is_over(limits.bundle_bytes, brought.len());
+    match brought.add_to(draft) {
+        Ok(()) if is_long => Err(Unmade::plain(Refusal::BundleTooLong.word())),
+        Ok(()) => Ok(()),
+        Err(fault) => Err(undrafted(fault)),
     }
 }
 
@@ -23,25 +59,28 @@ fn decoded(alloc: Global, digits: &str) -> Result<BundleSource<'static>, Unmade>
 fn draft_put(
     alloc: Global,
     limits: &Limits,
-    app: &str,
-    locale: &str,
+    app: &[u8],
+    locale: &[u8],
     source: BundleSource<'_>,
     draft: &mut Draft,
-) -> Result<(), Unmade> {
-    let brought = judge(alloc, limits, app, locale, source)?;
-    let len = brought.len();
-    match brought.add_to(draft) {
-        Ok(()) if is_over(limits.bundle_bytes, len) => Err(Unmade::plain(
-            Refusal::BundleTooLong.word(),
-        )),
-        Ok(()) => Ok(()),
-        Err(fault) => Err(undrafted(fault)),
+) -> Result<(), Unmade>
+    ensures app { draft.new.app ≡ draft.old.app }
+    ensures edits { Drafts limits.now app.now (PutsAt locale.now (payload_of source.entry))
+        draft.old.edits result draft.new.edits }
+{
+    match judge(alloc, limits, app, locale, source) {
+        Ok(brought) => add_brought(limits, brought, draft),
+        Err(unmade) => Err(unmade),
     }
 }
 
 /// Judges a removal, and adds it to a draft.
-fn draft_removal(locale: &str, draft: &mut Draft) -> Result<(), Unmade> {
-    let Ok(name) = Name::read(locale.as_bytes()) else {
+fn draft_removal(locale: &[u8], draft: &mut Draft) -> Result<(), Unmade>
+    ensures app { draft.new.app ≡ draft.old.app }
+    ensures edits { (limits : Limits) (app : List ℕ)
+        → Drafts limits app (RemovesAt locale.now) draft.old.edits result draft.new.edits }
+{
+    let Ok(name) = Name::read(locale) else {
         return Err(Unmade::plain(Reply::BadLocale.word()));
     };
     match draft.remove(name) {
@@ -54,46 +93,77 @@ fn draft_removal(locale: &str, draft: &mut Draft) -> Result<(), Unmade> {
 fn draft_change(
     alloc: Global,
     limits: &Limits,
-    app: &str,
+    app: &[u8],
     change: &LineChange<'_>,
     draft: &mut Draft,
-) -> Result<(), Unmade> {
-    let locale = change.locale;
+) -> Result<(), Unmade>
+    ensures app { draft.new.app ≡ draft.old.app }
+    ensures edits { (c : ReleaseChange) → change_seen change.now ≡ Some c
+        → Drafts limits.now app.now c draft.old.edits result draft.new.edits }
+{
+    let locale = change.locale.as_bytes();
     match change.payload {
         ChangePayload::Text(text) => {
             let source = BundleSource::Text(text.as_bytes());
             draft_put(alloc, limits, app, locale, source, draft)
         }
-        ChangePayload::File(digits) => {
-            let source = decoded(alloc, digits)?;
-            draft_put(alloc, limits, app, locale, source, draft)
-        }
+        ChangePayload::File(digits) => match file_source(alloc, digits) {
+            Ok(source) => draft_put(alloc, limits, app, locale, source, draft),
+            Err(unmade) => Err(unmade),
+        },
         ChangePayload::Removal => draft_removal(locale, draft),
     }
 }
 
-/// Judges changes in their order, up to the first that is refused. One above the limit is refused for
-/// that, whatever else is wrong with it.
+/// Judges the change at an index, and adds it to a draft. One above the limit is refused for that,
+/// whatever else is wrong with it.
+fn draft_at(
+    alloc: Global,
+    limits: &Limits,
+    app: &[u8],
+    index: usize,
+    change: &LineChange<'_>,
+    draft: &mut Draft,
+) -> Result<(), Unmade>
+    ensures app { draft.new.app ≡ draft.old.app }
+    ensures edits { (c : ReleaseChange) → change_seen change.now ≡ Some c
+        → DraftsAt limits.now app.now index c draft.old.edits result draft.new.edits }
+{
+    if index >= BUNDLE_LIMIT {
+        return Err(Unmade::plain(Reply::Full.word()).at(index));
+    }
+    match draft_change(alloc, limits, app, change, draft) {
+        Ok(()) => Ok(()),
+        Err(unmade) => Err(unmade.at(index)),
+    }
+}
+
+/// Judges changes in their order, up to the first that is refused.
 fn draft_all(
     alloc: Global,
     limits: &Limits,
-    app: &str,
+    app: &[u8],
     changes: &[LineChange<'_>],
     draft: &mut Draft,
-) -> Result<(), Unmade> {
-    for (index, change) in changes.iter().enumerate() {
-        if index >= BUNDLE_LIMIT {
-            return Err(undrafted(DraftFault::Full).at(index));
-        }
-        if let Err(unmade) = draft_change(alloc, limits, app, change, draft) {
-            return Err(unmade.at(index));
+) -> Result<(), Unmade>
+    ensures app { draft.new.app ≡ draft.old.app }
+    ensures edits { (cs : List ReleaseChange) → changes_seen changes.now ≡ Some cs
+        → draft.old.edits ≡ [] → DraftsAll limits.now app.now cs result draft.new.edits }
+{
+    for i in 0..changes.len() {
+        match draft_at(alloc, limits, app, i, &changes[i], draft) {
+            Ok(()) => {}
+            Err(unmade) => return Err(unmade),
         }
     }
     Ok(())
 }
 
 /// Judges the sum of all changes.
-fn judge_sum(engine: &Engine, limits: &Limits, draft: &Draft) -> Result<(), Unmade> {
+fn judge_sum(engine: &Engine, limits: &Limits, draft: &Draft) -> Result<(), Unmade>
+    ensures { IfErr result (λ unmade. IfRefused unmade
+        (IsSumRefused limits.now engine.now draft.now.app)) }
+{
     let then = draft.usage();
     if is_over(limits.app_bytes, then.bytes) {
         return Err(Unmade::plain(Refusal::OverQuota.word()));
@@ -112,13 +182,18 @@ pub(crate) fn release(
     alloc: Global,
     engine: &mut Engine,
     limits: &Limits,
-    app: &str,
+    app: &[u8],
     changes: &[LineChange<'_>],
 ) -> Result<(), Unmade>
+    ensures released { OnOk result ((cs : List ReleaseChange) → changes_seen changes.now ≡ Some cs
+        → IsReleased limits.now engine.old app.now cs engine.new) }
+    ensures refused { IfErr result (λ unmade. (cs : List ReleaseChange)
+        → changes_seen changes.now ≡ Some cs → IfRefused unmade
+        (IsUnreleased limits.now engine.old app.now (app_of app.now) cs)) }
     ensures unchanged { OnErr result (engine.new ≡ engine.old) }
     ensures parents { engine.new.parents ≡ engine.old.parents }
 {
-    let name = match App::read(app.as_bytes()) {
+    let name = match App::read(app) {
         Ok(name) => name,
         Err(fault) => return Err(Unmade::plain(fault.word())),
     };

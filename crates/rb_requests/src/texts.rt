@@ -54,7 +54,7 @@ impl<'a> Texts<'a> {
 }
 
 /// Returns the member at a name after another member was read.
-fn after<'a>(
+pub(crate) fn after<'a>(
     key: &str,
     name: &str,
     member: Member<'a>,

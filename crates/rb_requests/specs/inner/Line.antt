@@ -21,6 +21,7 @@ line_view (lines.Look app locale path) = LooksUp app.now locale.now path.now
 -- the text at a name
 abbrev pub text_in : Member → Option (List ℕ)
 text_in (members.Text s) = Some s.now
+text_in (members.Flag b) = None
 text_in members.Other = None
 
 abbrev pub lent : Option Member → Option (List ℕ)

@@ -1,13 +1,11 @@
 -- For what is private. Defines the text of the reply to a line under limits, and the state if memory runs out.
 use Rattle.std.specs.Prelude.{◌≡◌, ◌⊎◌, ℕ, List, Option, Some, None, if◌then◌else◌}
-use Rattle.rb_engine.specs.Ask.{Call}
 use Rattle.rb_engine.specs.Kept.{Kept}
 use Rattle.rb_engine.specs.declared.request.Reply.{Reply}
 use Rattle.rb_engine.specs.declared.request.Reply.TheVariants.{Done}
-use Rattle.rb_requests.specs.Steps.{Outcome, CallIsJudged}
 use Rattle.serde_json.specs.Data.{Data}
 use Rattle.rb_requests.specs.Asked.{call_in}
-use Rattle.rb_requests.specs.Within.{AnswersRead, asked_usage, usage_in, outcome_line}
+use Rattle.rb_requests.specs.Within.{AnswersRead, asked_usage, usage_in}
 use Rattle.rb_requests.specs.declared.answer.Starved.{Starved}
 use Rattle.rb_requests.specs.declared.answer.Starved.TheVariants.{Before, After}
 use Rattle.rb_requests.specs.declared.limits.Limits.{Limits}
@@ -15,11 +13,6 @@ use Rattle.rb_requests.specs.declared.reading.Held.{Held}
 use Rattle.rb_requests.specs.declared.reading.Held.TheVariants as held
 use Rattle.rb_requests.specs.declared.words.LineError.{LineError}
 use Rattle.rb_requests.specs.declared.words.LineError.TheVariants.{LineTooLong, Memory}
-
--- a call is judged, and this is its reply
-abbrev pub CallReply : Limits → Kept → Call → List ℕ → Kept → Type 0
-CallReply limits old call text new =
-    (outcome : Outcome) × CallIsJudged limits old call outcome new × (text ≡ outcome_line limits outcome)
 
 -- the reply to a line that is this value
 abbrev pub DataReply : Limits → Kept → Data → List ℕ → Kept → Type 0

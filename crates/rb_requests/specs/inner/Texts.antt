@@ -1,16 +1,17 @@
 -- Defines an object's members at the names that count, by the members that serde_json reads.
 use Rattle.std.specs.Prelude.{◌≡◌, List, ◌∷◌, Option, Some, None, codes}
 use Rattle.json.specs.Token.{Token}
-use Rattle.serde_json.specs.Data.{Data, Members, string}
-use Rattle.serde_json.specs.Find.{get_member, as_str}
+use Rattle.serde_json.specs.Data.{Data, Members, boolean, string}
+use Rattle.serde_json.specs.Find.{get_member, as_bool, as_str}
 use Rattle.rb_requests.specs.declared.member.Member.{Member}
-use Rattle.rb_requests.specs.declared.member.Member.TheVariants.{Text, Other}
+use Rattle.rb_requests.specs.declared.member.Member.TheVariants.{Text, Flag, Other}
 use Rattle.rb_requests.specs.declared.texts.Texts.{Texts}
 
--- a text, or some value that is none
+-- a text, true or false, or some other value
 abbrev pub IsMember : Member → Data → Type 0
 IsMember (Text s) d = d ≡ string s.now
-IsMember Other d = as_str d ≡ None
+IsMember (Flag b) d = d ≡ boolean b
+IsMember Other d = (as_str d ≡ None) × (as_bool d ≡ None)
 
 -- the member at a name, or that there is none
 abbrev pub IsAt : Option Member → Option Data → Type 0

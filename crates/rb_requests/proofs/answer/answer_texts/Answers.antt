@@ -5,7 +5,8 @@ use Rattle.rb_requests.specs.Asked.{call_in}
 use Rattle.rb_requests.specs.Requested.{request_of}
 use Rattle.rb_requests.specs.declared.ask.Line.{Line}
 use Rattle.rb_requests.specs.declared.ask.Line.TheVariants as lines
-use Rattle.rb_requests.specs.inner.Starving.{CallReply, DataReply}
+use Rattle.rb_requests.specs.Within.{CallReply}
+use Rattle.rb_requests.specs.inner.Starving.{DataReply}
 use Rattle.rb_requests.proofs.Stepping.{call_read, asked_reply, leaves_more}
 use Rattle.rb_requests.proofs.answer.answer_texts.Goals as goal
 

@@ -1,4 +1,4 @@
-use Rattle.std.proofs.Common.{◌≡◌, ◌≢◌, sym, ◌∙◌}
+use Rattle.std.proofs.Common.{◌≡◌, sym, ◌∙◌}
 use Rattle.rb_engine.specs.Place.{place_of}
 use Rattle.rb_engine.specs.declared.request.Reply.TheVariants.{Memory}
 use Rattle.rb_requests.proofs.CallSteps.{not_put, put, short_read, install_alone, is_reply}

@@ -1,4 +1,4 @@
-use Rattle.std.proofs.Common.{false, true, ap, sym, ◌∙◌}
+use Rattle.std.proofs.Common.{ap, sym, ◌∙◌}
 use Rattle.std.specs.Prelude.{is_ok}
 use Rattle.rb_parents.specs.Family.{parent_in}
 use Rattle.rb_engine.specs.Place.{place_of}

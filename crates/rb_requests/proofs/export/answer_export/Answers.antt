@@ -3,7 +3,7 @@ use Rattle.rb_packages.specs.declared.app.AppFault.{AppFault}
 use Rattle.rb_engine.specs.Kept.{Kept}
 use Rattle.rb_requests.specs.Within.{error_line}
 use Rattle.rb_requests.specs.declared.limits.Limits.{Limits}
-use Rattle.rb_requests.specs.inner.ExportReply.{ExportReply}
+use Rattle.rb_requests.specs.ExportReply.{ExportReply}
 use Rattle.rb_requests.proofs.export.answer_export.Goals as goal
 
 bad_locale : (limits : Limits) (kept : Kept) (is_text : Bool) (r : Result (List ℕ) AppFault) (n : Option (List ℕ)) (a x : List ℕ) → Ok a ≡ r

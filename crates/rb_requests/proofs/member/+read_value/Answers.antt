@@ -1,4 +1,4 @@
-use Rattle.std.proofs.Common.{◌≡◌, ◌-◌, ◌<◌, [], ◌∷◌, length, Some, None, inl, inr, ap, ap₂, ◌∙◌, arith, refl}
+use Rattle.std.proofs.Common.{◌≡◌, ◌-◌, ◌<◌, [], ◌∷◌, length, Some, None, ap, ap₂, ◌∙◌, arith, refl}
 use Rattle.json.specs.Token.{Token}
 use Rattle.json.specs.Json.{parse_map, after_end_array, read_key, items, members, value}
 use Rattle.json.specs.Reads.{token_of}
@@ -151,10 +151,14 @@ read_value-returns-else-is_in_range-clause-err t c =
 pub read_value-returns-in-Bool-clause-ok : goal.read_value-returns-in-Bool-clause-ok
 read_value-returns-in-Bool-clause-ok t c =
     let first : c.args.reader.now ≡ token_of c.in_ok-token.token ∷ c.next.new.self = grind arith in
-    elim c.in-Bool.is [
-      | inl w ↦ (boolean w.0, refl, boolean_read c.args.depth c.args.reader.now c.next.new.self w.0 (first ∙ ap (λ k. token_of k ∷ c.next.new.self) w.1))
-      | inr e ↦ (null, refl, null_read c.args.depth c.args.reader.now c.next.new.self (first ∙ ap (λ k. token_of k ∷ c.next.new.self) e))
-    ]
+    let is = first ∙ ap (λ k. token_of k ∷ c.next.new.self) c.in-Bool.is in
+    (boolean c.in-Bool.flag, refl, boolean_read c.args.depth c.args.reader.now c.next.new.self c.in-Bool.flag is)
+
+pub read_value-returns-in-Null-clause-ok : goal.read_value-returns-in-Null-clause-ok
+read_value-returns-in-Null-clause-ok t c =
+    let first : c.args.reader.now ≡ token_of c.in_ok-token.token ∷ c.next.new.self = grind arith in
+    let is = first ∙ ap (λ k. token_of k ∷ c.next.new.self) c.in-Null.is in
+    (null, (refl, refl), null_read c.args.depth c.args.reader.now c.next.new.self is)
 
 pub read_value-returns-in-EndObject-clause-err : goal.read_value-returns-in-EndObject-clause-err
 read_value-returns-in-EndObject-clause-err t c =
@@ -167,11 +171,11 @@ read_value-returns-in_ok-pass_items-in-BeginArray-clause-ok t c =
     let first : c.args.reader.now ≡ token_of c.in_ok-token.token ∷ c.next.new.self = grind arith in
     let opened = ap (converted of_json) (ap (value c.args.depth) (first ∙ ap (λ k. token_of k ∷ c.next.new.self) c.in-BeginArray.is) ∙ value-begin_array c.args.depth c.next.new.self (omega arith)) ∙ converted-array (items (value (c.args.depth - 1)) (length c.next.new.self) c.next.new.self) in
     let found = c.in_ok-pass_items-in-BeginArray.ensures.ok in
-    (array found.0, refl, opened ∙ ap (parse_map array) found.1)
+    (array found.0, (refl, refl), opened ∙ ap (parse_map array) found.1)
 
 pub read_value-returns-in_ok-pass_members-in-BeginObject-clause-ok : goal.read_value-returns-in_ok-pass_members-in-BeginObject-clause-ok
 read_value-returns-in_ok-pass_members-in-BeginObject-clause-ok t c =
     let first : c.args.reader.now ≡ token_of c.in_ok-token.token ∷ c.next.new.self = grind arith in
     let opened = ap (converted of_json) (ap (value c.args.depth) (first ∙ ap (λ k. token_of k ∷ c.next.new.self) c.in-BeginObject.is) ∙ value-begin_object c.args.depth c.next.new.self (omega arith)) ∙ converted-object (members (value (c.args.depth - 1)) (length c.next.new.self) c.next.new.self) in
     let found = c.in_ok-pass_members-in-BeginObject.ensures.ok in
-    (object found.0, refl, opened ∙ ap (parse_map object) found.1)
+    (object found.0, (refl, refl), opened ∙ ap (parse_map object) found.1)

@@ -1,5 +1,5 @@
--- For what is private. Defines the replies to requests for what is stored, a rule of this project: a bundle's file or
--- its text, and the sizes of an application's files.
+-- Defines the replies to requests for what is stored, a rule of this project: a bundle's file or its text, and the sizes
+-- of an application's files.
 use Rattle.std.specs.Prelude.{◌≡◌, ◌<◌, ◌⊎◌, ℕ, List, length, map, Bool, true, false, if◌then◌else◌, codes}
 use Rattle.std.specs.Prelude.{Option, Some, None, Result, Ok, Err}
 use Rattle.rb_format.specs.File.{source_tree_of}
