@@ -16,9 +16,6 @@ import (
 	"time"
 )
 
-// attackTime is how long each attack lasts.
-const attackTime = 2 * time.Second
-
 // An attack is what an application does to harm others, until the channel is closed.
 type attack func(s *site, stop <-chan struct{})
 
@@ -42,9 +39,10 @@ func TestAnotherApplicationsLookups(t *testing.T) {
 	for name, a := range map[string]attack{
 		"long replies that nobody reads":   many(32, manyLooks("de", "long", 190, false)),
 		"long replies":                     many(4, single("GET", "/v1/shop/de/long", "")),
-		"expensive lookups":                many(32, manyLooks("fr_FR_A_B_C_D_E_F_G", "dear", 2000, true)),
+		"expensive lookups":                many(32, manyLooks("fr_FR_A_B_C_D_E_F_G", "costly", 2000, true)),
 		"cheap lookups":                    many(16, manyLooks("de", "a", 20000, true)),
-		"texts":                            many(4, single("PUT", "/v1/shop/nl.txt", `nl{dear{"`+long+`"}}`)),
+		"texts":                            many(4, single("PUT", "/v1/shop/nl.txt", `nl{costly{"`+long+`"}}`)),
+		"texts and long replies":           atOnce(many(2, single("PUT", "/v1/shop/nl.txt", `nl{costly{"`+long+`"}}`)), many(4, single("GET", "/v1/shop/de/long", ""))),
 		"removals":                         many(16, single("DELETE", "/v1/shop/it", "")),
 		"texts that end or are refused":    many(4, single("PUT", "/v1/shop/it.txt", "it{bad")),
 		"bodies that never come":           many(16, halfABody),
@@ -66,10 +64,10 @@ func TestAnotherApplicationsLookups(t *testing.T) {
 // expensive returns a bundle that the server or its stand-in takes long to look up in.
 func expensive() string {
 	if os.Getenv("RESB") == "" {
-		return `fr{dear{"D"}}`
+		return `fr{costly{"D"}}`
 	}
 	var text strings.Builder
-	text.WriteString(`fr{dear:alias{"/fr/a0"}`)
+	text.WriteString(`fr{costly:alias{"/fr/a0"}`)
 	for i := 0; i < 30; i++ {
 		fmt.Fprintf(&text, `a%d:alias{"/LOCALE/a%d"}`, i, i+1)
 	}
@@ -132,6 +130,19 @@ func many(callers int, one attack) attack {
 			}()
 		}
 		all.Wait()
+	}
+}
+
+// atOnce has two attacks made at the same time.
+func atOnce(one, other attack) attack {
+	return func(s *site, stop <-chan struct{}) {
+		ended := make(chan struct{})
+		go func() {
+			defer close(ended)
+			one(s, stop)
+		}()
+		other(s, stop)
+		<-ended
 	}
 }
 
@@ -254,7 +265,7 @@ func forged(t *testing.T, folder string) string {
 	return string(file)
 }
 
-// TestMemoryThatIsUsedUp has an application use all its memory in an order in which a start can't: small bundles, one that is dear to
+// TestMemoryThatIsUsedUp has an application use all its memory in an order in which a start can't: small bundles, one that is costly to
 // install, and then large ones in place of the small. The next start has all bundles, of this application and of the other.
 func TestMemoryThatIsUsedUp(t *testing.T) {
 	if os.Getenv("RESB") == "" {
@@ -282,7 +293,7 @@ func TestMemoryThatIsUsedUp(t *testing.T) {
 	for i := 0; keys.Len() < 400<<10; i++ {
 		fmt.Fprintf(&keys, "k%d{\"\"}", i)
 	}
-	if status := put("keys", "dear", keys.String()); status != 201 {
+	if status := put("keys", "costly", keys.String()); status != 201 {
 		t.Error(status)
 	}
 	refused := 0

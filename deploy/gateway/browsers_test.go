@@ -131,21 +131,21 @@ func TestLanguagesOfACaller(t *testing.T) {
 	}
 }
 
-// TestRatesOfAnApplication end with 429, and others are answered.
+// TestRatesOfAnApplication end with 429, and others are answered. Lookups that come at once are those of minutes, as the machine may be
+// busy.
 func TestRatesOfAnApplication(t *testing.T) {
 	s := open(t, "-rate", "5")
-	refused := 0
-	for i := 0; i < 20; i++ {
-		got := s.ask("GET", "/v1/shop", shopReads, "")
-		if got.StatusCode == 429 {
-			refused++
-			if wait, err := strconv.Atoi(got.Header.Get("Retry-After")); err != nil || wait < 1 || got.body != "{\"error\":\"OverRate\"}\n" {
-				t.Errorf("%v %s", got.Header, got.body)
-			}
-		}
+	lines := strings.Repeat("{\"locale\":\"de\",\"path\":\"a\"}\n", 5000)
+	if got := s.ask("POST", "/v1/shop/look", shopReads, lines); got.StatusCode != 200 {
+		t.Errorf("%d %s", got.StatusCode, got.body)
 	}
-	if got := s.ask("GET", "/v1/bank", bankWrites, ""); got.StatusCode != 200 || refused == 0 {
-		t.Errorf("%d, %d were refused", got.StatusCode, refused)
+	got := s.ask("GET", "/v1/shop", shopReads, "")
+	wait, err := strconv.Atoi(got.Header.Get("Retry-After"))
+	if got.StatusCode != 429 || err != nil || wait < 1 || got.body != "{\"error\":\"OverRate\"}\n" {
+		t.Errorf("%d %v %s", got.StatusCode, got.Header, got.body)
+	}
+	if got := s.ask("GET", "/v1/bank", bankWrites, ""); got.StatusCode != 200 {
+		t.Errorf("%d %s", got.StatusCode, got.body)
 	}
 	s = open(t, "-day-bytes", "2000")
 	for i, want := range []int{201, 200, 429} {

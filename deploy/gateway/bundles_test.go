@@ -120,7 +120,17 @@ func TestNoUpdateIsLost(t *testing.T) {
 }
 
 // attempt is ask for goroutines: it returns an error. A tag is given in If-Match.
-func (s *site) attempt(method, path, body, tag string) (answer, error) {
+func (s *site) attempt(method, path, body, tag string) (got answer, err error) {
+	unlessStill(method, func() (int, string) {
+		if got, err = s.attemptOnce(method, path, body, tag); err != nil {
+			return 0, ""
+		}
+		return got.StatusCode, got.body
+	})
+	return got, err
+}
+
+func (s *site) attemptOnce(method, path, body, tag string) (answer, error) {
 	r, err := http.NewRequest(method, s.url+path, strings.NewReader(body))
 	if err != nil {
 		return answer{}, err

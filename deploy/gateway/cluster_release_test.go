@@ -19,9 +19,20 @@ import (
 	"time"
 )
 
-// ask sends a request with headers, each a name and a value, and returns the response, or nil if none came, with its body.
+// ask sends a request with headers, each a name and a value, and returns the response, or nil if none came, with its body. It sends a change
+// again if the gateway stood still.
 func (m *machine) ask(method, path, body string, headers ...string) (got *http.Response, text string) {
-	ctx, cancel := context.WithTimeout(context.Background(), generous)
+	unlessStill(method, func() (int, string) {
+		if got, text = m.askOnce(method, path, body, headers...); got == nil {
+			return 0, ""
+		}
+		return got.StatusCode, text
+	})
+	return got, text
+}
+
+func (m *machine) askOnce(method, path, body string, headers ...string) (got *http.Response, text string) {
+	ctx, cancel := context.WithTimeout(context.Background(), 2*generous)
 	defer cancel()
 	r, err := http.NewRequestWithContext(ctx, method, "http://"+m.address+path, strings.NewReader(body))
 	if err != nil {

@@ -13,6 +13,7 @@ import (
 	"os"
 	"path/filepath"
 	"strings"
+	"sync"
 	"syscall"
 	"testing"
 	"time"
@@ -64,6 +65,7 @@ func open(t *testing.T, options ...string) *site {
 	if err != nil {
 		t.Fatal(err)
 	}
+	s.hangs = generous
 	return openWith(t, s)
 }
 
@@ -147,8 +149,17 @@ type answer struct {
 	body string
 }
 
-// ask sends a request, with headers in pairs.
-func (s *site) ask(method, path, token, body string, headers ...string) answer {
+// ask sends a request, with headers in pairs, again if the gateway stood still.
+func (s *site) ask(method, path, token, body string, headers ...string) (got answer) {
+	s.t.Helper()
+	unlessStill(method, func() (int, string) {
+		got = s.askOnce(method, path, token, body, headers...)
+		return got.StatusCode, got.body
+	})
+	return got
+}
+
+func (s *site) askOnce(method, path, token, body string, headers ...string) answer {
 	s.t.Helper()
 	var from io.Reader
 	if body != "" {
@@ -173,18 +184,25 @@ func (s *site) ask(method, path, token, body string, headers ...string) answer {
 	if err != nil {
 		s.t.Fatal(err)
 	}
-	s.described(method, path, got.StatusCode)
+	s.describes(method, path, got.StatusCode)
 	return answer{got, string(text)}
 }
 
-// described fails where openapi.json doesn't have a status that a request had.
-func (s *site) described(method, path string, status int) {
-	s.t.Helper()
-	var page struct {
+// described has what openapi.json says of each path and method. It is read once, as each request of a test is compared with it.
+var described struct {
+	sync.Once
+	page struct {
 		Paths map[string]map[string]json.RawMessage
 	}
-	if err := json.Unmarshal(openAPI, &page); err != nil {
-		s.t.Fatal(err)
+	err error
+}
+
+// describes fails where openapi.json doesn't have a status that a request had.
+func (s *site) describes(method, path string, status int) {
+	s.t.Helper()
+	described.Do(func() { described.err = json.Unmarshal(openAPI, &described.page) })
+	if described.err != nil {
+		s.t.Fatal(described.err)
 	}
 	path, _, _ = strings.Cut(path, "?")
 	if strings.HasPrefix(path, "/page/") {
@@ -210,14 +228,15 @@ func (s *site) described(method, path string, status int) {
 		}
 	}
 	method = strings.ToLower(strings.Replace(method, "HEAD", "GET", 1))
-	var at struct{ Responses map[string]json.RawMessage }
-	if page.Paths[path][method] == nil {
+	of := described.page.Paths[path][method]
+	if of == nil {
 		if status < 400 && method != "options" {
 			s.t.Errorf("openapi.json has no %s %s, which is answered %d", method, path, status)
 		}
 		return // a method or an address that isn't there
 	}
-	if err := json.Unmarshal(page.Paths[path][method], &at); err != nil || at.Responses[fmt.Sprint(status)] == nil {
+	var at struct{ Responses map[string]json.RawMessage }
+	if err := json.Unmarshal(of, &at); err != nil || at.Responses[fmt.Sprint(status)] == nil {
 		s.t.Errorf("openapi.json has no status %d of %s %s: %v", status, method, path, err)
 	}
 }

@@ -103,13 +103,25 @@ func (p *process) kill() {
 	_ = p.command.Wait()
 }
 
-// send returns the status and the body of a response; the status is 0 if none came.
-func (p *process) send(method, path, token, body string) (status int, text string) {
+// send returns the status and the body of a response; the status is 0 if none came. Headers are in pairs. It sends a request again if the
+// gateway stood still.
+func (p *process) send(method, path, token, body string, headers ...string) (status int, text string) {
+	unlessStill(method, func() (int, string) {
+		status, text = p.sendOnce(method, path, token, body, headers...)
+		return status, text
+	})
+	return status, text
+}
+
+func (p *process) sendOnce(method, path, token, body string, headers ...string) (status int, text string) {
 	r, err := http.NewRequest(method, "http://"+p.address+path, strings.NewReader(body))
 	if err != nil {
 		return 0, ""
 	}
 	r.Header.Set("Authorization", "Bearer "+token)
+	for i := 0; i < len(headers); i += 2 {
+		r.Header.Set(headers[i], headers[i+1])
+	}
 	got, err := http.DefaultClient.Do(r)
 	if err != nil {
 		return 0, ""
@@ -259,15 +271,8 @@ func TestAReleaseIsStoredWhole(t *testing.T) {
 		for i := 0; i < bundles; i++ {
 			fmt.Fprintf(&lines, `{"locale":"l%c%c","text":"x{v{\"%d\"} pad{\"%s\"}}"}`+"\n", 'a'+i/26, 'a'+i%26, number, strings.Repeat("x", 10<<10))
 		}
-		r, _ := http.NewRequest("POST", "http://"+p.address+"/v1/shop/_releases", strings.NewReader(lines.String()))
-		r.Header.Set("Authorization", "Bearer "+shopWrites)
-		r.Header.Set("Content-Type", asLines)
-		got, err := http.DefaultClient.Do(r)
-		if err != nil {
-			return 0
-		}
-		got.Body.Close()
-		return got.StatusCode
+		status, _ = p.send("POST", "/v1/shop/_releases", shopWrites, lines.String(), "Content-Type", asLines)
+		return status
 	}
 	if status := release(1); status != 200 {
 		t.Fatal(status)

@@ -177,7 +177,7 @@ func connect(s settings) (*replica.Replica, error) {
 		return nil, err
 	}
 	return replica.Open(changes, replica.Settings{
-		Program: s.program, Arguments: s.serverArguments(), Memory: s.memory / 2, Log: shared,
+		Program: s.program, Arguments: s.serverArguments(), Memory: s.memory / 2, Patience: s.hangs, Log: shared,
 	}), nil
 }
 

@@ -116,7 +116,7 @@ func TestABundleWithoutMemory(t *testing.T) {
 		t.Skip("the real server has the memory")
 	}
 	state := t.TempDir()
-	arguments := []string{"-serve", "-init", "-program", os.Args[0], "-state", state, "-tokens", tokenFile(t)}
+	arguments := []string{"-serve", "-init", "-program", standIn, "-state", state, "-tokens", tokenFile(t)}
 	rich, err := readSettings(arguments, os.Stderr)
 	if err != nil {
 		t.Fatal(err)

@@ -34,12 +34,13 @@ type settings struct {
 	connections                            int64
 	headerTime, writeTime, idleTime, leave time.Duration
 	drain                                  time.Duration
+	hangs                                  time.Duration // how long a server may take for a reply before it is killed
 }
 
 // readSettings reads the command line, and the file that it names for what it doesn't say. Errors of the command line and the
 // usage are also printed to `said`.
 func readSettings(arguments []string, said io.Writer) (settings, error) {
-	s := settings{}
+	s := settings{hangs: child.Patience}
 	f := s.flags()
 	f.SetOutput(said)
 	if err := f.Parse(arguments); err != nil {

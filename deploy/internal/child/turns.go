@@ -22,9 +22,11 @@ const (
 	halfLife    = 10 * time.Second      // of the cost that an application's lines are expected to have
 	firstCost   = 50 * time.Microsecond // of an application's first lines
 	mostWaiting = 1 << 16               // lines of an application that wait
-	patience    = 10 * time.Second      // for the reply to a lookup; then the child is killed
 	forgive     = 200 * time.Millisecond
 )
+
+// Patience is how long a child may take for the reply to a lookup, unless something else is asked for. Then it is killed.
+const Patience = 10 * time.Second
 
 // The bytes of replies that may be on their way to callers.
 const (
@@ -58,28 +60,37 @@ type queue struct {
 	most   int   // lines in the next turn: the first one has one, and it doubles
 	bytes  int64 // of replies that callers have
 	size   int64 // the longest of the last replies
+	lane   *lane
+	debt   time.Duration // see slow.go
+	debtAt time.Time
 }
 
-// Turns gives calls to a child, a turn for one application at a time. The application that used least of the child's time is
-// the next. The child is given no more while it works, so nobody waits longer than for one turn and one of each other
-// application.
+// A lane is where applications have turns, one after the other. The application that used least of the children's time is the next.
+type lane struct {
+	more  *sync.Cond
+	clock time.Duration // what the application whose turn was last had used
+}
+
+// Turns gives calls to a child, a turn for one application at a time. The child is given no more while it works, so nobody waits
+// longer than for one turn and one of each other application. Applications whose lookups take long have separate turns.
 type Turns struct {
-	giving sync.Mutex // held during a turn
+	giving sync.Mutex // held during a turn at the child that answers lookups
 	mu     sync.Mutex
-	more   *sync.Cond
+	quick  lane
+	slow   lane
 	queues map[string]*queue
-	clock  time.Duration // what the application whose turn was last had used
 	bytes  int64
 	closed bool
 	asked  uint64
 
 	sure, most, all int64 // of the bytes of replies
+	patience        time.Duration
 }
 
-// NewTurns returns turns without calls.
-func NewTurns() *Turns {
-	t := &Turns{queues: map[string]*queue{}, sure: sureBytes, most: mostBytes, all: allBytes}
-	t.more = sync.NewCond(&t.mu)
+// NewTurns returns turns without calls, at children that are killed if they take longer for a reply.
+func NewTurns(patience time.Duration) *Turns {
+	t := &Turns{queues: map[string]*queue{}, sure: sureBytes, most: mostBytes, all: allBytes, patience: patience}
+	t.quick.more, t.slow.more = sync.NewCond(&t.mu), sync.NewCond(&t.mu)
 	return t
 }
 
@@ -88,7 +99,7 @@ func NewTurns() *Turns {
 func (t *Turns) Go(ctx context.Context, app string, line []byte, done func(*Call)) {
 	c := &Call{Line: line, ctx: ctx, begun: time.Now(), done: done, turns: t}
 	t.mu.Lock()
-	q := t.queueOf(app)
+	q := t.queueOf(app, c.begun)
 	if t.closed || len(q.calls) >= mostWaiting {
 		c.Err = ErrBusy
 		t.mu.Unlock()
@@ -97,7 +108,7 @@ func (t *Turns) Go(ctx context.Context, app string, line []byte, done func(*Call
 	}
 	c.of = q
 	q.calls = append(q.calls, c)
-	t.more.Signal()
+	q.lane.more.Signal()
 	t.mu.Unlock()
 }
 
@@ -117,14 +128,17 @@ func (t *Turns) Ask(ctx context.Context, within time.Duration, app string, line 
 }
 
 // queueOf returns the application's queue. One that had no calls begins where the others are.
-func (t *Turns) queueOf(app string) *queue {
+func (t *Turns) queueOf(app string, now time.Time) *queue {
 	q := t.queues[app]
 	if q == nil {
-		q = &queue{app: app, cost: firstCost, costAt: time.Now(), most: 1}
+		q = &queue{app: app, cost: firstCost, costAt: now, most: 1, lane: &t.quick}
 		t.queues[app] = q
 	}
-	if len(q.calls) == 0 && q.used < t.clock {
-		q.used = t.clock
+	if len(q.calls) == 0 {
+		t.chooseLane(q, now)
+		if q.used < q.lane.clock {
+			q.used = q.lane.clock
+		}
 	}
 	return q
 }
@@ -136,11 +150,15 @@ func (c *Call) Free() {
 	}
 	t := c.turns
 	t.mu.Lock()
+	c.of.lane.more.Signal()
+	if t.bytes > t.all/2 { // applications of both lanes may wait for these bytes
+		t.quick.more.Signal()
+		t.slow.more.Signal()
+	}
 	c.of.bytes -= c.bytes
 	t.bytes -= c.bytes
 	c.bytes = 0
 	c.Reply = nil
-	t.more.Signal()
 	t.mu.Unlock()
 }
 
@@ -156,28 +174,53 @@ func (t *Turns) Close() {
 	t.mu.Lock()
 	defer t.mu.Unlock()
 	t.closed = true
-	t.more.Broadcast()
+	t.quick.more.Broadcast()
+	t.slow.more.Broadcast()
 }
 
-// Run gives turns until it is closed. Await is given the child that has just ended, if one has, and waits if another one is about
-// to answer. Serving returns the child that answers now, or nil.
-func (t *Turns) Run(await func(ended *Child), serving func() *Child) {
-	var ended *Child
-	for {
-		burst := t.next()
-		if burst == nil {
-			return
-		}
-		await(ended)
-		t.giving.Lock()
-		c := serving()
-		if ended = nil; c == nil {
-			t.fail(burst, ErrReplaying)
-		} else if !t.turn(c, burst) {
-			ended = c
-		}
-		t.giving.Unlock()
+// Servers say which child has a turn.
+type Servers interface {
+	// Await waits if no child answers lookups, and another one is about to.
+	Await()
+	// Serving returns the child that answers lookups now, or nil.
+	Serving() *Child
+	// Lost is called when a child has ended.
+	Lost(c *Child)
+	// Borrow returns another child with all bundles, or nil if there is none, or if it is needed for something else for this long. Return
+	// must be called before it is asked for again.
+	Borrow(within time.Duration) *Child
+	Return()
+}
+
+// Run gives turns until it is closed.
+func (t *Turns) Run(servers Servers) {
+	var beside sync.WaitGroup
+	beside.Add(1)
+	go func() {
+		defer beside.Done()
+		t.runSlow(servers)
+	}()
+	for burst := t.next(&t.quick, true); burst != nil; burst = t.next(&t.quick, true) {
+		t.serve(servers, burst)
 	}
+	beside.Wait()
+}
+
+// serve gives a turn at the child that answers lookups, and returns how long it took.
+func (t *Turns) serve(servers Servers, burst []*Call) (took time.Duration) {
+	servers.Await()
+	t.giving.Lock()
+	defer t.giving.Unlock()
+	c := servers.Serving()
+	if c == nil {
+		t.fail(burst, ErrReplaying)
+		return 0
+	}
+	took, ok := t.turn(c, burst)
+	if !ok {
+		servers.Lost(c)
+	}
+	return took
 }
 
 // Between calls a function while no child has a turn: after another child serves, nobody waits for the earlier one.
@@ -187,16 +230,16 @@ func (t *Turns) Between(do func()) {
 	do()
 }
 
-// turn asks a burst of one application, and returns false if the child ended.
-func (t *Turns) turn(c *Child, burst []*Call) bool {
+// turn asks a burst of one application, and returns how long it took, and false if the child ended.
+func (t *Turns) turn(c *Child, burst []*Call) (took time.Duration, ok bool) {
 	lines := make([][]byte, len(burst))
 	for i, call := range burst {
 		lines[i] = call.Line
 	}
 	began := time.Now()
 	before, _ := c.cpu()
-	replies, err := c.Ask(lines, patience, func(line, bytes int) bool { return t.admit(burst[line], int64(bytes)) })
-	took := time.Since(began)
+	replies, err := c.Ask(lines, t.patience, func(line, bytes int) bool { return t.admit(burst[line], int64(bytes)) })
+	took = time.Since(began)
 	if after, ok := c.cpu(); ok && after-before < took {
 		took = after - before // the machine may be busy with something else
 	}
@@ -209,10 +252,10 @@ func (t *Turns) turn(c *Child, burst []*Call) bool {
 		call.done(call)
 	}
 	if err == nil {
-		return true
+		return took, true
 	}
 	t.retry(burst[len(replies):])
-	return false
+	return took, false
 }
 
 // retry has lines whose child ended answered by another one, once.
@@ -231,6 +274,7 @@ func (t *Turns) retry(left []*Call) {
 	if len(again) > 0 {
 		q := again[0].of
 		q.calls = append(again, q.calls...)
+		q.lane.more.Signal()
 	}
 	t.mu.Unlock()
 	t.fail(lost, ErrEnded)
@@ -299,6 +343,7 @@ func (t *Turns) account(q *queue, lines int, took time.Duration, replies [][]byt
 		expected = each
 	}
 	q.cost, q.costAt = expected, now
+	t.charge(q, took, now)
 }
 
 // expected is the highest cost of the application's last lines; it halves after some time.
@@ -312,12 +357,12 @@ func (q *queue) expected(now time.Time) time.Duration {
 	return cost - cost*rest/(2*halfLife)
 }
 
-// next waits for calls and takes those of one turn; nil means that it is closed.
-func (t *Turns) next() []*Call {
+// next takes the calls of a lane's next turn, and waits for them if that is asked for; nil then means that it is closed.
+func (t *Turns) next(l *lane, waits bool) []*Call {
 	t.mu.Lock()
 	defer t.mu.Unlock()
 	for {
-		if q := t.first(); q != nil {
+		if q := t.first(l); q != nil {
 			if burst, late := t.take(q); len(burst) > 0 {
 				return burst
 			} else if len(late) > 0 {
@@ -327,21 +372,22 @@ func (t *Turns) next() []*Call {
 			}
 			continue
 		}
-		if t.closed {
+		if t.closed || !waits {
 			return nil
 		}
-		t.more.Wait()
+		l.more.Wait()
 	}
 }
 
-// first returns the application whose turn is next, of those whose callers have taken enough of their replies.
-func (t *Turns) first() (next *queue) {
+// first returns the application whose turn is next in a lane, of those whose callers have taken enough of their replies.
+func (t *Turns) first(l *lane) (next *queue) {
 	for app, q := range t.queues {
 		switch {
 		case len(q.calls) == 0:
 			if len(t.queues) > 1024 && q.bytes == 0 {
 				delete(t.queues, app)
 			}
+		case q.lane != l:
 		case q.bytes > 0 && !t.mayHave(q, q.size):
 		case next == nil || q.used < next.used:
 			next = q
@@ -352,7 +398,7 @@ func (t *Turns) first() (next *queue) {
 
 // take takes the calls of a turn. Those whose callers have given up, and that waited for long, are late.
 func (t *Turns) take(q *queue) (burst, late []*Call) {
-	t.clock = q.used
+	q.lane.clock = q.used
 	now := time.Now()
 	most := int(quantum / (q.expected(now) + 1))
 	if most > q.most {

@@ -7,6 +7,7 @@ import (
 	"os"
 	"path/filepath"
 	"strings"
+	"sync"
 	"syscall"
 	"testing"
 	"time"
@@ -24,37 +25,88 @@ func TestMain(m *testing.M) {
 	os.Exit(m.Run())
 }
 
-// begin starts a stand-in where `shop` has a bundle, and gives turns to it.
-func begin(t *testing.T) (*Turns, *Child) {
+// two are the children that have turns: one answers lookups, and the other one can be borrowed, if it is there and not busy.
+type two struct {
+	mu               sync.Mutex
+	serves, borrowed *Child
+	busy             bool
+	times            *os.File // of the one that serves, whose turns may be timed by the clock
+}
+
+func (s *two) Await() {}
+
+func (s *two) Serving() *Child {
+	s.mu.Lock()
+	defer s.mu.Unlock()
+	return s.serves
+}
+
+func (s *two) Lost(c *Child) {
+	s.mu.Lock()
+	defer s.mu.Unlock()
+	if s.serves == c {
+		s.serves = nil
+	} else {
+		s.borrowed = nil
+	}
+}
+
+func (s *two) Borrow(within time.Duration) *Child {
+	s.mu.Lock()
+	borrowed, busy := s.borrowed, s.busy
+	s.mu.Unlock()
+	if busy {
+		time.Sleep(within)
+		return nil
+	}
+	return borrowed
+}
+
+func (s *two) Return() {}
+
+// stand starts a stand-in where `shop` and `bank` have a bundle.
+func stand(t *testing.T) *Child {
 	t.Helper()
 	c, err := Start(os.Args[0], nil, 0)
 	if err != nil {
 		t.Fatal(err)
 	}
-	body := `de{a{"A"} dear{"D"} long{"` + strings.Repeat("x", 1<<14) + `"}}`
+	body := `de{a{"A"} costly{"D"} long{"` + strings.Repeat("x", 1<<14) + `"}}`
 	for _, app := range []string{"shop", "bank"} {
 		line := ChangeLine(store.Change{Op: store.Install, App: app, Locale: "de", Form: store.Text, Body: []byte(body)})
 		if replies, err := c.Ask([][]byte{line}, time.Minute, nil); err != nil || string(replies[0]) != `{"ok":true}` {
 			t.Fatal(err, replies)
 		}
 	}
-	turns := NewTurns()
-	stopped := make(chan struct{})
+	return c
+}
+
+// begin gives turns to a stand-in.
+func begin(t *testing.T) (*Turns, *Child) {
+	t.Helper()
+	children := &two{serves: stand(t)}
+	return children.begin(t), children.serves
+}
+
+// begin gives turns to the children.
+func (s *two) begin(t *testing.T) *Turns {
+	t.Helper()
+	const patience = 10 * time.Minute // servers stand still in tests, and the machine may be busy
+	turns, stopped, all := NewTurns(patience), make(chan struct{}), []*Child{s.serves, s.borrowed}
 	go func() {
-		serves := c
-		turns.Run(func(ended *Child) {
-			if ended != nil {
-				serves = nil
-			}
-		}, func() *Child { return serves })
+		turns.Run(s)
 		close(stopped)
 	}()
 	t.Cleanup(func() {
 		turns.Close()
 		<-stopped
-		c.Finish(time.Second)
+		for _, c := range all {
+			if c != nil {
+				c.Finish(time.Second)
+			}
+		}
 	})
-	return turns, c
+	return turns
 }
 
 // halt stops a process, and returns once all its threads have stopped: until then some of them run.
@@ -89,7 +141,7 @@ func TestOneOfManyLinesGoesBefore(t *testing.T) {
 	halt(t, server.PID())
 	left := make(chan *Call, 100)
 	for i := 0; i < cap(left); i++ {
-		turns.Go(context.Background(), "shop", LookLine("shop", "de", "dear"), func(c *Call) { left <- c })
+		turns.Go(context.Background(), "shop", LookLine("shop", "de", "costly"), func(c *Call) { left <- c })
 	}
 	type result struct {
 		text   string
@@ -172,7 +224,7 @@ func TestAServerThatEnds(t *testing.T) {
 	turns, c := begin(t)
 	answers := make(chan *Call, 20)
 	for i := 0; i < cap(answers); i++ {
-		turns.Go(context.Background(), "shop", LookLine("shop", "de", "dear"), func(c *Call) { answers <- c })
+		turns.Go(context.Background(), "shop", LookLine("shop", "de", "costly"), func(c *Call) { answers <- c })
 	}
 	c.Kill()
 	for i := 0; i < cap(answers); i++ {
@@ -191,7 +243,7 @@ func TestAServerThatEnds(t *testing.T) {
 func TestManyApplications(t *testing.T) {
 	turns, c := begin(t)
 	halt(t, c.PID())
-	const apps, each = 3000, 3
+	const apps, each = 1500, 3 // 1024 are remembered
 	answers := make(chan *Call, apps*each)
 	for i := 0; i < apps*each; i++ {
 		turns.Go(context.Background(), fmt.Sprint("app", i%apps), LookLine("shop", "de", "a"), func(c *Call) { answers <- c })

@@ -40,7 +40,7 @@ func TestDifferences(t *testing.T) {
 
 // TestBoundsOfDifferences are those of the result, of time and of what is read.
 func TestBoundsOfDifferences(t *testing.T) {
-	long := `{"` + strings.Repeat("k", 1<<20) + `":[` + strings.TrimSuffix(strings.Repeat(`"",`, 1<<20), ",") + `]}`
+	long := `{"` + strings.Repeat("k", 1<<20) + `":[` + strings.TrimSuffix(strings.Repeat(`"",`, 1<<17), ",") + `]}`
 	if _, err := Differences(context.Background(), nil, []byte(long), 8<<20); !errors.Is(err, ErrOutput) {
 		t.Error(err)
 	}

@@ -21,6 +21,10 @@ const MEANINGS = {
   PreconditionFailed: "another change was made meanwhile",
 };
 
+// Refusals that say that nothing was done, as the gateway stood still or starts a server: they are asked again after some time.
+const AGAIN = ["Busy", "Replaying"];
+const WAIT = 1000, TRIES = 20;
+
 /** A refusal. Its status is 0 if there was no answer. */
 export class Refused extends Error {
   constructor(status, reply) {
@@ -43,8 +47,19 @@ export class Gateway {
     return ["v1", this.app, ...parts].map(encodeURIComponent).join("/");
   }
 
-  /** Asks, and returns the response, or throws why there is none. */
-  async ask(method, address, { headers = {}, body, signal } = {}) {
+  /** Asks, again if the gateway can't answer now, and returns the response, or throws why there is none. */
+  async ask(method, address, options = {}) {
+    for (let tries = 1; ; tries++) {
+      try {
+        return await this.askOnce(method, address, options);
+      } catch (error) {
+        if (!AGAIN.includes(error.code) || tries === TRIES) throw error;
+      }
+      await new Promise((wake) => setTimeout(wake, WAIT));
+    }
+  }
+
+  async askOnce(method, address, { headers = {}, body, signal } = {}) {
     let response;
     try {
       response = await fetch(address, {

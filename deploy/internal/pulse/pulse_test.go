@@ -10,6 +10,7 @@ func TestStandingStill(t *testing.T) {
 	if StoodStill(before) || IsOld(before) {
 		t.Skip("skipped: this machine stands still by itself")
 	}
+	defer stood.Store(0)        // for the next round
 	last.Add(-int64(2 * still)) // as if the last beat were long ago
 	if !StoodStill(before) || !StoodStill(time.Now()) {
 		t.Error("it isn't noticed at once")

@@ -83,6 +83,7 @@ func (r *Replica) nameProgram(program string) {
 func (r *Replica) place(f *filling, outdated map[*child.Child]bool) (other, ends *child.Child) {
 	r.mu.Lock()
 	defer r.mu.Unlock()
+	r.borrowing.withheld = false
 	switch {
 	case r.serves == nil:
 		r.serves, other = f.to, r.judges
@@ -106,6 +107,7 @@ func (r *Replica) use(f *filling, outdated map[*child.Child]bool) {
 		r.lost(f.to)
 	}()
 	var other, ends *child.Child
+	r.withhold()
 	r.turns.Between(func() { other, ends = r.place(f, outdated) })
 	log.Printf("server: process %d serves after %v: %d bundles, %d left out", f.to.PID(),
 		time.Since(f.began).Round(time.Millisecond), len(f.bundles)-len(f.left), len(f.left))

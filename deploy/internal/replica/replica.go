@@ -2,7 +2,8 @@
 //
 // Two servers have the same bundles. One answers lookups; the other one judges changes. Once a change is stored, the two swap,
 // and the first one makes the change too. So a lookup never waits for a change, never finds one that isn't stored, and is
-// answered while a server that ended is replaced.
+// answered while a server that ended is replaced. Lookups of an application that take long are answered by the judging server, as
+// long as no change needs it, so that others don't wait for them.
 package replica
 
 import (
@@ -39,8 +40,9 @@ var (
 type Settings struct {
 	Program   string
 	Arguments []string
-	Memory    int64     // of each server; 0 is no limit
-	Log       SharedLog // or nil, if the changes are in the store alone
+	Memory    int64         // of each server; 0 is no limit
+	Patience  time.Duration // for a reply to a lookup
+	Log       SharedLog     // or nil, if the changes are in the store alone
 }
 
 // A Replica answers from the bundles of a store.
@@ -54,21 +56,22 @@ type Replica struct {
 	stop      context.CancelFunc
 	stopped   sync.WaitGroup
 
-	mu       sync.Mutex
-	wake     *sync.Cond
-	program  string       // of servers that are started
-	version  string       // what the program says of its version
-	wanted   *upgrade     // another program that is asked for, or nil
-	serves   *child.Child // answers lookups, or nil
-	judges   *child.Child // judges changes, or nil
-	writing  bool         // the judging one has, perhaps, what isn't stored
-	behind   bool         // the judging one lacks, perhaps, what is stored
-	ending   bool
-	fills    int
-	revision store.Revision    // of the bundles with which lookups are answered
-	left     map[bundle]string // bundles that servers don't have, and why
-	append   func(context.Context, []store.Change) (store.Revision, error)
-	pause    func() // called before the server that is behind makes the changes, in tests
+	mu        sync.Mutex
+	wake      *sync.Cond
+	program   string       // of servers that are started
+	version   string       // what the program says of its version
+	wanted    *upgrade     // another program that is asked for, or nil
+	serves    *child.Child // answers lookups, or nil
+	judges    *child.Child // judges changes, or nil
+	writing   bool         // the judging one has, perhaps, what isn't stored
+	behind    bool         // the judging one lacks, perhaps, what is stored
+	borrowing borrowing
+	ending    bool
+	fills     int
+	revision  store.Revision    // of the bundles with which lookups are answered
+	left      map[bundle]string // bundles that servers don't have, and why
+	append    func(context.Context, []store.Change) (store.Revision, error)
+	pause     func() // called before the server that is behind makes the changes, in tests
 }
 
 // A bundle is named by its application and its canonical locale.
@@ -77,7 +80,7 @@ type bundle struct{ app, locale string }
 // Open starts servers for the bundles of a store, which the replica closes.
 func Open(s *sqlite.Store, settings Settings) *Replica {
 	ctx, stop := context.WithCancel(context.Background())
-	r := &Replica{settings: settings, program: settings.Program, store: s, turns: child.NewTurns(), changes: newChanges(), stop: stop,
+	r := &Replica{settings: settings, program: settings.Program, store: s, turns: child.NewTurns(settings.Patience), changes: newChanges(), stop: stop,
 		left: map[bundle]string{}, append: s.AppendAll, pause: func() {}, shared: shared{log: settings.Log, theirs: map[bundle]time.Time{}}}
 	r.wake = sync.NewCond(&r.mu)
 	r.stopped.Add(2)
@@ -90,7 +93,7 @@ func Open(s *sqlite.Store, settings Settings) *Replica {
 	}
 	go func() {
 		defer r.stopped.Done()
-		r.turns.Run(r.awaitServing, r.serving)
+		r.turns.Run(servers{r})
 	}()
 	go func() {
 		defer r.stopped.Done()
@@ -104,42 +107,6 @@ func Open(s *sqlite.Store, settings Settings) *Replica {
 		r.wake.Broadcast()
 	}()
 	return r
-}
-
-// serving returns the server that answers lookups, or nil.
-func (r *Replica) serving() *child.Child {
-	r.mu.Lock()
-	defer r.mu.Unlock()
-	return r.serves
-}
-
-// awaitServing takes a server that has just ended, or nil. It waits while the other one has what isn't stored, or lacks what is: then
-// that one answers.
-func (r *Replica) awaitServing(ended *child.Child) {
-	if ended != nil {
-		r.lost(ended)
-	}
-	r.mu.Lock()
-	defer r.mu.Unlock()
-	for r.serves == nil && r.judges != nil && (r.writing || r.behind) && !r.ending {
-		r.wake.Wait()
-	}
-}
-
-// lost notes that a server has ended. The other one answers lookups, unless it has what isn't stored, or lacks what is.
-func (r *Replica) lost(c *child.Child) {
-	r.mu.Lock()
-	defer r.mu.Unlock()
-	switch c {
-	case r.serves:
-		r.serves = nil
-		if !r.writing && !r.behind {
-			r.serves, r.judges = r.judges, nil
-		}
-	case r.judges:
-		r.judges = nil
-	}
-	r.wake.Broadcast()
 }
 
 // run keeps two servers, and has changes and upgrades made, until the context ends.
@@ -193,9 +160,10 @@ func (r *Replica) await() (batch []*pending, more bool) {
 	r.mu.Lock()
 	defer r.mu.Unlock()
 	stays := func() bool { return !r.ending && r.serves != nil && r.judges != nil && r.wanted == nil }
-	for stays() && !r.changes.any() && !r.moved {
+	for stays() && (!r.changes.any() && !r.moved || r.mustWait()) {
 		r.wake.Wait()
 	}
+	r.borrowing.wanted = false
 	if !stays() {
 		return nil, false
 	}
@@ -203,6 +171,7 @@ func (r *Replica) await() (batch []*pending, more bool) {
 		r.theirs = map[bundle]time.Time{}
 	}
 	r.moved, r.writing = false, len(batch) > 0 || more
+	r.borrowing.wrote = r.borrowing.wrote || r.writing
 	return batch, more
 }
 

@@ -40,7 +40,7 @@ func open(t *testing.T, folder string, options sqlite.Options) *Replica {
 	if err != nil {
 		t.Fatal(err)
 	}
-	r := Open(s, Settings{Program: testProgram()})
+	r := Open(s, Settings{Program: testProgram(), Patience: generous})
 	t.Cleanup(r.Close)
 	r.awaitBoth(t)
 	return r
@@ -252,7 +252,7 @@ func (r *Replica) fillsNow() int {
 func TestChangesOfOneApplicationDontDelayLookups(t *testing.T) {
 	r := open(t, t.TempDir(), sqlite.Options{})
 	r.put("bank", "de", text("de", "B"))
-	body := `de{a{"dear"}}`
+	body := `de{a{"costly"}}`
 	if os.Getenv("RESB") != "" {
 		body = `de{a{"` + strings.Repeat("x", 7<<20) + `"}}`
 	}

@@ -117,7 +117,7 @@ func (r *Replica) note(err error) {
 
 // entries reads some changes that the store lacks, and whether the log ends after them.
 func (r *Replica) entries(ctx context.Context) (entries []store.Entry, ends bool, err error) {
-	if err := r.identify(); err != nil {
+	if err := r.identify(ctx); err != nil {
 		return nil, false, err
 	}
 	began := time.Now()
@@ -151,7 +151,7 @@ func (r *Replica) follow(ctx context.Context, entries []store.Entry, ends bool) 
 }
 
 // identify returns an error if the log isn't the one of the store, or has lost changes. It asks once for each connection.
-func (r *Replica) identify() error {
+func (r *Replica) identify(ctx context.Context) error {
 	connections := r.log.Connections()
 	if r.identified && r.connections == connections {
 		return nil
@@ -165,11 +165,34 @@ func (r *Replica) identify() error {
 	if ends < last {
 		return fmt.Errorf("%w: it ends at %d, and this gateway has its changes up to %d", store.ErrDamaged, ends, last)
 	}
-	if err := r.store.Follows(name); err != nil {
+	if err := r.store.Follows(name, func() (bool, error) { return r.hasLast(ctx) }); err != nil {
 		return err
 	}
 	r.identified, r.connections = true, connections
 	return nil
+}
+
+// hasLast returns true if the log has one of the last bundles of the store, or the store has no changes yet. The first of the last hundred
+// entries up to the store's revision decides that the log still has and that made a bundle as the store has it, or a later one.
+func (r *Replica) hasLast(ctx context.Context) (bool, error) {
+	last, before := r.store.Revision(), store.Revision(0)
+	if last == 0 {
+		return true, nil
+	}
+	if last > 100 {
+		before = last - 100
+	}
+	entries, _, err := r.log.Changes(ctx, before)
+	if err != nil {
+		return false, err
+	}
+	for _, e := range entries {
+		b, has := r.store.Bundle(e.App, e.Locale)
+		if puts := e.Op == store.Install || e.Op == store.Replace; puts && has && e.Revision <= last && e.InHistory() >= b.Revision {
+			return b.IsFrom(e), nil
+		}
+	}
+	return false, nil
 }
 
 // hasTooManyNames returns true if a change would give the application one name too many.

@@ -27,6 +27,7 @@ type memoryLog struct {
 	readers []*memoryReader
 	erased  map[string]store.Revision // of each application: earlier entries are gone
 	keeps   bool                      // nothing may be removed
+	name    string
 }
 
 func newMemoryLog() *memoryLog { return &memoryLog{erased: map[string]store.Revision{}} }
@@ -58,7 +59,7 @@ func (l *memoryLog) Reached() bool {
 func (l *memoryLog) Identify(bool) (string, store.Revision, error) {
 	l.mu.Lock()
 	defer l.mu.Unlock()
-	return "memory", store.Revision(len(l.entries)), nil
+	return l.name, store.Revision(len(l.entries)), nil
 }
 
 func (l *memoryLog) Append(_ context.Context, c store.Change, expected store.Revision) (store.Revision, error) {
@@ -196,7 +197,7 @@ func follow(t *testing.T, log SharedLog, folder string) *Replica {
 	if err != nil {
 		t.Fatal(err)
 	}
-	r := Open(s, Settings{Program: testProgram(), Log: log})
+	r := Open(s, Settings{Program: testProgram(), Patience: generous, Log: log})
 	t.Cleanup(r.Close)
 	r.awaitBoth(t)
 	return r
@@ -369,6 +370,85 @@ func TestAReplicaWithoutItsLog(t *testing.T) {
 	}
 }
 
+// TestALogThatLosesItsTime has a replica that follows a log on, empty or not, while its server doesn't say when it was made.
+func TestALogThatLosesItsTime(t *testing.T) {
+	l, folder := newMemoryLog(), t.TempDir()
+	dated, undated := store.NameOf("memory", time.Unix(7, 8)), store.NameOf("memory", time.Time{})
+	for start, name := range []string{dated, undated, undated, dated} {
+		l.set(func() { l.name = name })
+		r := follow(t, l.reader(), folder)
+		if start > 0 { // the first one stores the name alone
+			if got := r.put("shop", "de", text("de", fmt.Sprint(start))); got != done {
+				t.Errorf("start %d: %s", start, got)
+			}
+		}
+		r.Close()
+	}
+}
+
+// TestAnUndatedLog has a replica whose store has the name of a log without its time: it follows the log under its dated name.
+func TestAnUndatedLog(t *testing.T) {
+	l, folder := newMemoryLog(), t.TempDir()
+	l.name = store.NameOf("memory", time.Time{})
+	r := follow(t, l.reader(), folder)
+	r.put("shop", "de", text("de", "A"))
+	r.Close()
+	l.set(func() { l.name = store.NameOf("memory", time.Unix(7, 8)) })
+	for start := 0; start < 2; start++ {
+		r := follow(t, l.reader(), folder)
+		if got := r.put("shop", "fr", text("fr", fmt.Sprint(start))); got != done {
+			t.Errorf("start %d: %s", start, got)
+		}
+		r.Close()
+	}
+}
+
+// TestWhichLogHasTheLastBundles compares the bundles of a store with its log, also after others made more changes, and with other logs.
+func TestWhichLogHasTheLastBundles(t *testing.T) {
+	first, folder := newMemoryLog(), t.TempDir()
+	r := follow(t, first.reader(), folder)
+	r.put("shop", "de", text("de", "A"))
+	r.put("shop", "it", text("it", "B"))
+	r.Close()
+	s, err := sqlite.Open(folder, sqlite.Options{Follow: true})
+	if err != nil {
+		t.Fatal(err)
+	}
+	defer s.Close()
+	add := func(l *memoryLog, changes ...store.Change) {
+		for _, c := range changes {
+			if c.App = "shop"; c.Release != nil {
+				c.Release.Changes = []store.Member{{Change: bundleOf("it", text("it", "later"))}}
+				c.Body = store.Encode(c.Release.Changes)
+			}
+			if _, err := l.Append(context.Background(), c, store.Revision(len(l.entries))); err != nil {
+				t.Fatal(err)
+			}
+		}
+	}
+	for what, of := range map[string]struct {
+		change func(l *memoryLog)
+		want   bool
+	}{
+		"the same":          {func(*memoryLog) {}, true},
+		"a later change":    {func(l *memoryLog) { add(l, bundleOf("it", text("it", "later"))) }, true},
+		"a later release":   {func(l *memoryLog) { add(l, store.Change{Op: store.MakeRelease, Release: &store.Release{}}) }, true},
+		"all changed later": {func(l *memoryLog) { add(l, bundleOf("de", text("de", "later")), removalOf("it")) }, false},
+		"other bytes":       {func(l *memoryLog) { l.entries[0].Body = []byte(text("de", "other")) }, false},
+		"another time":      {func(l *memoryLog) { l.entries[0].At = time.Unix(9, 0) }, false},
+		"another order":     {func(l *memoryLog) { l.entries[0].Locale, l.entries[1].Locale = "it", "de" }, false},
+		"other bundles":     {func(l *memoryLog) { l.entries[0].App, l.entries[1].App = "bank", "bank" }, false},
+		"no entries":        {func(l *memoryLog) { l.entries = nil }, false},
+	} {
+		l := newMemoryLog()
+		l.entries = append(l.entries, first.entries...)
+		of.change(l)
+		if got, err := (&Replica{store: s, shared: shared{log: l.reader()}}).hasLast(context.Background()); got != of.want || err != nil {
+			t.Errorf("%s: %v %v", what, got, err)
+		}
+	}
+}
+
 // TestAReplicaThatMissedChanges has one come back when a bundle was removed, installed again and replaced, and others were
 // installed: its list has the order of the log's.
 func TestAReplicaThatMissedChanges(t *testing.T) {
@@ -485,7 +565,7 @@ func TestABundleThatOneServerRefuses(t *testing.T) {
 	if err != nil {
 		t.Fatal(err)
 	}
-	second := Open(s, Settings{Program: testProgram(), Arguments: []string{"short"}, Log: l.reader()})
+	second := Open(s, Settings{Program: testProgram(), Patience: generous, Arguments: []string{"short"}, Log: l.reader()})
 	t.Cleanup(second.Close)
 	second.awaitBoth(t)
 	first.put("shop", "de", text("de", "A"))

@@ -58,7 +58,7 @@ func TestAnUpgradeAfterTheEnd(t *testing.T) {
 	if err != nil {
 		t.Fatal(err)
 	}
-	r := Open(s, Settings{Program: "/nonexistent"})
+	r := Open(s, Settings{Program: "/nonexistent", Patience: generous})
 	answers := make(chan error, 1)
 	go func() { answers <- r.Upgrade("/nonexistent/too") }()
 	if err := <-answers; !os.IsNotExist(err) {

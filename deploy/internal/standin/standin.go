@@ -288,7 +288,7 @@ func asJSON(body []byte) bool {
 }
 
 // Serve answers lines for bundles whose texts are as `de{a{"A"} b{"B"}}`. It ends at a text with `end`, takes 50 ms for one with
-// `dear`, 5 ms for a path with it, and with the last argument `short` it has no memory for a text with `much`.
+// `costly`, 5 ms for a path with it, and with the last argument `short` it has no memory for a text with `much`.
 func Serve() {
 	apps := map[string]*application{}
 	lines := bufio.NewReaderSize(os.Stdin, 1<<20)
@@ -334,7 +334,7 @@ func (a *application) answer(r request) string {
 		}
 		return done
 	}
-	if strings.Contains(r.Text, "dear") {
+	if strings.Contains(r.Text, "costly") {
 		time.Sleep(50 * time.Millisecond)
 	}
 	switch {
@@ -361,7 +361,7 @@ func (a *application) look(name, path string) string {
 	if len(path) > 1024 {
 		return `{"error":"PathTooLong"}`
 	}
-	if strings.Contains(path, "dear") {
+	if strings.Contains(path, "costly") {
 		time.Sleep(5 * time.Millisecond)
 	}
 	valid := ""

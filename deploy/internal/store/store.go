@@ -2,6 +2,8 @@
 package store
 
 import (
+	"bytes"
+	"crypto/sha256"
 	"errors"
 	"sort"
 	"strings"
@@ -102,7 +104,7 @@ var (
 )
 
 // sameTime is how much the times may differ that servers of NATS give for the making of one stream: several gateways may have asked for
-// it at the same moment.
+// it at the same moment. The times of a change may differ by as much between a gateway and a server.
 const sameTime = time.Minute
 
 // NameOf returns the name of a log that was made at a time.
@@ -119,8 +121,34 @@ func IsSameLog(a, b string) bool {
 	if err1 != nil || err2 != nil {
 		return a == b
 	}
-	between := first.Sub(second)
-	return logA == logB && -sameTime < between && between < sameTime
+	return logA == logB && isSameTime(first, second)
+}
+
+func isSameTime(a, b time.Time) bool {
+	between := a.Sub(b)
+	return -sameTime < between && between < sameTime
+}
+
+// IsUndated returns true if the name of a log has no time: a nats-server may not say when a stream was made, and a store may have the name
+// that followed from that.
+func IsUndated(name string) bool {
+	_, made, _ := strings.Cut(name, " of ")
+	at, err := time.Parse(time.RFC3339Nano, made)
+	return err == nil && at.IsZero()
+}
+
+// IsFrom returns true if an entry of a log made a bundle: it has the bundle's number and bytes, and was stored at about the same time.
+func (b *Bundle) IsFrom(e Entry) bool {
+	sum := sha256.Sum256(e.Body)
+	return b.Revision == e.InHistory() && bytes.Equal(b.Digest, sum[:]) && isSameTime(b.At, e.At)
+}
+
+// InHistory returns the number of a change in the history.
+func (e *Entry) InHistory() Revision {
+	if e.Number != 0 {
+		return e.Number
+	}
+	return e.Revision
 }
 
 // InOrder returns bundles in the order of their installation.

@@ -29,3 +29,14 @@ func TestNamesOfLogs(t *testing.T) {
 		}
 	}
 }
+
+// TestUndatedNames are those of streams of which a nats-server didn't say when they were made.
+func TestUndatedNames(t *testing.T) {
+	for name, want := range map[string]bool{
+		NameOf("RESB", time.Time{}): true, "RESB of 0001-01-01T00:00:00Z": true, NameOf("RESB", time.Unix(7, 8)): false, "RESB": false, "": false,
+	} {
+		if IsUndated(name) != want {
+			t.Error(name)
+		}
+	}
+}

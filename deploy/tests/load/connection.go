@@ -2,9 +2,9 @@ package main
 
 import (
 	"bufio"
+	"bytes"
 	"errors"
 	"fmt"
-	"io"
 	"net"
 	"strconv"
 	"strings"
@@ -69,9 +69,17 @@ func (c *connection) response() (status int, err error) {
 	case length < 0:
 		return 0, errors.New("a response without its length")
 	}
-	_, err = io.CopyN(io.Discard, c.from, length)
-	return status, err
+	return status, c.pass(length)
 }
+
+// pass reads bytes of a body.
+func (c *connection) pass(length int64) error {
+	_, err := c.from.Discard(int(length))
+	return err
+}
+
+// What the header is searched for. A line of it isn't copied.
+var colon, contentLength, transferEncoding = []byte(":"), []byte("Content-Length"), []byte("Transfer-Encoding")
 
 // header reads the header, and gives the length of the body, or that it comes in pieces.
 func (c *connection) header() (length int64, chunked bool, err error) {
@@ -81,14 +89,14 @@ func (c *connection) header() (length int64, chunked bool, err error) {
 		if err != nil || len(line) <= 2 {
 			return length, chunked, err
 		}
-		name, value, _ := strings.Cut(string(line), ":")
+		name, value, _ := bytes.Cut(line, colon)
 		switch {
-		case strings.EqualFold(name, "Content-Length"):
-			if length, err = strconv.ParseInt(strings.TrimSpace(value), 10, 64); err != nil {
+		case bytes.EqualFold(name, contentLength):
+			if length, err = strconv.ParseInt(string(bytes.TrimSpace(value)), 10, 64); err != nil {
 				return 0, false, err
 			}
-		case strings.EqualFold(name, "Transfer-Encoding"):
-			chunked = strings.TrimSpace(value) == "chunked"
+		case bytes.EqualFold(name, transferEncoding):
+			chunked = string(bytes.TrimSpace(value)) == "chunked"
 		}
 	}
 }
@@ -104,7 +112,7 @@ func (c *connection) chunks() error {
 		if err != nil {
 			return err
 		}
-		if _, err := io.CopyN(io.Discard, c.from, length+2); err != nil {
+		if err := c.pass(length + 2); err != nil {
 			return err
 		}
 		if length == 0 {

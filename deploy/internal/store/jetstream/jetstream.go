@@ -153,6 +153,7 @@ func (l *Log) Identify(create bool) (name string, last store.Revision, err error
 		return "", 0, fmt.Errorf("%w: the stream %s must be in files, keep a number of messages of each subject, have no other limit "+
 			"than bytes, and discard new messages", store.ErrDamaged, stream)
 	}
+	// A nats-server may not say when the stream was made, as trials showed, even until its next start: such a name has no time.
 	return store.NameOf(stream, info.Created), store.Revision(info.State.LastSeq), nil
 }
 

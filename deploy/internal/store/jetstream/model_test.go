@@ -656,11 +656,11 @@ func singles() (all []trial) {
 	return all
 }
 
-// releases returns trials with releases and erasures.
+// releases returns trials with releases and erasures. The short ones that find the faults of rejected designs come first.
 func releases() []trial {
 	two, first, second, removal := action{'P', both}, action{'P', 0}, action{'P', 1}, action{'D', 0}
 	replace, remove, erase := action{'r', 0}, action{'d', 1}, action{'e', both}
-	all := trialsOf([]action{removal, two, first}, []action{two, second, erase, replace, remove}, []action{first, second, erase}, 2, 2, 0)
+	all := trialsOf([]action{removal, two, first}, []action{erase, two, second, replace, remove}, []action{second, first, erase}, 2, 2, 0)
 	all = append(all, trialsOf([]action{two}, []action{replace, erase}, []action{{'r', 1}, two}, 2, 2, 1)...)
 	all = append(all, trialsOf([]action{erase}, []action{second}, []action{{'i', 0}, first}, 2, 2, 1)...)
 	return append(all, trialsOf([]action{two, first}, []action{two, {'i', 1}}, []action{first, two}, 0, 1, 0)...)
@@ -689,13 +689,22 @@ func explore(d design, all []trial) (states int, wrong string) {
 	return states, ""
 }
 
+// every returns each nth trial, from the first.
+func every(n int, all []trial) (some []trial) {
+	for i := 0; i < len(all); i += n {
+		some = append(some, all[i])
+	}
+	return some
+}
+
 func TestModel(t *testing.T) {
 	for name, all := range map[string][]trial{"changes": singles(), "releases": releases()} {
-		states, wrong := explore(design{}, all)
+		some := every(stride, all)
+		states, wrong := explore(design{}, some)
 		if wrong != "" {
 			t.Errorf("%s: %s", name, wrong)
 		}
-		t.Logf("%s: %d states", name, states)
+		t.Logf("%s: %d of %d trials, %d states", name, len(some), len(all), states)
 	}
 }
 

@@ -33,7 +33,6 @@ type batch struct {
 	whole   store.Revision // of a log that is followed
 	sum     int64
 	count   int
-	at      time.Time // of a change that is no entry
 }
 
 // AppendAll stores changes in one transaction: all of them, or none if it returns an error. It returns the last revision.
@@ -171,9 +170,7 @@ func (b *batch) now(k key) *store.Bundle {
 
 // apply writes one entry.
 func (b *batch) apply(e store.Entry) error {
-	if e.Number == 0 {
-		e.Number = e.Revision
-	}
+	e.Number = e.InHistory()
 	switch e.Op {
 	case store.AddPart:
 		return nil

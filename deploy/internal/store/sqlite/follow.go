@@ -81,22 +81,42 @@ func (s *Store) Whole() store.Revision {
 	return s.whole
 }
 
-// Follows stores the name of the log that the store follows, or compares it with the one that it has.
-func (s *Store) Follows(name string) error {
+// Follows stores the name of the log that the store follows, or compares it with the one that it has. If one of the names has no time, the
+// log is asked whether it is the same one, and the name with a time is kept.
+func (s *Store) Follows(name string, same func() (bool, error)) error {
+	had, err := s.origin(name)
+	if err != nil || store.IsSameLog(had, name) {
+		return err
+	}
+	if is := false; store.IsUndated(had) || store.IsUndated(name) {
+		if is, err = same(); err != nil {
+			return err
+		} else if is && store.IsUndated(name) {
+			return nil
+		} else if is {
+			return s.rename(name)
+		}
+	}
+	return fmt.Errorf("%w: it is %s, and this gateway has the bundles of %s", store.ErrDamaged, name, had)
+}
+
+// origin returns the name of the log that the store follows, which is the given one if it had none.
+func (s *Store) origin(name string) (had string, err error) {
 	s.writing.Lock()
 	defer s.writing.Unlock()
 	ctx := context.Background()
 	if _, err := s.writer.ExecContext(ctx, "insert or ignore into origin values (1, ?)", name); err != nil {
-		return err
+		return "", err
 	}
-	var had string
-	if err := s.writer.QueryRowContext(ctx, "select name from origin").Scan(&had); err != nil {
-		return err
-	}
-	if !store.IsSameLog(had, name) {
-		return fmt.Errorf("%w: it is %s, and this gateway has the bundles of %s", store.ErrDamaged, name, had)
-	}
-	return nil
+	err = s.writer.QueryRowContext(ctx, "select name from origin").Scan(&had)
+	return had, err
+}
+
+func (s *Store) rename(name string) error {
+	s.writing.Lock()
+	defer s.writing.Unlock()
+	_, err := s.writer.ExecContext(context.Background(), "update origin set name = ?", name)
+	return err
 }
 
 // IsCopy returns true if the changes are those of another log.

@@ -43,7 +43,7 @@ func TestAStoreThatFollows(t *testing.T) {
 	if err := s.Follow(nil, true); err != nil || s.Whole() != 12 {
 		t.Error(err, s.Whole())
 	}
-	if err := s.Follows("a log"); err != nil {
+	if err := s.Follows("a log", nil); err != nil {
 		t.Fatal(err)
 	}
 	for start := 0; start < 2; start++ {
@@ -56,7 +56,7 @@ func TestAStoreThatFollows(t *testing.T) {
 				t.Error(locale)
 			}
 		}
-		if err := s.Follows("another log"); !errors.Is(err, store.ErrDamaged) {
+		if err := s.Follows("another log", nil); !errors.Is(err, store.ErrDamaged) {
 			t.Error(err)
 		}
 		s.Close()
@@ -72,6 +72,45 @@ func TestAStoreThatFollows(t *testing.T) {
 		t.Error(got, s.Names("shop"))
 	}
 	s.Close()
+}
+
+// TestAnUndatedName is replaced only if the log is the same one.
+func TestAnUndatedName(t *testing.T) {
+	folder := t.TempDir()
+	undated, dated := store.NameOf("RESB", time.Time{}), store.NameOf("RESB", time.Unix(7, 8))
+	s := followed(t, folder)
+	answers := func(same bool, err error) func() (bool, error) { return func() (bool, error) { return same, err } }
+	if err := s.Follows(undated, nil); err != nil {
+		t.Fatal(err)
+	}
+	if err := s.Follows(dated, answers(true, store.ErrUnreached)); err != store.ErrUnreached {
+		t.Error(err)
+	}
+	if err := s.Follows(dated, answers(false, nil)); !errors.Is(err, store.ErrDamaged) {
+		t.Error(err)
+	}
+	if err := s.Follows(dated, answers(true, nil)); err != nil {
+		t.Error(err)
+	}
+	s.Close()
+	s = followed(t, folder)
+	defer s.Close()
+	if err := s.Follows(dated, nil); err != nil {
+		t.Error(err)
+	}
+	if err := s.Follows(store.NameOf("RESB", time.Unix(7777, 8)), answers(true, nil)); !errors.Is(err, store.ErrDamaged) {
+		t.Error(err)
+	}
+	// a name without a time doesn't replace one that has it
+	if err := s.Follows(undated, answers(false, nil)); !errors.Is(err, store.ErrDamaged) {
+		t.Error(err)
+	}
+	if err := s.Follows(undated, answers(true, nil)); err != nil {
+		t.Error(err)
+	}
+	if err := s.Follows(dated, nil); err != nil {
+		t.Error(err)
+	}
 }
 
 // TestAStoreIsOfOneKind refuses a folder of the other kind, and opens both kinds where that is asked for.
