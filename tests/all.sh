@@ -111,6 +111,8 @@ if [ -z "$quick" ]; then
         exit 1
     fi
     grep -h 'passed, .* failed' "$logs/gate.log"
+    # `rt ci` proves the library and builds no archive: this one is built over the libraries that it left
+    start_if gcc library tests/library.sh --bare
     if command -v python3 >/dev/null; then
         part mutants tests/edits.py --gate --bare --jobs "$(lanes)" --within 15
         tail -n 1 "$logs/mutants.log"
@@ -119,18 +121,20 @@ fi
 for script in examples replies stdout files clients project package; do
     start "$script" "tests/$script.sh" "$program"
 done
-for script in commands fmt coverage diff lint_formats lint_warnings messages terminals documents completions traces pipe ignored_members icu2text json_values json_in inherit parents exchange; do
+for script in commands fmt coverage diff lint_formats lint_texts lint_warnings messages terminals documents completions traces pipe ignored_members icu2text json_values json_in inherit parents exchange; do
     start_if python3 "$script" "tests/$script.py" "$program"
 done
 start_if python3 pages tools/pages --check "$program"
 start_if python3 daily bench/daily.py --self-test "$program"
 start_if python3 printing bench/text.py --self-test "$program"
 start_if genrb icu tests/icu.sh "$program" brkitr translit
-# `rt ci` proves the library and builds no archive, and to build one proves all crates below it once more, for half an hour of a processor
-if [ -e crates/resb/out/libresb.a ]; then
-    start_if gcc library tests/library.sh --built
-else
-    echo 'library: skipped: crates/resb/out/libresb.a is not built (tools/library builds it)' | tee "$logs/library.skipped"
+# the library was begun beside the mutants, unless nothing is to be proved
+if [ -n "$quick" ]; then
+    if [ -e crates/resb/out/libresb.a ]; then
+        start_if gcc library tests/library.sh --built
+    else
+        echo 'library: skipped: crates/resb/out/libresb.a is not built (tools/library builds it)' | tee "$logs/library.skipped"
+    fi
 fi
 wait
 # what measures memory or time, or starts many processes, has the machine to itself

@@ -38,6 +38,7 @@ BEYOND = {
     "rb_printer": "all",
     "rb_replies": {"found_is_above", "reply_is_above", "tell_usage", "put_usage"},
     "rb_requests": {"serve_limited", "handle", "put", "look", "limited"},
+    "rb_review": "all",
     "rb_validator": {"blocks"},
     "resb": "all",
     "rb_writer": {"write.front", "write.end", "write.longest", "write.bytes", "write_if_light"},
