@@ -7,3 +7,4 @@ pub mod Answers
 pub mod Words
 pub mod AliasPaths
 pub mod inner
+pub mod FoundNode

@@ -3,6 +3,7 @@
 
 mod alias;
 mod fault;
+mod find;
 mod found;
 mod from_stops;
 pub mod laws;
@@ -18,6 +19,7 @@ mod words;
 
 pub use alias::{Target, read_alias};
 pub use fault::{AliasFault, BoundedError, LookError};
+pub use find::find_from;
 pub use found::Found;
 pub use limits::{LEVEL_LIMIT, PATH_LIMIT};
 pub use path::rest_behind;

@@ -6,6 +6,8 @@ ghost use Rattle.rb_parents.specs.Trail.{Bundles, stops};
 ghost use Rattle.rb_fallback.specs.Search.{by_stops, first_of};
 ghost use Rattle.rb_fallback.specs.Stops.{stop_among};
 ghost use Rattle.rb_fallback.specs.inner.LevelResult.{IsLevel, IsSomeResult};
+ghost use Rattle.rb_fallback.specs.inner.StopEnding.{Decides, IsDeciding, IsNamedLevel};
+ghost use Rattle.rb_fallback.specs.inner.StopEnding.{IsSomeDeciding};
 ghost use Rattle.rb_fallback.specs.declared.fault.LookError.TheVariants as Faults;
 
 use crate::fault::LookError;
@@ -30,6 +32,61 @@ pub trait Stops<'a>: Copy {
         ensures { result ≡ option_map (λ s. s.0) (stop self i) };
 }
 
+/// Stores the index of the stop that decides at a level, and how the walk ends there.
+#[derive(Clone, Copy)]
+pub(crate) struct StopEnding<N> {
+    pub(crate) index: usize,
+    pub(crate) ending: Ending<N>,
+}
+
+/// Finds the first stop in which the path leads somewhere, or returns `NoBundle` or `Missing`.
+/// Reads no name, so that a lookup of an item copies none.
+#[inline(always)]
+pub(crate) fn first_ending<'a, T: Stops<'a>>(
+    given: T,
+    path: &[u8],
+) -> Result<StopEnding<T::N>, LookError>
+    requires { IsPath path.now }
+    ensures { Decides T.N.tree (T.stop given) path.now result }
+{
+    if let None = given.root(0) {
+        return Err(LookError::NoBundle);
+    }
+    for i in 0..TRAIL_LIMIT {
+        let Some(root) = given.root(i) else {
+            return Err(LookError::Missing);
+        };
+        let ending = walk(root, path);
+        if let Ending::Gone = ending {
+            continue;
+        }
+        return Ok(StopEnding { index: i, ending });
+    }
+    Err(LookError::Missing)
+}
+
+/// Adds the names of the first stop and of the one that decides.
+pub(crate) fn with_names<'a, T: Stops<'a>>(
+    given: T,
+    reached: &StopEnding<T::N>,
+) -> LevelResult<T::N>
+    requires { IsSomeDeciding T.N.tree (T.stop given) reached.now }
+    ensures { (path : List ℕ) → IsDeciding T.N.tree (T.stop given) path reached.now
+        → IsNamedLevel T.N.tree (T.stop given) path result }
+{
+    let Some(first) = given.name(0) else {
+        unreachable!();
+    };
+    let Some(actual) = given.name(reached.index) else {
+        unreachable!();
+    };
+    LevelResult {
+        first,
+        actual,
+        ending: reached.ending,
+    }
+}
+
 /// Returns what the first stop gives in which the path leads somewhere, or `NoBundle` or `Missing`.
 pub(crate) fn level_from<'a, T: Stops<'a>>(
     given: T,
@@ -43,25 +100,8 @@ pub(crate) fn level_from<'a, T: Stops<'a>>(
     ensures walk { IfOk result (λ d. IsSomeResult T.N.tree d path.now) }
     ensures never { result ≢ Err Faults.BadPath }
 {
-    let Some(first) = given.name(0) else {
-        return Err(LookError::NoBundle);
-    };
-    for i in 0..TRAIL_LIMIT {
-        let Some(root) = given.root(i) else {
-            return Err(LookError::Missing);
-        };
-        let ending = walk(root, path);
-        if let Ending::Gone = ending {
-            continue;
-        }
-        let Some(actual) = given.name(i) else {
-            return Err(LookError::Missing);
-        };
-        return Ok(LevelResult {
-            first,
-            actual,
-            ending,
-        });
+    match first_ending(given, path) {
+        Ok(reached) => Ok(with_names(given, &reached)),
+        Err(error) => Err(error),
     }
-    Err(LookError::Missing)
 }

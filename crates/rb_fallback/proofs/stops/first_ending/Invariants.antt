@@ -3,7 +3,7 @@ use Rattle.rb_tree.specs.Path.{segments}
 use Rattle.rb_parents.specs.Trail.{Bundles, stops}
 use Rattle.rb_fallback.specs.Search.{decide}
 use Rattle.rb_fallback.specs.Stops.{stop_among}
-use Rattle.rb_fallback.proofs.stops.level_from.Given as goal
+use Rattle.rb_fallback.proofs.stops.first_ending.Given as goal
 
 abbrev pub invariant-loop-i : goal.invariant-loop-i
 invariant-loop-i g l =
