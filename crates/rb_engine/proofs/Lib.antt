@@ -10,3 +10,4 @@ pub mod Bounded
 pub mod Unread
 pub mod KeptOpen
 mod Places
+pub mod Finding

@@ -22,6 +22,7 @@ ghost use Rattle.rb_engine.specs.OpenLocale.{IsOpenLocale, RefusesAll};
 ghost use Rattle.rb_engine.specs.inner.KeptLocales.{AreKept};
 ghost use Rattle.rb_engine.specs.declared.request.Request.TheVariants.{Remove as Removal};
 ghost use Rattle.rb_engine.specs.declared.request.Request.TheVariants.{List as Listing};
+ghost use Rattle.rb_fallback.specs.FoundNode.{IsNodeOf};
 ghost use Rattle.rb_engine.specs.LookResponse.{look_response};
 ghost use Rattle.rb_engine.specs.Start.{Loads, IsRefused, IsIndexed};
 ghost use Rattle.rb_engine.specs.declared.request.Payload.{Payload};
@@ -29,7 +30,7 @@ ghost use Rattle.rb_engine.specs.declared.request.Payload.{Payload};
 use crate::app_shelves::AppShelves;
 use crate::brought::Brought;
 use crate::handle::{self, Change};
-use crate::open_locale::{OpenLocale, Stale, is_current, look_opened, open_at};
+use crate::open_locale::{OpenLocale, Stale, find_opened, is_current, look_opened, open_at};
 use crate::open_locales::OpenLocales;
 use crate::place::{Place, place_of};
 use crate::request::{LookFault, Payload, Reply, Request, TooManySteps};
@@ -341,6 +342,27 @@ impl Engine {
         )
     }
 
+    /// Looks up like `look_kept`, and returns the item alone, which takes less time.
+    pub fn find_kept(
+        &self,
+        app: &[u8],
+        locale: &[u8],
+        path: &[u8],
+    ) -> Option<Result<Item<'_>, LookFault>>
+        ensures { IfSome result (λ item. IsNodeOf item (λ found. look_response tree_seen found
+            ≡ answer_over (state_of self.now).start ((state_of self.now).lists app.now)
+            (Looks app.now locale.now path.now))) }
+    {
+        self.opened.find_item(
+            &self.packages,
+            &self.parents,
+            self.version,
+            app,
+            locale,
+            path,
+        )
+    }
+
     /// Looks up by names that may be other ones of a locale that is kept open.
     fn look_named(
         &self,
@@ -462,6 +484,25 @@ impl Engine {
             return Err(Stale);
         }
         Ok(look_opened(&self.packages, &self.parents, opened, path))
+    }
+
+    /// Looks up like `look_at`, and returns the item alone, which takes less time.
+    pub fn find_at(
+        &self,
+        opened: &OpenLocale,
+        path: &[u8],
+    ) -> Result<Result<Item<'_>, LookFault>, Stale>
+        ensures current { OnOk result (is_current opened.now.version self.now.version ≡ true) }
+        ensures stale { OnErr result (is_current opened.now.version self.now.version ≡ false) }
+        ensures answer { IfOk result (λ item. IsNodeOf item (λ found. (app locale : List ℕ)
+            → IsOpenLocale opened.now self.now app locale → look_response tree_seen found
+            ≡ answer_over (state_of self.now).start ((state_of self.now).lists app)
+            (Looks app locale path.now))) }
+    {
+        if is_current(opened.version, self.version) {
+            return Ok(find_opened(&self.packages, &self.parents, opened, path));
+        }
+        Err(Stale)
     }
 }
 

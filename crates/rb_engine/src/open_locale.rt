@@ -10,6 +10,7 @@ ghost use Rattle.rb_packages.specs.Lent.{bundles_lent, files_in};
 ghost use Rattle.rb_packages.specs.Packages.{files_of, icudata_of, list_of, shelf_of};
 ghost use Rattle.rb_packages.specs.Positions.{files_at_index};
 ghost use Rattle.rb_packages.specs.Shelf.{bundle_at};
+ghost use Rattle.rb_fallback.specs.FoundNode.{IsNodeOf};
 ghost use Rattle.rb_fallback.specs.Limits.{path_limit};
 ghost use Rattle.rb_fallback.specs.Stops.{AreStopsOf};
 ghost use Rattle.rb_engine.specs.Answer.{Refuses, lookup_in};
@@ -23,7 +24,7 @@ use crate::item_shelf::ItemShelf;
 use crate::place::Place;
 use crate::request::LookFault;
 use crate::same_name::same_name;
-use rb_fallback::{Found, Stops, look_from};
+use rb_fallback::{Found, Stops, find_from, look_from};
 use rb_locales::Name;
 use rb_packages::{AppShelf, Packages};
 use rb_parents::{Next, Parents, TRAIL_LIMIT, TrailFault, visit};
@@ -201,6 +202,37 @@ pub(crate) fn look_opened<'a>(
     );
     match found {
         Ok(found) => Ok(found),
+        Err(error) => Err(LookFault::from(error)),
+    }
+}
+
+/// Finds the item at a path as `look_opened` does, without the names of bundles.
+pub(crate) fn find_opened<'a>(
+    packages: &'a Packages,
+    parents: &Parents,
+    opened: &OpenLocale,
+    path: &[u8],
+) -> Result<Item<'a>, LookFault>
+    ensures { IsNodeOf result (λ found. (name : List ℕ) → AreStopsOf
+        (opened_stop opened.now (files_at_index packages.now opened.now.app))
+        (bundle_at (shelf_of (files_at_index packages.now opened.now.app)))
+        (parent_of parents.now) name
+        → look_response tree_seen found ≡ lookup_in
+        (bundle_at (shelf_of (files_at_index packages.now opened.now.app)))
+        (bundle_at (icudata_of packages.now)) (parent_of parents.now) name path.now) }
+{
+    let own = packages.shelf_at(opened.app);
+    let icu = packages.icu_shelf();
+    let stops = OpenStops { own, opened };
+    let found = find_from(
+        stops,
+        ItemShelf { shelf: own },
+        ItemShelf { shelf: icu },
+        parents,
+        path,
+    );
+    match found {
+        Ok(item) => Ok(item),
         Err(error) => Err(LookFault::from(error)),
     }
 }

@@ -6,11 +6,12 @@ ghost use Rattle.rb_views.specs.Seen.{tree_seen};
 ghost use Rattle.rb_packages.specs.App.{app_of};
 ghost use Rattle.rb_packages.specs.Packages.{Stored};
 ghost use Rattle.rb_parents.specs.Trail.{ParentsOf};
+ghost use Rattle.rb_fallback.specs.FoundNode.{IsNodeOf};
 ghost use Rattle.rb_engine.specs.LookResponse.{look_response};
 ghost use Rattle.rb_engine.specs.Version.{is_current};
 ghost use Rattle.rb_engine.specs.inner.KeptLocales.{AreKept, IsAnsweredFor, IsOpenFor};
 
-use crate::open_locale::{OpenLocale, is_current, look_opened, open_at};
+use crate::open_locale::{OpenLocale, find_opened, is_current, look_opened, open_at};
 use crate::place::Place;
 use crate::request::LookFault;
 use rb_fallback::Found;
@@ -18,6 +19,7 @@ use rb_packages::Packages;
 use rb_parents::Parents;
 use rb_views::Item;
 use std::alloc::{AllocError, Global};
+use std::hash::{FoldHasher, Hasher};
 
 /// An open locale, where it was opened, and the hash of its names.
 #[derive(Clone, Copy)]
@@ -37,18 +39,21 @@ pub(crate) struct OpenLocales {
 /// The number of slots in which a locale may be.
 const WINDOW: usize = 16;
 
-/// Mixes bytes into a hash. A caller who finds locales with equal hashes makes lookups slower, as
-/// if the table had no slots.
-fn mix(hash: u64, bytes: &[u8]) -> u64 {
-    let mut hash = hash;
-    for &byte in bytes {
-        hash = (hash ^ u64::from(byte)).wrapping_mul(0x100_0000_01B3);
-    }
-    hash
+/// Hashes an application's name and a locale's. A caller who finds locales with equal hashes makes
+/// lookups slower, as if the table had no slots.
+fn hash_of(app: &[u8], locale: &[u8]) -> u64 {
+    let mut hasher = FoldHasher::default();
+    hasher.write(app);
+    hasher.write(locale);
+    hasher.finish()
 }
 
-fn hash_of(app: &[u8], locale: &[u8]) -> u64 {
-    mix(mix(0xCBF2_9CE4_8422_2325, app), locale)
+/// Scales a hash to a number up to a count. A multiplication takes less time than a remainder.
+fn scaled(hash: u64, count: usize) -> usize
+    ensures { result ≤ count }
+{
+    let product = hash as u128 * count as u128;
+    ((product >> 64) as usize).min(count)
 }
 
 impl Slot {
@@ -92,7 +97,7 @@ impl OpenLocales {
         if count <= WINDOW {
             return (0, count);
         }
-        let from = (hash % (count - WINDOW) as u64) as usize;
+        let from = scaled(hash, count - WINDOW);
         (from, from + WINDOW)
     }
 
@@ -152,6 +157,25 @@ impl OpenLocales {
     {
         let opened = self.find(app, locale, version)?;
         Some(look_opened(packages, parents, opened, path))
+    }
+
+    /// Finds the item at a path as `look` does, without the names of bundles.
+    pub(crate) fn find_item<'a>(
+        &self,
+        packages: &'a Packages,
+        parents: &Parents,
+        version: u64,
+        app: &[u8],
+        locale: &[u8],
+        path: &[u8],
+    ) -> Option<Result<Item<'a>, LookFault>>
+        ensures { AreKept self.now.slots.items packages.now (parent_of parents.now) version
+            → IfSome result (λ item. IsNodeOf item (λ found. IsAnsweredFor
+            (look_response tree_seen found) packages.now (parent_of parents.now) app.now locale.now
+            path.now)) }
+    {
+        let opened = self.find(app, locale, version)?;
+        Some(find_opened(packages, parents, opened, path))
     }
 
     /// Returns true if the locale by these names is open in this version.

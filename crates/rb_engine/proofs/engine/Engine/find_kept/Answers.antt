@@ -1,0 +1,19 @@
+use Rattle.std.proofs.Common.{◌∙◌}
+use Rattle.rb_parents.specs.Family.{family_pairs}
+use Rattle.rb_engine.specs.Answer.{Start}
+use Rattle.rb_engine.specs.Kept.{state_of}
+use Rattle.rb_engine.proofs.KeptOpen.{some_answered}
+use Rattle.rb_engine.proofs.Lookups.{lookup_at_place}
+use Rattle.rb_engine.proofs.engine.Engine.find_kept.Goals as goal
+
+pub returns : goal.returns
+returns c =
+    let start : Start = (state_of (record { packages = c.self.inside.packages; parents = family_pairs c.self.inside.parents; version = c.self.inside.version })).start in
+    rw (← c.self.view_is)
+    (some_answered c.find_item.result _ _
+    (λ item a. record {
+      found = a.found;
+      is = a.is;
+      known = a.known.answer ∙ lookup_at_place start c.args.app.now c.args.locale.now c.args.path.now a.known.place c.self.inside.packages a.known.read;
+    })
+    (c.find_item.ensures c.self.invariant))
