@@ -52,9 +52,9 @@ fn look_kept_in(
     ensures unchanged { IfSome result (λ number. number ≢ 0 → found.new ≡ found.old) }
     ensures none { IfNone result (found.new ≡ found.old) }
 {
-    match engine.look_kept(app, locale, path) {
-        Some(Ok(it)) => {
-            *found = Found::of(it.node);
+    match engine.find_kept(app, locale, path) {
+        Some(Ok(item)) => {
+            *found = Found::of(item);
             Some(0)
         }
         Some(Err(fault)) => Some(look_number(fault)),

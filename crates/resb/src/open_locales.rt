@@ -68,9 +68,9 @@ fn look_at(engine: &Engine, opened: &OpenLocale, path: &[u8], found: &mut Found)
         found.new.kind found.new.count found.new.number }
     ensures unchanged { result ≢ 0 → found.new ≡ found.old }
 {
-    match engine.look_at(opened, path) {
-        Ok(Ok(it)) => {
-            *found = Found::of(it.node);
+    match engine.find_at(opened, path) {
+        Ok(Ok(item)) => {
+            *found = Found::of(item);
             0
         }
         Ok(Err(fault)) => look_number(fault),
