@@ -1,6 +1,8 @@
+pub mod Agrees
 pub mod Answers
 pub mod Asked
 pub mod AtPath
+pub mod Deeper
 pub mod Earliest
 pub mod Entries
 pub mod Keys
@@ -10,7 +12,9 @@ pub mod Members
 pub mod Merges
 pub mod Nexts
 pub mod Places
+pub mod Pointers
 pub mod Roots
+pub mod Shown
 pub mod Texts
 pub mod Trails
 pub mod Values

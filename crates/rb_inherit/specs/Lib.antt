@@ -1,3 +1,4 @@
+pub mod Agreement
 pub mod Leaves
 pub mod Lookups
 pub mod Merged

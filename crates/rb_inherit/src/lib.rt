@@ -5,6 +5,7 @@ mod count;
 mod error;
 mod follow;
 mod found;
+pub mod laws;
 mod layer;
 mod leaf;
 mod limits;
