@@ -13,10 +13,10 @@ use Rattle.rb_inherit.specs.declared.follow.Link.{Link}
 use Rattle.rb_inherit.specs.declared.layer.Layer.{Layer}
 use Rattle.rb_inherit.specs.declared.place.Level.{Level}
 use Rattle.rb_inherit.specs.declared.place.Place.{Place}
-use Rattle.rb_inherit.specs.Merged.{Decides, Here, Layered, Part, ended}
-use Rattle.rb_inherit.specs.inner.AtPath.{AddsAll, AddsSome, AddsStops, AddsUpTo, CanAdd, parts_in, path_in}
+use Rattle.rb_inherit.specs.Merged.{Decides, Here, Layered, Part, alias_fault, ended}
+use Rattle.rb_inherit.specs.inner.AtPath.{AddsAll, AddsSome, AddsStops, AddsUpTo, CanAdd, RefusesAfter, parts_in, path_in}
 use Rattle.rb_inherit.specs.inner.Paths.{AreFilled, IsLink, steps_of}
-use Rattle.rb_inherit.specs.inner.Earlier.{Adds, BeginsEmpty, Ends, Grows, Stays, and_error, closed_of, here_of, is_open_of, layered_in, layered_of, part_of}
+use Rattle.rb_inherit.specs.inner.Earlier.{Adds, BeginsEmpty, Ends, Grows, Refuses, Stays, and_error, closed_of, here_of, is_open_of, layered_in, layered_of, part_of}
 use Rattle.rb_inherit.proofs.Earliest.{alias_adds, decided_closed, ends_here}
 
 -- ---- several stops
@@ -250,10 +250,10 @@ open_decides tree used (p ∷ ps) found new h a =
 
 linked_decides : {N : Type 0} {G : Ghosts N} (tree : N → Resource) (used : ℕ) (ps : List Part) (found after : Found N) (link : Link N)
     (now new : List (Layer N G)) → AddsUpTo tree used ps Nothing [] found link now → Stays found after → is_open_of after ≡ false → Grows now new
-    → Decides used ps (here_of tree after (layered_in tree new))
-linked_decides tree used ps found after link now new a s c g =
+    → Refuses (alias_fault (tree link.node)) found now after new → Decides used ps (here_of tree after (layered_in tree new))
+linked_decides tree used ps found after link now new a s c g r =
     let p = part_of tree link.node link.level in
-    let one : Adds tree used p found now after new = alias_adds tree used link.node link.level found now after new a.short a.alias a.is_open c s g in
+    let one : Adds tree used p found now after new = alias_adds tree used link.node link.level found now after new a.short a.alias a.is_open c s g r in
     let all = all_closed tree used (a.asked ++ p ∷ []) a.others Nothing after [] new
     (all_more tree used a.asked p Nothing found after [] now new a.adds one) c in
     let same : (a.asked ++ p ∷ []) ++ a.others ≡ ps = append_assoc a.asked (p ∷ []) a.others ∙ sym a.split in
@@ -263,12 +263,12 @@ linked_decides tree used ps found after link now new a s c g =
 pub stops_decide : {N : Type 0} {G : Ghosts N} (tree : N → Resource) (used : ℕ) (ps : List Part) (found after : Found N) (o : Option (Link N))
     (now new : List (Layer N G)) → 0 < length ps → AddsStops tree used ps Nothing [] found o now → Stays found after → is_open_of after ≡ false
     → Grows now new → (o ≡ None → after ≡ closed_of found) → (o ≡ None → new ≡ now)
-    → Decides used ps (here_of tree after (layered_in tree new))
-stops_decide {N} {G} tree used ps found after None now new h a s c g f l =
+    → RefusesAfter tree o found now after new → Decides used ps (here_of tree after (layered_in tree new))
+stops_decide {N} {G} tree used ps found after None now new h a s c g f l r =
     subst (λ (x : Found N). Decides used ps (here_of tree x (layered_in tree new))) (sym (f refl))
     (subst (λ (y : List (Layer N G)). Decides used ps (here_of tree (closed_of found) (layered_in tree y))) (sym (l refl))
     (open_decides tree used ps found now h a))
-stops_decide tree used ps found after (Some link) now new h a s c g f l = linked_decides tree used ps found after link now new a s c g
+stops_decide tree used ps found after (Some link) now new h a s c g f l r = linked_decides tree used ps found after link now new a s c g r
 
 -- ---- what calls returned
 pub rest_on : {N : Type 0} {G : Ghosts N} (a b c : Place N G) → c ≡ record b { layers = c.layers } → b ≡ record a { layers = b.layers }

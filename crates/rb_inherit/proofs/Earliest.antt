@@ -1,19 +1,20 @@
 -- The earliest stop wins, one stop after another.
-use Rattle.std.proofs.Common.{◌≡◌, ◌++◌, ℕ, List, [], ◌∷◌, Bool, true, false, nat_lt, Result, Ok, Err, refl, sym, ap, subst, ◌∙◌, append_assoc, append-nil}
+use Rattle.std.proofs.Common.{◌≡◌, ◌++◌, ℕ, List, [], ◌∷◌, Bool, true, false, nat_lt, Option, Some, None, Result, Ok, Err, refl, sym, ap, subst, ◌∙◌, append_assoc, append-nil, drop}
 use Rattle.std.specs.Prelude.{IfOk}
 use Rattle.rb_tree.specs.Parts.{kind_of}
 use Rattle.rb_tree.specs.Resource.{Resource}
 use Rattle.rb_tree.specs.declared.node.Node.{Ghosts}
 use Rattle.rb_tree.specs.declared.kind.Kind.{Kind}
 use Rattle.rb_tree.specs.declared.kind.Kind.TheVariants as kind
+use Rattle.rb_fallback.specs.declared.fault.LookError.{LookError}
 use Rattle.rb_fallback.specs.declared.fault.LookError.TheVariants as look
 use Rattle.rb_inherit.specs.declared.error.TreeError.{TreeError}
 use Rattle.rb_inherit.specs.declared.found.Found.{Found}
 use Rattle.rb_inherit.specs.declared.found.Found.TheVariants.{Nothing, Tables, Item, Failed}
 use Rattle.rb_inherit.specs.declared.layer.Layer.{Layer}
 use Rattle.rb_inherit.specs.declared.place.Level.{Level}
-use Rattle.rb_inherit.specs.Merged.{Begins, Here, Joins, Layered, Part, item, fails, layered, tables}
-use Rattle.rb_inherit.specs.inner.Earlier.{Adds, AddsLayer, BeginsEmpty, Ends, Grows, IsTables, Stays, and_error, and_item, and_table, here_of, is_open_of, layered_in, part_of}
+use Rattle.rb_inherit.specs.Merged.{Begins, Here, Joins, JoinsRefused, Layered, Part, Refused, alias_fault, item, fails, layered, tables}
+use Rattle.rb_inherit.specs.inner.Earlier.{Adds, AddsLayer, BeginsEmpty, Ends, Grows, IsTables, Refuses, Stays, and_error, and_item, and_table, closed_of, here_of, is_open_of, layered_in, part_of}
 
 pub stays_itself : {N : Type 0} (f : Found N) → Stays f f
 stays_itself Nothing = tt
@@ -52,15 +53,17 @@ joins_table true k p Rest more rest e f x y = absurd cc
 joins_table false kind.Table p Rest more rest e f x y = (rest, (x, y))
 joins_table false _ p Rest more rest e f x y = absurd cc
 
-begins_alias : (b : Bool) (k : Kind) (p : Part) (Rest : List Layered → Type 0) (h : Here) → b ≡ false → k ≡ kind.Alias → Begins b k p Rest h
-begins_alias true k p Rest h e f = absurd cc
-begins_alias false kind.Alias p Rest h e f = tt
-begins_alias false _ p Rest h e f = absurd cc
+begins_alias : (b : Bool) (k : Kind) (p : Part) (Rest : List Layered → Type 0) (h : Here) → b ≡ false → k ≡ kind.Alias → Refused (alias_fault p.tree) h
+    → Begins b k p Rest h
+begins_alias true k p Rest h e f x = absurd cc
+begins_alias false kind.Alias p Rest h e f x = x
+begins_alias false _ p Rest h e f x = absurd cc
 
-joins_alias : (b : Bool) (k : Kind) (p : Part) (Rest : List Layered → Type 0) (more : List Layered) → b ≡ false → k ≡ kind.Alias → Joins b k p Rest more
-joins_alias true k p Rest more e f = absurd cc
-joins_alias false kind.Alias p Rest more e f = tt
-joins_alias false _ p Rest more e f = absurd cc
+joins_alias : (b : Bool) (k : Kind) (p : Part) (Rest : List Layered → Type 0) (more : List Layered) → b ≡ false → k ≡ kind.Alias
+    → JoinsRefused (alias_fault p.tree) more → Joins b k p Rest more
+joins_alias true k p Rest more e f x = absurd cc
+joins_alias false kind.Alias p Rest more e f x = x
+joins_alias false _ p Rest more e f x = absurd cc
 
 begins_item : (b : Bool) (k : Kind) (p : Part) (Rest : List Layered → Type 0) (h : Here) → b ≡ false → (k ≡ kind.Table → ⊥) → (k ≡ kind.Alias → ⊥)
     → h ≡ item p → Begins b k p Rest h
@@ -117,22 +120,39 @@ step_long tree used p b (Tables false) o = absurd cc
 step_long tree used p b (Item n level) o = absurd cc
 step_long tree used p b (Failed e) o = absurd cc
 
+-- what an alias adds that can't be read: its error, and no tables
+abbrev pub Fails : {N : Type 0} → Option LookError → Found N → Found N → List Layered → Type 0
+Fails None before after more = Unit {0}
+Fails (Some e) before after more = (after ≡ and_error before e) × (more ≡ [])
+
+alias_begins : {N : Type 0} (tree : N → Resource) (used : ℕ) (o : Option LookError) (after : Found N) (ls more : List Layered) (ps : List Part) (h : Here)
+    → Fails o Nothing after more → Ends tree used after (ls ++ more) ps h → Refused o h
+alias_begins tree used None after ls more ps h f x = tt
+alias_begins {N} tree used (Some e) after ls more ps h f x = subst (λ (a : Found N). Ends tree used a (ls ++ more) ps h) f.0 x
+
+alias_joins : {N : Type 0} (o : Option LookError) (before after : Found N) (more : List Layered) → Fails o before after more → JoinsRefused o more
+alias_joins None before after more f = tt
+alias_joins (Some e) before after more f = f.1
+
 alias_tables : {N : Type 0} (tree : N → Resource) (used : ℕ) (p : Part) → nat_lt p.most used ≡ false → kind_of p.tree ≡ kind.Alias
-    → (after : Found N) → is_open_of after ≡ false → IsTables after → (more : List Layered) → Step tree used p (Tables true) after more
-alias_tables tree used p b k Nothing o s more = absurd s
-alias_tables tree used p b k (Tables true) o s more = absurd cc
-alias_tables tree used p b k (Tables false) o s more = λ ls ps h e x. (more, (x, joins_alias _ _ p _ more b k))
-alias_tables tree used p b k (Item n level) o s more = absurd s
-alias_tables tree used p b k (Failed e) o s more = absurd s
+    → (after : Found N) → is_open_of after ≡ false → IsTables after → (more : List Layered) → Fails (alias_fault p.tree) (Tables true) after more
+    → Step tree used p (Tables true) after more
+alias_tables tree used p b k Nothing o s more f = absurd s
+alias_tables tree used p b k (Tables true) o s more f = absurd cc
+alias_tables {N} tree used p b k (Tables false) o s more f = λ ls ps h e x.
+    (more, (x, joins_alias _ _ p _ more b k (alias_joins {N = N} (alias_fault p.tree) (Tables true) (Tables false) more f)))
+alias_tables tree used p b k (Item n level) o s more f = absurd s
+alias_tables tree used p b k (Failed e) o s more f = absurd s
 
 step_alias : {N : Type 0} (tree : N → Resource) (used : ℕ) (p : Part) → nat_lt p.most used ≡ false → kind_of p.tree ≡ kind.Alias
     → (before : Found N) → is_open_of before ≡ true → (after : Found N) → is_open_of after ≡ false → Stays before after
-    → (more : List Layered) → Step tree used p before after more
-step_alias tree used p b k Nothing o after c s more = λ ls ps h e x. begins_alias _ _ p _ h b k
-step_alias tree used p b k (Tables true) o after c s more = alias_tables tree used p b k after c s more
-step_alias tree used p b k (Tables false) o after c s more = absurd cc
-step_alias tree used p b k (Item n level) o after c s more = absurd cc
-step_alias tree used p b k (Failed e) o after c s more = absurd cc
+    → (more : List Layered) → Fails (alias_fault p.tree) before after more → Step tree used p before after more
+step_alias tree used p b k Nothing o after c s more f = λ ls ps h e x.
+    begins_alias _ _ p _ h b k (alias_begins tree used (alias_fault p.tree) after ls more ps h f x)
+step_alias tree used p b k (Tables true) o after c s more f = alias_tables tree used p b k after c s more f
+step_alias tree used p b k (Tables false) o after c s more f = absurd cc
+step_alias tree used p b k (Item n level) o after c s more f = absurd cc
+step_alias tree used p b k (Failed e) o after c s more f = absurd cc
 
 step_closed : {N : Type 0} (tree : N → Resource) (used : ℕ) (p : Part) (before : Found N) → is_open_of before ≡ false → Step tree used p before before []
 step_closed tree used p Nothing o = absurd cc
@@ -205,14 +225,24 @@ long_adds {N} tree used n level before old after b o is = record {
       (subst (λ (f : Found N). Ends tree used f (ls ++ []) ps h) is x);
 }
 
+no_more : {A : Type 0} (old new more : List A) → new ≡ old ++ more → new ≡ old → more ≡ []
+no_more [] new more e f = sym e ∙ f
+no_more {A} (x ∷ old) new more e f = no_more old (old ++ more) more refl (ap (λ (l : List A). drop 1 l) (sym e ∙ f))
+
+refuses_fails : {N : Type 0} {G : Ghosts N} (tree : N → Resource) (o : Option LookError) (before after : Found N) (old new more : List (Layer N G))
+    → new ≡ old ++ more → Refuses o before old after new → Fails o before after (layered_in tree more)
+refuses_fails tree None before after old new more e r = tt
+refuses_fails {N} {G} tree (Some f) before after old new more e r = (r.0, ap (λ (l : List (Layer N G)). layered_in tree l) (no_more old new more e r.1))
+
 pub alias_adds : {N : Type 0} {G : Ghosts N} (tree : N → Resource) (used : ℕ) (n : N) (level : Level) (before : Found N) (old : List (Layer N G)) (after : Found N)
     (new : List (Layer N G)) → nat_lt level.keys_most used ≡ false → kind_of (tree n) ≡ kind.Alias → is_open_of before ≡ true → is_open_of after ≡ false
-    → Stays before after → Grows old new → Adds tree used (part_of tree n level) before old after new
-alias_adds tree used n level before old after new b k o c s g = record {
+    → Stays before after → Grows old new → Refuses (alias_fault (tree n)) before old after new → Adds tree used (part_of tree n level) before old after new
+alias_adds tree used n level before old after new b k o c s g r = record {
   more = g.0;
   layers = g.1;
   decided = λ ls. decided_closed after c ls;
-  ends = step_alias tree used (part_of tree n level) b k before o after c s (layered_in tree g.0);
+  ends = step_alias tree used (part_of tree n level) b k before o after c s (layered_in tree g.0)
+      (refuses_fails tree (alias_fault (tree n)) before after old new g.0 g.1 r);
 }
 
 pub closed_adds : {N : Type 0} {G : Ghosts N} (tree : N → Resource) (used : ℕ) (p : Part) (before : Found N) (old : List (Layer N G))
@@ -244,6 +274,13 @@ ok_table_adds tree used n level before old (Err e) new b k o is a = tt
 pub ok_alias_adds : {N : Type 0} {G : Ghosts N} (tree : N → Resource) (used : ℕ) (n : N) (level : Level) (before : Found N) (old : List (Layer N G))
     (r : Result (Found N) TreeError) (new : List (Layer N G)) → nat_lt level.keys_most used ≡ false → kind_of (tree n) ≡ kind.Alias → is_open_of before ≡ true
     → IfOk r (Stays before) → IfOk r (λ after. is_open_of after ≡ false) → IfOk r (λ _. Grows old new)
-    → IfOk r (λ after. Adds tree used (part_of tree n level) before old after new)
-ok_alias_adds tree used n level before old (Ok after) new b k o s c g = alias_adds tree used n level before old after new b k o c s g
-ok_alias_adds tree used n level before old (Err e) new b k o s c g = tt
+    → IfOk r (λ after. Refuses (alias_fault (tree n)) before old after new) → IfOk r (λ after. Adds tree used (part_of tree n level) before old after new)
+ok_alias_adds tree used n level before old (Ok after) new b k o s c g f = alias_adds tree used n level before old after new b k o c s g f
+ok_alias_adds tree used n level before old (Err e) new b k o s c g f = tt
+
+-- ---- errors of aliases
+pub error_closed : {N : Type 0} (f : Found N) (e : LookError) → closed_of (and_error f e) ≡ and_error f e
+error_closed Nothing e = refl
+error_closed (Tables is_open) e = refl
+error_closed (Item n level) e = refl
+error_closed (Failed first) e = refl

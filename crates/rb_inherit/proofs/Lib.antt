@@ -1,6 +1,7 @@
 pub mod Agrees
 pub mod Answers
 pub mod Asked
+pub mod Aliases
 pub mod AtPath
 pub mod Deeper
 pub mod Earliest

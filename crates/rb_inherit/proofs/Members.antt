@@ -1,5 +1,5 @@
 -- The members of merged tables, one key after another; and that each place has a value.
-use Rattle.std.proofs.Common.{◌≡◌, ◌++◌, ℕ, zero, suc, List, [], ◌∷◌, Bool, true, false, map, codes, nat_lt, decimal, refl, sym, ap, subst, ◌∙◌, append_assoc, append-nil}
+use Rattle.std.proofs.Common.{◌≡◌, ◌++◌, ℕ, zero, suc, List, [], ◌∷◌, Bool, true, false, Option, Some, None, map, codes, nat_lt, decimal, refl, sym, ap, subst, ◌∙◌, append_assoc, append-nil}
 use Rattle.std.specs.List.{AllByRecursion}
 use Rattle.std.specs.Ordering.{nat_cmp}
 use Rattle.std.specs.declared.cmp.Ordering.TheVariants.{Less}
@@ -12,8 +12,9 @@ use Rattle.rb_tree.specs.declared.kind.Kind.{Kind}
 use Rattle.rb_tree.specs.declared.kind.Kind.TheVariants as kind
 use Rattle.rb_json.specs.Value.{value_of}
 use Rattle.rb_fallback.specs.Words.{look_word}
+use Rattle.rb_fallback.specs.declared.fault.LookError.{LookError}
 use Rattle.rb_fallback.specs.declared.fault.LookError.TheVariants as look
-use Rattle.rb_inherit.specs.Merged.{AreItems, AreMembers, Ascends, Begins, Decides, Here, IsAt, IsItem, IsTree, IsValue, Joins, Layered, Merges, Part, all_keys, at_key, error_data, fails, item, layered, longer, members_data, nothing, tables}
+use Rattle.rb_inherit.specs.Merged.{AreItems, AreMembers, Ascends, Begins, Decides, Here, IsAt, IsItem, IsTree, IsValue, Joins, JoinsRefused, Layered, Merges, Part, Refused, alias_fault, all_keys, at_key, error_data, fails, item, layered, longer, members_data, nothing, tables}
 use Rattle.rb_inherit.proofs.Keys.{AllNext, Below, after, ascend_after, at_later, has, if_has, keys_step}
 
 all_append : {A : Type 0} (P : A → Type 0) (xs ys : List A) → AllByRecursion P xs → AllByRecursion P ys → AllByRecursion P (xs ++ ys)
@@ -82,7 +83,11 @@ merging_all Is used ls now es m e = record {
 joined_some : (b : Bool) (k : Kind) (p : Part) (Rest : List Layered → Type 0) → ((rest : List Layered) × Rest rest) → (more : List Layered) × Joins b k p Rest more
 joined_some true k p Rest r = ([], refl)
 joined_some false kind.Table p Rest r = (layered p ∷ r.0, (r.0, (refl, r.1)))
-joined_some false kind.Alias p Rest r = ([], tt)
+joined_some false kind.Alias p Rest r = ([], by (alias_fault p.tree))
+  where
+    by : (o : Option LookError) → JoinsRefused o []
+    by None = tt
+    by (Some e) = refl
 joined_some false _ p Rest r = ([], refl)
 
 merged_some : (used : ℕ) (ps : List Part) → (more : List Layered) × Merges used ps more
@@ -92,7 +97,11 @@ merged_some used (p ∷ ps) = joined_some (nat_lt p.most used) (kind_of p.tree) 
 begun_some : (b : Bool) (k : Kind) (p : Part) (Rest : List Layered → Type 0) → ((rest : List Layered) × Rest rest) → (h : Here) × Begins b k p Rest h
 begun_some true k p Rest r = (fails look.PathTooLong, refl)
 begun_some false kind.Table p Rest r = (tables (layered p ∷ r.0), (r.0, (refl, r.1)))
-begun_some false kind.Alias p Rest r = (nothing, tt)
+begun_some false kind.Alias p Rest r = by (alias_fault p.tree)
+  where
+    by : (o : Option LookError) → (h : Here) × Refused o h
+    by None = (nothing, tt)
+    by (Some e) = (fails e, refl)
 begun_some false _ p Rest r = (item p, refl)
 
 decided_some : (used : ℕ) (ps : List Part) → (h : Here) × Decides used ps h

@@ -21,7 +21,7 @@ use Rattle.rb_fallback.specs.Search.{Decided, Hit, Setting, bundles_of, by_stops
 use Rattle.rb_fallback.specs.declared.fault.LookError.{LookError}
 use Rattle.rb_fallback.specs.declared.fault.LookError.TheVariants as look
 use Rattle.rb_inherit.specs.Merged.{Decides, IsTree, IsTreeAt, Part, Writes, at_path, ended, room_below}
-use Rattle.rb_inherit.specs.inner.AtPath.{AddsStops, CanAsk, HasParts, parts_in, path_in}
+use Rattle.rb_inherit.specs.inner.AtPath.{AddsStops, CanAsk, HasParts, RefusesAfter, parts_in, path_in}
 use Rattle.rb_inherit.specs.inner.Earlier.{Grows, Stays, closed_of, here_of, is_open_of, layered_in}
 use Rattle.rb_inherit.specs.inner.Paths.{AreFilled, is_separator, separated, steps_of}
 use Rattle.rb_inherit.specs.inner.Trails.{AreStops, and_tree, refused, trees_in}
@@ -202,9 +202,10 @@ root_adds {N} {G} tree bundles parents n path paths keys all level begin found o
 pub ok_decides : {N : Type 0} {G : Ghosts N} (tree : N → Resource) (ps : List Part) (found : Found N) (o : Option (Link N)) (now new : List (Layer N G))
     (r : Result (Found N) TreeError) → 0 < length ps → AddsStops tree 0 ps Nothing [] found o now → IfOk r (Stays found)
     → IfOk r (λ after. is_open_of after ≡ false) → IfOk r (λ _. Grows now new) → (o ≡ None → IfOk r (λ after. after ≡ closed_of found))
-    → (o ≡ None → new ≡ now) → IfOk r (λ after. Decides 0 ps (here_of tree after (layered_in tree new)))
-ok_decides tree ps found o now new (Ok after) h a s c g f l = stops_decide tree 0 ps found after o now new h a s c g f l
-ok_decides tree ps found o now new (Err e) h a s c g f l = tt
+    → (o ≡ None → new ≡ now) → IfOk r (λ after. RefusesAfter tree o found now after new)
+    → IfOk r (λ after. Decides 0 ps (here_of tree after (layered_in tree new)))
+ok_decides tree ps found o now new (Ok after) h a s c g f l x = stops_decide tree 0 ps found after o now new h a s c g f l x
+ok_decides tree ps found o now new (Err e) h a s c g f l x = tt
 
 -- ---- what is written
 pub tree_written : {N : Type 0} {G : Ghosts N} (tree : N → Resource) (Takes : List ℕ → Type 0) (bundles : Bundles) (parents : ParentsOf) (n path : List ℕ)

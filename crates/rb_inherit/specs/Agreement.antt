@@ -84,8 +84,8 @@ IsAllFound =
     → data_at ks d ≡ Some e → Tells (look_up own icu parents n (segments path ++ ks)) e
 
 -- ---- what is found is in the tree
--- what a stop has at a place isn't hidden by the stops before it: those have tables there, or nothing; and nothing if it
--- has something other than a table itself, which ends the merging
+-- what a stop has at a place isn't hidden by the stops before it: those have tables there, or nothing; and nothing if
+-- it has something other than a table itself, which ends the merging
 pub record IsSeen (bundles : Bundles) (before : List (List ℕ)) (stop : List ℕ) (ss : List (List ℕ)) : Type 0 where
   pub tables : AllByRecursion (λ m. (t : Resource) → walk_of (bundles m) ss ≡ ends t → kind_of t ≡ kind.Table) before
   pub alone : (t : Resource) → walk_of (bundles stop) ss ≡ ends t → (kind_of t ≡ kind.Table → ⊥)

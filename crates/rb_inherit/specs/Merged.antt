@@ -1,7 +1,7 @@
 -- Defines the tree with inheritance below a path as one JSON value, by what the stops of a trail have there: tables are
--- merged key by key, and for the rest the earliest stop decides (the locale inheritance of UTS #35, LDML). What an
--- alias leads to is left open, on the way to the path and below it. This project's own rules: how deep a tree is, how
--- long a path may be, and the form of errors.
+-- merged key by key, and for the rest the earliest stop decides (the locale inheritance of UTS #35, LDML). An alias
+-- whose text can't be read is its error; what another leads to is left open, on the way to the path and below it. This
+-- project's own rules: how deep a tree is, how long a path may be, and the form of errors.
 use Rattle.std.specs.Prelude.{◌≡◌, ◌+◌, ◌-◌, ℕ, zero, suc, List, [], ◌∷◌, ◌++◌, length, map, Bool, true, false, nat_lt}
 use Rattle.std.specs.Prelude.{Option, Some, None, nat_eq, codes, decimal}
 use Rattle.std.specs.List.{AllByRecursion}
@@ -21,6 +21,7 @@ use Rattle.rb_tree.specs.declared.kind.Kind.{Kind}
 use Rattle.rb_tree.specs.declared.kind.Kind.TheVariants as kind
 use Rattle.rb_json.specs.Value.{key_text, tagged, value_of}
 use Rattle.rb_parents.specs.Trail.{Bundles, ParentsOf, names, stops, trail}
+use Rattle.rb_fallback.specs.Alias.{Aim, aim, aims, no_package, no_text}
 use Rattle.rb_fallback.specs.Limits.{path_limit}
 use Rattle.rb_fallback.specs.Search.{walk_of}
 use Rattle.rb_fallback.specs.Words.{look_word}
@@ -47,12 +48,33 @@ pub data Here : Type 0 where
 abbrev pub layered : Part → Layered
 layered p = record { entries = pairs_of p.tree; most = p.most }
 
+-- ---- aliases
+-- the error of a text that aims at nothing
+abbrev pub fault_of : Aim → Option LookError
+fault_of (aims icu n ss) = None
+fault_of no_text = Some look.AliasText
+fault_of no_package = Some look.AliasPackage
+
+-- the error of an alias whose text can't be read, whatever the valid locale
+abbrev pub alias_fault : Resource → Option LookError
+alias_fault (alias us) = fault_of (aim us [])
+alias_fault t = Some look.AliasText
+
+-- an alias that can't be read is its error, or ends the tables of earlier stops; where another leads is left open
+abbrev pub Refused : Option LookError → Here → Type 0
+Refused None h = Unit {0}
+Refused (Some e) h = h ≡ fails e
+
+abbrev pub JoinsRefused : Option LookError → List Layered → Type 0
+JoinsRefused None more = Unit {0}
+JoinsRefused (Some e) more = more ≡ []
+
 -- ---- what the stops decide that have these parts, in their order, below `used` bytes of keys
 -- the tables that are merged into that of an earlier stop: those up to a stop that has something else
 abbrev pub Joins : Bool → Kind → Part → (List Layered → Type 0) → List Layered → Type 0
 Joins true k p Rest more = more ≡ []
 Joins false kind.Table p Rest more = (rest : List Layered) × ((more ≡ layered p ∷ rest) × Rest rest)
-Joins false kind.Alias p Rest more = Unit {0}
+Joins false kind.Alias p Rest more = JoinsRefused (alias_fault p.tree) more
 Joins false k p Rest more = more ≡ []
 
 abbrev pub Merges : ℕ → List Part → List Layered → Type 0
@@ -63,7 +85,7 @@ Merges used (p ∷ ps) more = Joins (nat_lt p.most used) (kind_of p.tree) p (λ 
 abbrev pub Begins : Bool → Kind → Part → (List Layered → Type 0) → Here → Type 0
 Begins true k p Rest h = h ≡ fails look.PathTooLong
 Begins false kind.Table p Rest h = (rest : List Layered) × ((h ≡ tables (layered p ∷ rest)) × Rest rest)
-Begins false kind.Alias p Rest h = Unit {0}
+Begins false kind.Alias p Rest h = Refused (alias_fault p.tree) h
 Begins false k p Rest h = h ≡ item p
 
 abbrev pub Decides : ℕ → List Part → Here → Type 0

@@ -3,11 +3,11 @@
 ghost use Rattle.std.specs.Prelude.{◌≡◌, ◌<◌, ℕ, [], IfOk, List, None, false, length, map, true};
 ghost use Rattle.rb_tree.specs.Path.{IsPath, segments};
 ghost use Rattle.rb_parents.specs.Trail.{names, stops, trail};
-ghost use Rattle.rb_inherit.specs.Merged.{Decides, at_path, room_below};
-ghost use Rattle.rb_inherit.specs.inner.AtPath.{AddsStops, CanAsk, HasParts, IsNew};
-ghost use Rattle.rb_inherit.specs.inner.AtPath.{parts_in, path_in};
-ghost use Rattle.rb_inherit.specs.inner.Earlier.{Adds, Grows, Stays, closed_of, here_of};
-ghost use Rattle.rb_inherit.specs.inner.Earlier.{is_open_of, layered_in, part_of};
+ghost use Rattle.rb_inherit.specs.Merged.{Decides, alias_fault, at_path, room_below};
+ghost use Rattle.rb_inherit.specs.inner.AtPath.{AddsStops, CanAsk, HasParts, IsNew, RefusesAfter};
+ghost use Rattle.rb_inherit.specs.inner.AtPath.{RefusesLink, parts_in, path_in};
+ghost use Rattle.rb_inherit.specs.inner.Earlier.{Adds, Grows, IsFault, Refuses, Stays, closed_of};
+ghost use Rattle.rb_inherit.specs.inner.Earlier.{fault_in, here_of, is_open_of, layered_in, part_of};
 ghost use Rattle.rb_inherit.specs.inner.Paths.{steps_of};
 ghost use Rattle.rb_inherit.specs.inner.Trails.{IsKept, trees_in};
 
@@ -80,7 +80,9 @@ fn push_path_to<N: Node>(
 }
 
 /// Reads the text of an alias.
-fn target_of<N: Node>(node: N, valid: &Name) -> Result<Target, LookError> {
+fn target_of<N: Node>(node: N, valid: &Name) -> Result<Target, LookError>
+    ensures { fault_in result ≡ alias_fault (N.tree node) }
+{
     if node.kind() != Kind::Alias {
         return Err(LookError::AliasText);
     }
@@ -97,7 +99,8 @@ fn level_of<N: Node>(
     place: &mut Place<N>,
     link: Link<N>,
 ) -> Result<Result<(Name, Level), LookError>, TreeError>
-    ensures { place.new ≡ record place.old { paths = place.new.paths } }
+    ensures rest { place.new ≡ record place.old { paths = place.new.paths } }
+    ensures fault { IfOk result (IsFault (alias_fault (N.tree link.node))) }
 {
     let target = match target_of(link.node, &place.valid) {
         Ok(target) => target,
@@ -204,6 +207,8 @@ fn add_link<T: Stops>(
     ensures stays { IfOk result (λ after. Stays found after.found) }
     ensures layers { IfOk result (λ _. Grows place.old.layers.items place.new.layers.items) }
     ensures keys { place.new.keys.items ≡ place.old.keys.items }
+    ensures refuses { IfOk result (λ after. RefusesLink (alias_fault (T.N.tree link.node)) found
+        place.old.layers.items after.found after.link place.new.layers.items) }
 {
     // a long text is read whole, and its tree may have it often
     place.spend((link.node.len() as u64 / 64).saturating_add(1))?;
@@ -243,6 +248,30 @@ fn add_links<T: Stops>(
     Ok(found.closed())
 }
 
+/// Adds what a level's alias leads to, if the level ends at one.
+#[tactic(auto, using(crate::proofs::Earliest::stays_itself, crate::proofs::Earliest::stays_on, crate::proofs::Earliest::grows_itself, crate::proofs::Earliest::grows_on))]
+fn add_after<T: Stops>(
+    shelves: T,
+    place: &mut Place<T::N>,
+    before: After<T::N>,
+) -> Result<Found<T::N>, TreeError>
+    ensures stays { IfOk result (Stays before.found) }
+    ensures closed { IfOk result (λ after. is_open_of after ≡ false) }
+    ensures layers { IfOk result (λ _. Grows place.old.layers.items place.new.layers.items) }
+    ensures keys { place.new.keys.items ≡ place.old.keys.items }
+    ensures none { before.link ≡ None → IfOk result (λ after. after ≡ closed_of before.found) }
+    ensures stay { before.link ≡ None → place.new ≡ place.old }
+    ensures refuses { IfOk result (λ after. RefusesAfter T.N.tree before.link before.found
+        place.old.layers.items after place.new.layers.items) }
+{
+    let After { found, link } = before;
+    let Some(link) = link else {
+        return Ok(found.closed());
+    };
+    let after = add_link(shelves, place, found, link)?;
+    add_links(shelves, place, after)
+}
+
 /// Adds what an alias leads to that is a child of a table or an array.
 fn add_alias<T: Stops>(
     shelves: T,
@@ -255,13 +284,15 @@ fn add_alias<T: Stops>(
     ensures closed { IfOk result (λ after. is_open_of after ≡ false) }
     ensures layers { IfOk result (λ _. Grows place.old.layers.items place.new.layers.items) }
     ensures keys { place.new.keys.items ≡ place.old.keys.items }
+    ensures refuses { IfOk result (λ after. Refuses (alias_fault (T.N.tree node)) found
+        place.old.layers.items after place.new.layers.items) }
 {
     let link = Some(Link {
         node,
         level,
         rest: 0,
     });
-    add_links(shelves, place, After { found, link })
+    add_after(shelves, place, After { found, link })
 }
 
 /// Adds a child of a table or an array to what the place has, which its key already names.
@@ -307,5 +338,5 @@ pub(crate) fn add_root<T: Stops>(
     };
     let level = place.level_from(false, 1, begin, usize::MAX);
     let after = add_level(shelves, place, Found::Nothing, name, level)?;
-    add_links(shelves, place, after)
+    add_after(shelves, place, after)
 }

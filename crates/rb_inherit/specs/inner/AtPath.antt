@@ -8,10 +8,12 @@ use Rattle.rb_tree.specs.Walk.{walk}
 use Rattle.rb_tree.specs.declared.kind.Kind.{Kind}
 use Rattle.rb_tree.specs.declared.kind.Kind.TheVariants as kind
 use Rattle.rb_tree.specs.declared.node.Node.{Ghosts}
+use Rattle.rb_fallback.specs.declared.fault.LookError.{LookError}
 use Rattle.rb_fallback.specs.declared.fault.LookError.TheVariants as look
 use Rattle.rb_parents.specs.Trail.{Bundles, ParentsOf, names, stops, trail}
-use Rattle.rb_inherit.specs.Merged.{Here, Layered, Part, at_path, ended, room_below}
-use Rattle.rb_inherit.specs.inner.Earlier.{BeginsEmpty, Ends, and_error, is_open_of, layered_in, part_of}
+use Rattle.rb_inherit.specs.Merged.{Here, Layered, Part, alias_fault, at_path, ended, room_below}
+use Rattle.rb_inherit.specs.inner.Earlier.{BeginsEmpty, Ends, Refuses, and_error, is_open_of}
+use Rattle.rb_inherit.specs.inner.Earlier.{layered_in, part_of}
 use Rattle.rb_inherit.specs.inner.Paths.{AreFilled, steps_of}
 use Rattle.rb_inherit.specs.declared.found.Found.{Found}
 use Rattle.rb_inherit.specs.declared.follow.Link.{Link}
@@ -80,6 +82,18 @@ abbrev pub AddsStops : {N : Type 0} {G : Ghosts N} → (N → Resource) → ℕ 
     → Found N → Option (Link N) → List (Layer N G) → Type 0
 AddsStops tree used ps before old after None new = AddsSome tree used ps before old after new
 AddsStops tree used ps before old after (Some link) new = AddsUpTo tree used ps before old after link new
+
+-- ---- aliases that can't be read
+abbrev pub RefusesLink : {N : Type 0} {G : Ghosts N} → Option LookError → Found N → List (Layer N G) → Found N → Option (Link N)
+    → List (Layer N G) → Type 0
+RefusesLink None before old after link new = Unit {0}
+RefusesLink (Some e) before old after link new = (link ≡ None) × ((after ≡ and_error before e) × (new ≡ old))
+
+-- the alias of a walk that ended at one was refused
+abbrev pub RefusesAfter : {N : Type 0} {G : Ghosts N} → (N → Resource) → Option (Link N) → Found N → List (Layer N G) → Found N → List (Layer N G)
+    → Type 0
+RefusesAfter tree None before old after new = Unit {0}
+RefusesAfter tree (Some link) before old after new = Refuses (alias_fault (tree link.node)) before old after new
 
 -- ---- the root of a tree
 -- nothing was added, and no trail is known

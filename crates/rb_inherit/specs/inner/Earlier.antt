@@ -1,6 +1,7 @@
 -- Defines, for private contracts, what a place has once some stops are asked, and what it has at last if others follow:
 -- the earliest stop wins.
-use Rattle.std.specs.Prelude.{◌≡◌, ℕ, List, [], ◌∷◌, ◌++◌, map, drop, Bool, true, false}
+use Rattle.std.specs.Prelude.{◌≡◌, ℕ, List, [], ◌∷◌, ◌++◌, map, drop, Bool, true, false, Option, Some, None}
+use Rattle.std.specs.Prelude.{Result, Ok, Err}
 use Rattle.rb_tree.specs.Resource.{Resource}
 use Rattle.rb_tree.specs.Parts.{pairs_of}
 use Rattle.rb_tree.specs.declared.node.Node.{Ghosts}
@@ -81,6 +82,20 @@ Ends tree used (Tables true) ls ps h = (more : List Layered) × ((h ≡ tables (
 Ends tree used (Tables false) ls ps h = h ≡ tables ls
 Ends tree used (Item n level) ls ps h = h ≡ item (part_of tree n level)
 Ends tree used (Failed e) ls ps h = h ≡ fails e
+
+-- a call returned this error
+abbrev pub IsFault : {A : Type 0} → Option LookError → Result A LookError → Type 0
+IsFault None r = Unit {0}
+IsFault (Some e) r = r ≡ Err e
+
+abbrev pub fault_in : {A : Type 0} → Result A LookError → Option LookError
+fault_in (Ok x) = None
+fault_in (Err e) = Some e
+
+-- an alias whose text can't be read has added its error alone
+abbrev pub Refuses : {N : Type 0} {G : Ghosts N} → Option LookError → Found N → List (Layer N G) → Found N → List (Layer N G) → Type 0
+Refuses None before old after new = Unit {0}
+Refuses (Some e) before old after new = (after ≡ and_error before e) × (new ≡ old)
 
 -- there are no layers as long as nothing is found
 abbrev pub BeginsEmpty : {N : Type 0} → Found N → List Layered → Type 0

@@ -15,7 +15,7 @@ returns-clause-decides g c = λ new path parts.
     let level = c.level_from-level.result in
     let after = c.in_ok-after.after in
     let now = c.add_level.new.place.layers.items in
-    let last = c.add_links.new.place.layers.items in
+    let last = c.add_after.new.place.layers.items in
     let kept : IsKept tree bundles parents old.trail = λ known. absurd (let no = new.trail in cc) in
     let begin : c.len-begin.result ≡ length old.paths.items = omega (arith, c.len-begin.ensures, old.paths.ok.0) in
     let adds =
@@ -23,5 +23,6 @@ returns-clause-decides g c = λ new path parts.
     after.found after.link old.layers.items now (IsKept tree bundles parents old.trail) c.in-Ok.ensures begin
     c.level_from-level.ensures.icudata c.level_from-level.ensures.path_at c.level_from-level.ensures.path_len c.level_from-level.ensures.most new.keys new.layers
     path parts kept c.in_ok-after.ensures.adds in
-    ok_decides tree (at_path (room_below (length c.args.path.now)) (bundles false) (stops (bundles false) parts.ns) (segments c.args.path.now)) after.found after.link now last c.add_links.result parts.some adds c.add_links.ensures.stays c.add_links.ensures.closed
-    c.add_links.ensures.layers c.add_links.ensures.none (λ e. ap (λ p. p.layers.items) (c.add_links.ensures.stay e))
+    ok_decides tree (at_path (room_below (length c.args.path.now)) (bundles false) (stops (bundles false) parts.ns) (segments c.args.path.now)) after.found after.link now last c.add_after.result parts.some adds c.add_after.ensures.stays c.add_after.ensures.closed
+    c.add_after.ensures.layers c.add_after.ensures.none (λ e. ap (λ p. p.layers.items) (c.add_after.ensures.stay e))
+    c.add_after.ensures.refuses
