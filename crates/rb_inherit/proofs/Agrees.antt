@@ -18,27 +18,30 @@ use Rattle.rb_tree.specs.Parts.{children_of, kind_of}
 use Rattle.rb_tree.specs.Path.{index_of, segments}
 use Rattle.rb_tree.specs.Resource.{Resource}
 use Rattle.rb_tree.specs.Resource as tree
-use Rattle.rb_tree.specs.Walk.{ends, enter}
+use Rattle.rb_tree.specs.Walk.{Walked, ends, enter, gone, links}
 use Rattle.rb_tree.specs.declared.kind.Kind.{Kind}
 use Rattle.rb_tree.specs.declared.kind.Kind.TheVariants as kind
 use Rattle.rb_json.specs.Leaf.{units_data}
 use Rattle.rb_json.specs.Value.{tagged, value_of}
 use Rattle.rb_parents.specs.Trail.{Bundles, names, stops, trail}
 use Rattle.rb_fallback.proofs.Paths.{segments_joined}
-use Rattle.rb_fallback.specs.Search.{Decided, Hit, Setting, by_stops, by_trail, decide, go_on, is_long, level, search, setting, step}
+use Rattle.rb_fallback.specs.Alias.{Aim, aim, aims, no_package, no_text, target_of}
+use Rattle.rb_fallback.specs.Search.{Decided, Hit, Setting, by_stops, by_trail, decide, follow, go_on, is_long, level, search, setting, step, step_of}
 use Rattle.rb_fallback.specs.Words.{look_word}
 use Rattle.rb_fallback.specs.declared.fault.LookError.{LookError}
 use Rattle.rb_fallback.specs.declared.fault.LookError.TheVariants as look
 use Rattle.rb_inherit.specs.Leaves.{IsLeaf}
 use Rattle.rb_inherit.specs.Agreement.{AreSorted, IsAllFound, Shows, Tells, child_data, data_at}
-use Rattle.rb_inherit.specs.Merged.{AreItems, Ascends, Begins, Decides, Here, IsAt, IsItem, IsTree, IsValue, Joins, Layered, Merges, Part, all_keys, at_key, at_path, error_data, item, layered, longer, members_data, parts_of, room_below, tables, with_key, with_keys}
-use Rattle.rb_inherit.proofs.Deeper.{AreFine, AreTables, First, IsFine, NoLinks, all_first, are_fine, deeper, enters, enters_append, first_is, joined_len, keys_append, keys_len, layers_enter, links_front, same_test, shifted}
+use Rattle.rb_inherit.specs.Merged.{AreItems, Refused, alias_fault, fails, fault_of, Ascends, Begins, Decides, Here, IsAt, IsItem, IsTree, IsValue, Joins, Layered, Merges, Part, all_keys, at_key, at_path, error_data, item, layered, longer, members_data, parts_of, room_below, tables, with_key, with_keys}
+use Rattle.rb_inherit.proofs.Aliases.{fault_same}
+use Rattle.rb_inherit.proofs.Deeper.{AreFine, AreDirect, AreTables, EndsAt, First, IsFine, NoLinks, all_first, all_over, are_fine, deeper, enters, enters_append, first_is, joined_len, keys_append, keys_len, layers_enter, rooms, same_test, shifted}
 use Rattle.rb_inherit.proofs.Pointers.{below_tagged, item_there, one_member, spells}
 use Rattle.rb_inherit.proofs.Roots.{found_parts}
 
 -- ---- what decides at a place, and its value
 abbrev pub Says : Bool → Kind → Resource → Data → Type 0
 Says true k t e = e ≡ error_data (look_word look.PathTooLong)
+Says false kind.Alias t e = (f : LookError) → alias_fault t ≡ Some f → e ≡ error_data (look_word f)
 Says false k t e = Shows k t e
 
 pub value_here : (j used : ℕ) (h : Here) (d : Data) → IsTree (suc j) used h d → IsValue (λ u g e. IsTree j u g e) used h d
@@ -49,19 +52,34 @@ pub at_item : (Is : ℕ → Here → Data → Type 0) (used : ℕ) (k : Kind) (p
 at_item Is used k p h e same is v = subst (λ (c : Kind). IsItem Is used c p e) same (subst (λ (g : Here). IsValue Is used g e) is v)
 
 pub said : (Is : ℕ → Here → Data → Type 0) (used : ℕ) (b : Bool) (k : Kind) (p : Part) (Rest : List Layered → Type 0) (h : Here) (e : Data) → kind_of p.tree ≡ k
-    → (kind_of p.tree ≡ kind.Alias → ⊥) → Begins b k p Rest h → IsValue Is used h e → Says b k p.tree e
-said Is used true k p Rest h e same a is v = subst (λ (g : Here). IsValue Is used g e) is v
-said Is used false kind.Table p Rest h e same a is v =
+    → Begins b k p Rest h → IsValue Is used h e → Says b k p.tree e
+said Is used true k p Rest h e same is v = subst (λ (g : Here). IsValue Is used g e) is v
+said Is used false kind.Table p Rest h e same is v =
     let w = subst (λ (g : Here). IsValue Is used g e) is.1.0 v in
     (members_data w.0, w.1.0)
-said Is used false kind.Alias p Rest h e same a is v = absurd (a same)
-said Is used false kind.Array p Rest h e same a is v =
+said Is used false kind.Alias p Rest h e same is v = λ f a.
+    let fails_is : h ≡ fails f = subst (λ (o : Option LookError). Refused o h) a is in
+    subst (λ (g : Here). IsValue Is used g e) fails_is v
+said Is used false kind.Array p Rest h e same is v =
     let w = at_item Is used kind.Array p h e same is v in
     (items_of w.0, w.1.0)
-said Is used false kind.String p Rest h e same a is v = at_item Is used kind.String p h e same is v
-said Is used false kind.Int p Rest h e same a is v = at_item Is used kind.Int p h e same is v
-said Is used false kind.Ints p Rest h e same a is v = at_item Is used kind.Ints p h e same is v
-said Is used false kind.Binary p Rest h e same a is v = at_item Is used kind.Binary p h e same is v
+said Is used false kind.String p Rest h e same is v = at_item Is used kind.String p h e same is v
+said Is used false kind.Int p Rest h e same is v = at_item Is used kind.Int p h e same is v
+said Is used false kind.Ints p Rest h e same is v = at_item Is used kind.Ints p h e same is v
+said Is used false kind.Binary p Rest h e same is v = at_item Is used kind.Binary p h e same is v
+
+pub says_shows : (k : Kind) (t : Resource) (e : Data) → (k ≡ kind.Alias → ⊥) → Says false k t e → Shows k t e
+says_shows kind.Alias t e a h = absurd (a refl)
+says_shows kind.String t e a h = h
+says_shows kind.Int t e a h = h
+says_shows kind.Ints t e a h = h
+says_shows kind.Binary t e a h = h
+says_shows kind.Array t e a h = h
+says_shows kind.Table t e a h = h
+
+says_error : (k : Kind) (t : Resource) (e : Data) (f : LookError) → k ≡ kind.Alias → alias_fault t ≡ Some f → Says false k t e → e ≡ error_data (look_word f)
+says_error kind.Alias t e f k a h = h f a
+says_error _ t e f k a h = absurd cc
 
 -- ---- the tables that are merged
 pub record Front (ps : List Part) (more : List Layered) : Type 0 where
@@ -227,7 +245,7 @@ module _ (bundles : Bundles) (ns : List (List ℕ)) (most : ℕ) where
     is : IsAt (λ u g e. IsTree j u g e) used k parts c
 
   next_table : (j used : ℕ) (ss : List (List ℕ)) (k : List ℕ) (p : Part) (ps qs : List Part) (rest : List Layered) (d c : Data)
-      → NoLinks bundles ns (ss ++ k ∷ []) → at_path most bundles ns ss ≡ (p ∷ ps) ++ qs → AreFine most (p ∷ ps) → kind_of p.tree ≡ kind.Table
+      → NoLinks bundles ns ss → at_path most bundles ns ss ≡ (p ∷ ps) ++ qs → AreFine most (p ∷ ps) → kind_of p.tree ≡ kind.Table
       → Merges used ps rest → IsValue (λ u g e. IsTree j u g e) used (tables (layered p ∷ rest)) d → child_data k d ≡ Some c → Next j used ss k c
   next_table j used ss k p ps qs rest d c no_links is fine kind merges v h =
       let f = front_of most used ps rest fine.1 merges in
@@ -255,7 +273,7 @@ module _ (bundles : Bundles) (ns : List (List ℕ)) (most : ℕ) where
       }
 
   next_item : (j used : ℕ) (ss : List (List ℕ)) (k : List ℕ) (p : Part) (ps qs : List Part) (d c : Data)
-      → NoLinks bundles ns (ss ++ k ∷ []) → at_path most bundles ns ss ≡ (p ∷ ps) ++ qs → AreFine most (p ∷ ps) → kind_of p.tree ≡ kind.Array
+      → NoLinks bundles ns ss → at_path most bundles ns ss ≡ (p ∷ ps) ++ qs → AreFine most (p ∷ ps) → kind_of p.tree ≡ kind.Array
       → IsItem (λ u g e. IsTree j u g e) used kind.Array p d → child_data k d ≡ Some c → Next j used ss k c
   next_item j used ss k p ps qs d c no_links is fine kind v h =
       let index = then_some (λ i. get_item i (items_of v.0)) (index_of k) c (subst (λ (x : Data). child_data k x ≡ Some c) v.1.0 h) in
@@ -273,7 +291,7 @@ module _ (bundles : Bundles) (ns : List (List ℕ)) (most : ℕ) where
       }
 
   next_by : (j used : ℕ) (ss : List (List ℕ)) (key : List ℕ) (p : Part) (ps qs : List Part) (h : Here) (d c : Data) (b : Bool) (k : Kind)
-      → NoLinks bundles ns (ss ++ key ∷ []) → at_path most bundles ns ss ≡ (p ∷ ps) ++ qs → AreFine most (p ∷ ps) → kind_of p.tree ≡ k
+      → NoLinks bundles ns ss → at_path most bundles ns ss ≡ (p ∷ ps) ++ qs → AreFine most (p ∷ ps) → kind_of p.tree ≡ k
       → Begins b k p (λ rest. Merges used ps rest) h → IsValue (λ u g e. IsTree j u g e) used h d → child_data key d ≡ Some c → Next j used ss key c
   next_by j used ss key p ps qs h d c true k no_links is fine same b v e =
       let error = subst (λ (g : Here). IsValue (λ u g e. IsTree j u g e) used g d) b v in
@@ -296,29 +314,28 @@ module _ (bundles : Bundles) (ns : List (List ℕ)) (most : ℕ) where
     room : first.most ≡ most
     says : Says (nat_lt first.most used) (kind_of first.tree) first.tree e
 
-  there : (ks ss : List (List ℕ)) (j used : ℕ) (ps qs : List Part) (h : Here) (d e : Data) → AreSorted bundles → NoLinks bundles ns (ss ++ ks)
+  there : (ks ss : List (List ℕ)) (j used : ℕ) (ps qs : List Part) (h : Here) (d e : Data) → AreSorted bundles → AreDirect bundles ns (ss ++ ks)
       → at_path most bundles ns ss ≡ ps ++ qs → 0 < length ps → Decides used ps h → IsTree (suc j) used h d → length ks ≤ j → data_at ks d ≡ Some e
       → There (keys_after used ks) (ss ++ ks) e
-  there ks ss j used [] qs h d e sorted no_links is some decides v short at = absurd (omega arith)
-  there [] ss j used (p ∷ ps) qs h d e sorted no_links is some decides v short at =
-      let here = rw (append-nil ss) at no_links in
-      let fine = all_first (IsFine most) (p ∷ ps) qs (subst (AreFine most) is (are_fine most bundles ns ss sorted here)) in
+  there ks ss j used [] qs h d e sorted over is some decides v short at = absurd (omega arith)
+  there [] ss j used (p ∷ ps) qs h d e sorted over is some decides v short at =
+      let room = all_first (λ (q : Part). q.most ≡ most) (p ∷ ps) qs (subst (λ (l : List Part). AllByRecursion (λ q. q.most ≡ most) l) is (rooms most bundles ns ss)) in
       let same : d ≡ e = cc in
       record {
         first = p;
         others = ps ++ qs;
         is = ap (λ (l : List (List ℕ)). at_path most bundles ns l) (append-nil ss) ∙ is;
-        room = fine.0.room;
-        says = said (λ u g e. IsTree j u g e) used (nat_lt p.most used) (kind_of p.tree) p (λ rest. Merges used ps rest) h e refl fine.0.no_alias decides
+        room = room.0;
+        says = said (λ u g e. IsTree j u g e) used (nat_lt p.most used) (kind_of p.tree) p (λ rest. Merges used ps rest) h e refl decides
             (subst (λ (x : Data). IsValue (λ u g e. IsTree j u g e) used h x) same (value_here j used h d v));
       }
-  there (k ∷ ks) ss zero used (p ∷ ps) qs h d e sorted no_links is some decides v short at = absurd (omega arith)
-  there (k ∷ ks) ss (suc j) used (p ∷ ps) qs h d e sorted no_links is some decides v short at =
-      let on = subst (NoLinks bundles ns) (shifted ss k ks) no_links in
-      let fine = all_first (IsFine most) (p ∷ ps) qs
-      (subst (AreFine most) is (are_fine most bundles ns ss sorted (links_front bundles ns ss (k ∷ ks) no_links))) in
+  there (k ∷ ks) ss zero used (p ∷ ps) qs h d e sorted over is some decides v short at = absurd (omega arith)
+  there (k ∷ ks) ss (suc j) used (p ∷ ps) qs h d e sorted over is some decides v short at =
+      let on = subst (AreDirect bundles ns) (shifted ss k ks) over in
+      let no_links = all_over bundles ns ss k ks over in
+      let fine = all_first (IsFine most) (p ∷ ps) qs (subst (AreFine most) is (are_fine most bundles ns ss sorted no_links)) in
       let child = then_some (λ c. data_at ks c) (child_data k d) e at in
-      let next = next_by (suc j) used ss k p ps qs h d child.0 (nat_lt p.most used) (kind_of p.tree) (links_front bundles ns (ss ++ k ∷ []) ks on) is fine refl decides
+      let next = next_by (suc j) used ss k p ps qs h d child.0 (nat_lt p.most used) (kind_of p.tree) no_links is fine refl decides
       (value_here (suc j) used h d v) child.1.0 in
       let rest = there ks (ss ++ k ∷ []) j (longer used k) next.parts next.others next.is.0 child.0 e sorted on next.split next.some next.is.1.0 next.is.1.1 (omega arith) child.1.1 in
       subst (λ (l : List (List ℕ)). There (keys_after (longer used k) ks) l e) (sym (shifted ss k ks)) rest
@@ -332,14 +349,44 @@ by_stops_is : (bundles : Bundles) (ns ss : List (List ℕ)) (d : Decided) → de
 by_stops_is bundles [] ss d h = absurd cc
 by_stops_is bundles (n ∷ ns) ss d h = ap (λ (o : Option Decided). ok_or o look.Missing) h
 
+-- what a lookup answers where an item decides
+abbrev pub IsAnswer : Resource → Result Hit LookError → Type 0
+IsAnswer t (Ok hit) = (hit.tree ≡ t) × (kind_of t ≡ kind.Alias → ⊥)
+IsAnswer t (Err e) = (kind_of t ≡ kind.Alias) × (alias_fault t ≡ Some e)
+
+follow_fault : (a : Aim) (icu : Bool) (walked rest : List (List ℕ)) (e : LookError) → fault_of a ≡ Some e → follow rest (target_of a icu walked) ≡ Err e
+follow_fault (aims icu n ss) in_icu walked rest e h = absurd cc
+follow_fault no_text icu walked rest e h = let same : look.AliasText ≡ e = cc in ap (λ (x : LookError). Err x) same
+follow_fault no_package icu walked rest e h = let same : look.AliasPackage ≡ e = cc in ap (λ (x : LookError). Err x) same
+
+pub record Answered (k : ℕ) (s : Setting) (n : List ℕ) (ss : List (List ℕ)) (t : Resource) : Type 0 where
+  pub answer : Result Hit LookError
+  pub is : search (suc k) s false n ss ≡ cond (is_long ss) (Err look.PathTooLong) answer
+  pub of : IsAnswer t answer
+
+step_answer : (go : Bool → List ℕ → List (List ℕ) → Result Hit LookError) (valid stop : List ℕ) (t : Resource) (w : Walked) → EndsAt w t
+    → (r : Result Hit LookError) × ((go_on go (step_of false valid stop w) ≡ r) × IsAnswer t r)
+step_answer go valid stop t (ends u) e = (Ok (record { tree = u; actual = stop }), (refl, e))
+step_answer go valid stop t (links us walked []) e =
+    let f = e.1.0 in
+    let fault : fault_of (aim us valid) ≡ Some f = fault_same valid [] us ∙ (sym (ap alias_fault e.0) ∙ e.1.1) in
+    (Err f, (ap (go_on go) (follow_fault (aim us valid) false walked [] f fault), (ap kind_of e.0, e.1.1)))
+step_answer go valid stop t (links us walked (s ∷ rest)) e = absurd e
+step_answer go valid stop t gone e = absurd e
+
 pub search_first : (k : ℕ) (s : Setting) (n : List ℕ) (ss ns : List (List ℕ)) (t : Resource) → trail s.own s.parents n ≡ names ns
-    → (f : First s.own (stops s.own ns) ss t)
-    → search (suc k) s false n ss ≡ cond (is_long ss) (Err look.PathTooLong) (Ok (record { tree = t; actual = f.stop }))
+    → First s.own (stops s.own ns) ss t → Answered k s n ss t
 unfolding search
 search_first k s n ss ns t tr f =
-    let level_is : level s.own s.parents n ss ≡ Ok (record { stop = f.stop; walked = ends t }) =
-    ap (λ x. by_trail s.own x ss) tr ∙ by_stops_is s.own (stops s.own ns) ss (record { stop = f.stop; walked = ends t }) f.is in
-    ap (λ (r : Result Decided LookError). cond (is_long ss) (Err look.PathTooLong) (go_on (λ p m ts. search k s p m ts) (step false s.valid r))) level_is
+    let level_is : level s.own s.parents n ss ≡ Ok (record { stop = f.stop; walked = f.walked }) =
+    ap (λ x. by_trail s.own x ss) tr ∙ by_stops_is s.own (stops s.own ns) ss (record { stop = f.stop; walked = f.walked }) f.is in
+    let a = step_answer (λ p m ts. search k s p m ts) s.valid f.stop t f.walked f.ends in
+    record {
+      answer = a.0;
+      is = ap (λ (r : Result Decided LookError). cond (is_long ss) (Err look.PathTooLong) (go_on (λ p m ts. search k s p m ts) (step false s.valid r))) level_is
+          ∙ ap (λ (r : Result Hit LookError). cond (is_long ss) (Err look.PathTooLong) r) a.1.0;
+      of = a.1.1;
+    }
 
 -- a path that a lookup finds isn't too long
 pub search_short : (k : ℕ) (s : Setting) (n : List ℕ) (ss : List (List ℕ)) (hit : Hit) → search (suc k) s false n ss ≡ Ok hit → is_long ss ≡ false
@@ -366,9 +413,10 @@ long_is (b ∷ bs) ks h =
 pub short_path : (path : List ℕ) → is_long (segments path) ≡ false → length path ≤ 1024
 short_path path h = let l = ltb-false 1024 (length (join_with_byte 47 (segments path))) h in omega (arith, ap (λ (l : List ℕ). length l) (segments_joined path))
 
-tells : (b : Bool) (t : Resource) (actual : List ℕ) (e : Data) → Says b (kind_of t) t e → Tells (cond b (Err look.PathTooLong) (Ok (record { tree = t; actual = actual }))) e
-tells true t actual e h = h
-tells false t actual e h = h
+tells : (b : Bool) (t : Resource) (r : Result Hit LookError) (e : Data) → IsAnswer t r → Says b (kind_of t) t e → Tells (cond b (Err look.PathTooLong) r) e
+tells true t r e a h = h
+tells false t (Ok hit) e a h = subst (λ (u : Resource). Shows (kind_of u) u e) (sym a.0) (says_shows (kind_of t) t e a.1 h)
+tells false t (Err f) e a h = says_error (kind_of t) t e f a.0 a.1 h
 
 pub all_found : IsAllFound
 all_found own icu parents n path hit d sorted found tree ks e short no_alias at =
@@ -379,15 +427,15 @@ all_found own icu parents n path hit d sorted found tree ks e short no_alias at 
     let parts = found_parts own icu parents n path hit found in
     let same : parts.ns ≡ tree.ns = let f = sym parts.trail ∙ tree.trail in cc in
     let some = subst (λ (l : List (List ℕ)). 0 < length (at_path room own (stops own l) ss)) same parts.some in
-    let no_links = no_alias tree.ns tree.trail in
+    let over = no_alias tree.ns tree.trail in
     let low = short_path path (search_short 255 s n ss hit found) in
-    let t = there own ns room ks ss 63 0 (at_path room own ns ss) [] tree.here d e sorted no_links (sym (append-nil (at_path room own ns ss))) some tree.decides tree.value
+    let t = there own ns room ks ss 63 0 (at_path room own ns ss) [] tree.here d e sorted over (sym (append-nil (at_path room own ns ss))) some tree.decides tree.value
     (omega arith) at in
-    let first = first_is room own ns (ss ++ ks) t.first t.others no_links t.is in
+    let first = first_is room own ns (ss ++ ks) t.first t.others over t.is in
     let answer = search_first 255 s n (ss ++ ks) tree.ns t.first.tree tree.trail first in
     let used = keys_after_is 0 ks in
     let long : nat_lt t.first.most (keys_after 0 ks) ≡ is_long (ss ++ ks) =
     ap (λ (m : ℕ). nat_lt m (keys_after 0 ks)) t.room ∙ ap (nat_lt room) (used ∙ zero-add (keys_len ks)) ∙ sym (long_is path ks low) in
-    subst (λ (r : Result Hit LookError). Tells r e) (sym answer)
-    (subst (λ (b : Bool). Tells (cond b (Err look.PathTooLong) (Ok (record { tree = t.first.tree; actual = first.stop }))) e) long
-    (tells (nat_lt t.first.most (keys_after 0 ks)) t.first.tree first.stop e t.says))
+    subst (λ (r : Result Hit LookError). Tells r e) (sym answer.is)
+    (subst (λ (b : Bool). Tells (cond b (Err look.PathTooLong) answer.answer) e) long
+    (tells (nat_lt t.first.most (keys_after 0 ks)) t.first.tree answer.answer e answer.of t.says))

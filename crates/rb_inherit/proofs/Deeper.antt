@@ -10,8 +10,9 @@ use Rattle.rb_tree.specs.declared.kind.Kind.TheVariants as kind
 use Rattle.rb_tree.proofs.Walks.{enter_table, walk_on}
 use Rattle.rb_parents.specs.Trail.{Bundles}
 use Rattle.rb_fallback.specs.Search.{decide, unless_gone, walk_of}
-use Rattle.rb_inherit.specs.Agreement.{AreSorted, IsNoLink, IsSorted}
-use Rattle.rb_inherit.specs.Merged.{Part, at_key, at_path, ended, layered, parts_of}
+use Rattle.rb_fallback.specs.declared.fault.LookError.{LookError}
+use Rattle.rb_inherit.specs.Agreement.{AreSorted, IsNoLink, IsDirect, IsSorted}
+use Rattle.rb_inherit.specs.Merged.{Part, alias_fault, at_key, at_path, ended, layered, parts_of}
 
 -- ---- one key deeper
 -- the children of items at a key
@@ -48,33 +49,35 @@ walk_here : (t : Resource) → (kind_of t ≡ kind.Alias → ⊥) → walk t [] 
 walk_here (alias us) a = absurd (a refl)
 walk_here _ a = refl
 
-one_key : (most : ℕ) (t : Resource) (k : List ℕ) → IsNoLink (walk t (k ∷ [])) → ended most (walk t (k ∷ [])) ≡ enters k (ended most (walk t []))
+ended_here : (most : ℕ) (t : Resource) → ended most (walk t []) ≡ record { tree = t; most = most } ∷ []
+ended_here most (alias us) = refl
+ended_here most _ = refl
+
+one_key : (most : ℕ) (t : Resource) (k : List ℕ) → IsNoLink (walk t []) → ended most (walk t (k ∷ [])) ≡ enters k (ended most (walk t []))
 one_key most t k h =
-    let a = no_alias t (k ∷ []) h in
-    let is = walk_on t k [] a in
-    ap (ended most) is ∙ by (enter k t) (subst IsNoLink is h)
+    let a = no_alias t [] h in
+    ap (ended most) (walk_on t k [] a) ∙ by (enter k t)
     ∙ (sym (append-nil (parts_of (enter k t) most)) ∙ ap (λ (w : Walked). enters k (ended most w)) (sym (walk_here t a)))
   where
-    by : (o : Option Resource) → IsNoLink (onward k (λ u. walk u []) o) → ended most (onward k (λ u. walk u []) o) ≡ parts_of o most
-    by None n = refl
-    by (Some u) n =
-        ended_after most k (walk u []) ∙ ap (ended most) (walk_here u (no_alias u [] (link_after k (walk u []) n)))
+    by : (o : Option Resource) → ended most (onward k (λ u. walk u []) o) ≡ parts_of o most
+    by None = refl
+    by (Some u) = ended_after most k (walk u []) ∙ ended_here most u
 
-key_more : (most : ℕ) (t : Resource) (ss : List (List ℕ)) (k : List ℕ) → IsNoLink (walk t (ss ++ k ∷ []))
+key_more : (most : ℕ) (t : Resource) (ss : List (List ℕ)) (k : List ℕ) → IsNoLink (walk t ss)
     → ended most (walk t (ss ++ k ∷ [])) ≡ enters k (ended most (walk t ss))
 key_more most t [] k h = one_key most t k h
 key_more most t (s ∷ ss) k h =
-    let a = no_alias t (s ∷ (ss ++ k ∷ [])) h in
-    let is = walk_on t s (ss ++ k ∷ []) a in
-    ap (ended most) is ∙ by (λ u n. key_more most u ss k n) (enter s t) (subst IsNoLink is h)
-    ∙ ap (λ (w : Walked). enters k (ended most w)) (sym (walk_on t s ss a))
+    let a = no_alias t (s ∷ ss) h in
+    let is = walk_on t s ss a in
+    ap (ended most) (walk_on t s (ss ++ k ∷ []) a) ∙ by (λ u n. key_more most u ss k n) (enter s t) (subst IsNoLink is h)
+    ∙ ap (λ (w : Walked). enters k (ended most w)) (sym is)
   where
-    by : ((u : Resource) → IsNoLink (walk u (ss ++ k ∷ [])) → ended most (walk u (ss ++ k ∷ [])) ≡ enters k (ended most (walk u ss))) → (o : Option Resource)
-        → IsNoLink (onward s (λ u. walk u (ss ++ k ∷ [])) o) → ended most (onward s (λ u. walk u (ss ++ k ∷ [])) o) ≡ enters k (ended most (onward s (λ u. walk u ss) o))
+    by : ((u : Resource) → IsNoLink (walk u ss) → ended most (walk u (ss ++ k ∷ [])) ≡ enters k (ended most (walk u ss))) → (o : Option Resource)
+        → IsNoLink (onward s (λ u. walk u ss) o) → ended most (onward s (λ u. walk u (ss ++ k ∷ [])) o) ≡ enters k (ended most (onward s (λ u. walk u ss) o))
     by more None n = refl
     by more (Some u) n =
         ended_after most s (walk u (ss ++ k ∷ []))
-        ∙ more u (link_after s (walk u (ss ++ k ∷ [])) n)
+        ∙ more u (link_after s (walk u ss) n)
         ∙ ap (enters k) (sym (ended_after most s (walk u ss)))
 
 -- a path without an alias has none before its end
@@ -101,18 +104,51 @@ pub links_front : (bundles : Bundles) (ns ss ks : List (List ℕ)) → NoLinks b
 links_front bundles [] ss ks h = tt
 links_front bundles (n ∷ ns) ss ks h = (link_front_in (bundles n) ss ks h.0, links_front bundles ns ss ks h.1)
 
-pub deeper_in : (most : ℕ) (o : Option SourceTree) (ss : List (List ℕ)) (k : List ℕ) → IsNoLink (walk_of o (ss ++ k ∷ []))
+pub deeper_in : (most : ℕ) (o : Option SourceTree) (ss : List (List ℕ)) (k : List ℕ) → IsNoLink (walk_of o ss)
     → ended most (walk_of o (ss ++ k ∷ [])) ≡ enters k (ended most (walk_of o ss))
 deeper_in most None ss k h = refl
 deeper_in most (Some b) ss k h = key_more most b.tree ss k h
 
-pub deeper : (most : ℕ) (bundles : Bundles) (ns ss : List (List ℕ)) (k : List ℕ) → NoLinks bundles ns (ss ++ k ∷ [])
+pub deeper : (most : ℕ) (bundles : Bundles) (ns ss : List (List ℕ)) (k : List ℕ) → NoLinks bundles ns ss
     → at_path most bundles ns (ss ++ k ∷ []) ≡ enters k (at_path most bundles ns ss)
 deeper most bundles [] ss k h = refl
 deeper most bundles (n ∷ ns) ss k h =
     ap (λ (l : List Part). l ++ at_path most bundles ns (ss ++ k ∷ [])) (deeper_in most (bundles n) ss k h.0)
     ∙ (ap (λ (l : List Part). enters k (ended most (walk_of (bundles n) ss)) ++ l) (deeper most bundles ns ss k h.1)
     ∙ sym (enters_append k (ended most (walk_of (bundles n) ss)) (at_path most bundles ns ss)))
+
+-- ---- an alias at the end of a path
+over_no_alias : (t : Resource) (k : List ℕ) (ks : List (List ℕ)) → IsDirect (walk t (k ∷ ks)) → kind_of t ≡ kind.Alias → ⊥
+over_no_alias (alias us) k ks h e = h
+over_no_alias _ k ks h e = cc
+
+over_after : (s : List ℕ) (w : Walked) → IsDirect (after s w) → IsDirect w
+over_after s (ends t) h = tt
+over_after s (links us walked []) h = h
+over_after s (links us walked (r ∷ rest)) h = h
+over_after s gone h = tt
+
+over_front : (t : Resource) (ss : List (List ℕ)) (k : List ℕ) (ks : List (List ℕ)) → IsDirect (walk t (ss ++ k ∷ ks)) → IsNoLink (walk t ss)
+over_front t [] k ks h = subst IsNoLink (sym (walk_here t (over_no_alias t k ks h))) tt
+over_front t (s ∷ ss) k ks h =
+    let a = over_no_alias t s (ss ++ k ∷ ks) h in
+    subst IsNoLink (sym (walk_on t s ss a)) (by (λ u n. over_front u ss k ks n) (enter s t) (subst IsDirect (walk_on t s (ss ++ k ∷ ks) a) h))
+  where
+    by : ((u : Resource) → IsDirect (walk u (ss ++ k ∷ ks)) → IsNoLink (walk u ss)) → (o : Option Resource) → IsDirect (onward s (λ u. walk u (ss ++ k ∷ ks)) o)
+        → IsNoLink (onward s (λ u. walk u ss) o)
+    by more None n = tt
+    by more (Some u) n = link_before s (walk u ss) (more u (over_after s (walk u (ss ++ k ∷ ks)) n))
+
+over_front_in : (o : Option SourceTree) (ss : List (List ℕ)) (k : List ℕ) (ks : List (List ℕ)) → IsDirect (walk_of o (ss ++ k ∷ ks)) → IsNoLink (walk_of o ss)
+over_front_in None ss k ks h = tt
+over_front_in (Some b) ss k ks h = over_front b.tree ss k ks h
+
+abbrev pub AreDirect : Bundles → List (List ℕ) → List (List ℕ) → Type 0
+AreDirect bundles ns ss = AllByRecursion (λ m. IsDirect (walk_of (bundles m) ss)) ns
+
+pub all_over : (bundles : Bundles) (ns ss : List (List ℕ)) (k : List ℕ) (ks : List (List ℕ)) → AreDirect bundles ns (ss ++ k ∷ ks) → NoLinks bundles ns ss
+all_over bundles [] ss k ks h = tt
+all_over bundles (n ∷ ns) ss k ks h = (over_front_in (bundles n) ss k ks h.0, all_over bundles ns ss k ks h.1)
 
 -- the path one key deeper, and the keys after it
 pub shifted : (ss : List (List ℕ)) (k : List ℕ) (ks : List (List ℕ)) → ss ++ k ∷ ks ≡ (ss ++ k ∷ []) ++ ks
@@ -176,28 +212,73 @@ are_fine most bundles (n ∷ ns) ss sorted h =
     by gone e u = tt
 
 -- ---- the stop that decides
+-- a walk that ends at an item: at no alias, or at one whose text can't be read
+abbrev pub EndsAt : Walked → Resource → Type 0
+EndsAt (ends u) t = (u ≡ t) × (kind_of t ≡ kind.Alias → ⊥)
+EndsAt (links us walked []) t = (t ≡ alias us) × ((e : LookError) × (alias_fault t ≡ Some e))
+EndsAt (links us walked (s ∷ rest)) t = ⊥
+EndsAt gone t = ⊥
+
 pub record First (bundles : Bundles) (ns ss : List (List ℕ)) (t : Resource) : Type 0 where
   pub stop : List ℕ
-  pub is : decide bundles ns ss ≡ Some (record { stop = stop; walked = ends t })
+  pub walked : Walked
+  pub is : decide bundles ns ss ≡ Some (record { stop = stop; walked = walked })
+  pub ends : EndsAt walked t
 
-pub first_is : (most : ℕ) (bundles : Bundles) (ns ss : List (List ℕ)) (p : Part) (ps : List Part) → NoLinks bundles ns ss → at_path most bundles ns ss ≡ p ∷ ps
+-- no walk ends at an alias without saying so
+source_ends : (o : Option SourceTree) (u : Resource) (ss : List (List ℕ)) → walk_of o ss ≡ ends u → kind_of u ≡ kind.Alias → ⊥
+source_ends None u ss e k = cc
+source_ends (Some b) u ss e k = ends_no_alias b.tree u ss (subst IsNoLink (sym e) tt) e k
+
+pub first_is : (most : ℕ) (bundles : Bundles) (ns ss : List (List ℕ)) (p : Part) (ps : List Part) → AreDirect bundles ns ss → at_path most bundles ns ss ≡ p ∷ ps
     → First bundles ns ss p.tree
 first_is most bundles [] ss p ps h e = absurd cc
 first_is most bundles (n ∷ ns) ss p ps h e = by (λ f. first_is most bundles ns ss p ps h.1 f) (walk_of (bundles n) ss) refl h.0 e
   where
-    by : (at_path most bundles ns ss ≡ p ∷ ps → First bundles ns ss p.tree) → (w : Walked) → walk_of (bundles n) ss ≡ w → IsNoLink w
+    by : (at_path most bundles ns ss ≡ p ∷ ps → First bundles ns ss p.tree) → (w : Walked) → walk_of (bundles n) ss ≡ w → IsDirect w
         → ended most w ++ at_path most bundles ns ss ≡ p ∷ ps → First bundles (n ∷ ns) ss p.tree
     by more (ends t) is u f =
         let same : record { tree = t; most = most } ≡ p = cc in
         let tree : t ≡ p.tree = ap (λ (q : Part). q.tree) same in
         record {
           stop = n;
-          is = ap (λ (w : Walked). unless_gone n w (decide bundles ns ss)) is ∙ ap (λ (u : Resource). Some (record { stop = n; walked = ends u })) tree;
+          walked = ends t;
+          is = ap (λ (w : Walked). unless_gone n w (decide bundles ns ss)) is;
+          ends = (tree, λ k. source_ends (bundles n) t ss is (ap kind_of tree ∙ k));
         }
-    by more (links us walked rest) is u f = absurd u
+    by more (links us walked []) is u f =
+        let same : record { tree = alias us; most = most } ≡ p = cc in
+        let tree : alias us ≡ p.tree = ap (λ (q : Part). q.tree) same in
+        record {
+          stop = n;
+          walked = links us walked [];
+          is = ap (λ (w : Walked). unless_gone n w (decide bundles ns ss)) is;
+          ends = (sym tree, (u.0, ap alias_fault (sym tree) ∙ u.1));
+        }
+    by more (links us walked (s ∷ rest)) is u f = absurd u
     by more gone is u f =
         let first = more f in
-        record { stop = first.stop; is = ap (λ (w : Walked). unless_gone n w (decide bundles ns ss)) is ∙ first.is }
+        record { stop = first.stop; walked = first.walked; is = ap (λ (w : Walked). unless_gone n w (decide bundles ns ss)) is ∙ first.is; ends = first.ends }
+
+-- each part there has the same room
+rooms_in : (most : ℕ) (w : Walked) → AllByRecursion (λ p. p.most ≡ most) (ended most w)
+rooms_in most (ends t) = (refl, tt)
+rooms_in most (links us walked rest) = (refl, tt)
+rooms_in most gone = tt
+
+pub rooms : (most : ℕ) (bundles : Bundles) (ns ss : List (List ℕ)) → AllByRecursion (λ p. p.most ≡ most) (at_path most bundles ns ss)
+rooms most bundles [] ss = tt
+rooms most bundles (n ∷ ns) ss =
+    all_append (λ (p : Part). p.most ≡ most) (ended most (walk_of (bundles n) ss)) (at_path most bundles ns ss) (rooms_in most (walk_of (bundles n) ss)) (rooms most bundles ns ss)
+
+over_link : (w : Walked) → IsNoLink w → IsDirect w
+over_link (ends t) h = tt
+over_link (links us walked rest) h = absurd h
+over_link gone h = tt
+
+pub links_over : (bundles : Bundles) (ns ss : List (List ℕ)) → NoLinks bundles ns ss → AreDirect bundles ns ss
+links_over bundles [] ss h = tt
+links_over bundles (n ∷ ns) ss h = (over_link (walk_of (bundles n) ss) h.0, links_over bundles ns ss h.1)
 
 -- ---- tables and their layers
 abbrev pub AreTables : List Part → Type 0

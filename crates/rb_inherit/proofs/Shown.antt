@@ -1,5 +1,5 @@
 -- What lookups find is in a tree, where no earlier stop hides it.
-use Rattle.std.proofs.Common.{◌≡◌, ◌⊎◌, inl, inr, ◌+◌, ◌<◌, ◌≤◌, ◌++◌, ℕ, zero, suc, List, [], ◌∷◌, Bool, true, false, cond, Option, Some, None, Ok, Err, decimal, length, map, nat_lt, refl, sym, ap, subst, ◌∙◌, append_assoc, append-nil, arith, option_and_then, slice_get, zero-add}
+use Rattle.std.proofs.Common.{◌≡◌, ◌⊎◌, inl, inr, ◌+◌, ◌<◌, ◌≤◌, ◌++◌, ℕ, zero, suc, List, [], ◌∷◌, Bool, true, false, cond, Option, Some, None, Result, Ok, Err, decimal, length, map, nat_lt, refl, sym, ap, subst, ◌∙◌, append_assoc, append-nil, arith, option_and_then, slice_get, zero-add}
 use Rattle.std.specs.List.{AllByRecursion}
 use Rattle.std.specs.Map.{lookup}
 use Rattle.std.specs.Prelude.{nat_eq}
@@ -27,12 +27,13 @@ use Rattle.rb_tree.proofs.Walks.{enter_leaf, walk_on}
 use Rattle.rb_json.specs.Value.{key_text, value_of}
 use Rattle.rb_parents.specs.Trail.{Bundles, stops}
 use Rattle.rb_fallback.specs.Search.{Hit, is_long, setting, walk_of}
+use Rattle.rb_fallback.specs.declared.fault.LookError.{LookError}
 use Rattle.rb_fallback.specs.declared.fault.LookError.TheVariants as look
 use Rattle.rb_inherit.specs.Leaves.{IsLeaf}
 use Rattle.rb_inherit.specs.Agreement.{AreSorted, IsAllShown, IsNoLink, IsSeen, IsSeenOn, Shows, child_data, data_at}
 use Rattle.rb_inherit.specs.Merged.{AreItems, Ascends, Begins, Decides, Here, IsAt, IsTree, IsValue, Joins, Layered, Merges, Part, all_keys, at_key, at_path, ended, item, layered, longer, members_data, parts_of, room_below, tables, with_key, with_keys}
-use Rattle.rb_inherit.proofs.Agrees.{Says, at_item, fine_ascend, front_of, long_is, said, search_first, search_short, short_path, then_some, value_here}
-use Rattle.rb_inherit.proofs.Deeper.{AreFine, AreTables, First, IsFine, NoLinks, all_append, all_first, are_fine, deeper, deeper_in, enters, enters_append, first_is, keys_len, layers_enter, links_front, shifted}
+use Rattle.rb_inherit.proofs.Agrees.{IsAnswer, Says, says_shows, at_item, fine_ascend, front_of, long_is, said, search_first, search_short, short_path, then_some, value_here}
+use Rattle.rb_inherit.proofs.Deeper.{link_front_in, links_over, AreFine, AreTables, First, IsFine, NoLinks, all_append, all_first, are_fine, deeper, deeper_in, enters, enters_append, first_is, keys_len, layers_enter, links_front, shifted}
 use Rattle.rb_inherit.proofs.Pointers.{item_there, one_member, spells}
 
 -- ---- walks that end nowhere
@@ -100,7 +101,7 @@ child_of_stop o ss k t e n g =
     record {
       tree = w.tree;
       is = w.is;
-      entered = entered_is 0 (enter k t) w.tree (sym (ap (ended 0) w.is) ∙ deeper_in 0 o ss k n ∙ ap (λ (x : Walked). enters k (ended 0 x)) e);
+      entered = entered_is 0 (enter k t) w.tree (sym (ap (ended 0) w.is) ∙ deeper_in 0 o ss k (link_front_in o ss (k ∷ []) n) ∙ ap (λ (x : Walked). enters k (ended 0 x)) e);
     }
 
 -- ---- the keys of merged tables
@@ -370,7 +371,7 @@ module _ (bundles : Bundles) (before after : List (List ℕ)) (stop : List ℕ) 
       let A = at_path most bundles before ss in
       let fine = all_first (IsFine most) (A ++ p ∷ B) qs (subst (AreFine most) is (are_fine most bundles all_stops ss sorted here)) in
       let one = (all_last (IsFine most) A (p ∷ B) fine).0 in
-      let deep : enters k A ≡ at_path most bundles before (ss ++ k ∷ []) = sym (deeper most bundles before ss k links.0) in
+      let deep : enters k A ≡ at_path most bundles before (ss ++ k ∷ []) = sym (deeper most bundles before ss k (front_links bundles before after stop ss here).0) in
       let part : Part = record { tree = u; most = p.most } in
       subst (λ (l : List Part). Next j used k l part B d) deep (by kd same fine one entered dec v)
     where
@@ -407,11 +408,11 @@ module _ (bundles : Bundles) (before after : List (List ℕ)) (stop : List ℕ) 
       let empty : A ≡ [] = none_there most bundles before ss (subst (λ (l : List (List ℕ)). AllByRecursion (λ m. walk_of (bundles m) l ≡ gone) before) path none) in
       let fine = all_first (IsFine most) (A ++ p ∷ B) qs (subst (AreFine most) is (are_fine most bundles all_stops ss sorted here)) in
       let one = (all_last (IsFine most) A (p ∷ B) fine).0 in
-      let says = said (λ u g e. IsTree j u g e) used (nat_lt p.most used) (kind_of p.tree) p (λ rest. Merges used B rest) h d refl one.no_alias
+      let says = said (λ u g e. IsTree j u g e) used (nat_lt p.most used) (kind_of p.tree) p (λ rest. Merges used B rest) h d refl
       (subst (λ (l : List Part). Decides used (l ++ p ∷ B) h) empty dec) (value_here j used h d v) in
       let found : ends p.tree ≡ ends t = sym walked ∙ subst (λ (l : List (List ℕ)). walk_of (bundles stop) l ≡ ends t) path there in
       let same : p.tree ≡ t = cc in
-      let shows = subst (λ (b : Bool). Says b (kind_of p.tree) p.tree d) (room_is most used p one.room (omega (arith, low))) says in
+      let shows = says_shows (kind_of p.tree) p.tree d one.no_alias (subst (λ (b : Bool). Says b (kind_of p.tree) p.tree d) (room_is most used p one.room (omega (arith, low))) says) in
       ap (λ (x : Data). Some x) (shows_leaf (kind_of p.tree) p.tree d (subst (λ (x : Resource). IsLeaf (kind_of x)) (sym same) leaf) shows ∙ ap value_of same)
   shown (k ∷ ks) ss zero used p B qs h d t no_links is walked dec v short none there leaf seen low = absurd (omega arith)
   shown (k ∷ ks) ss (suc j) used p B qs h d t no_links is walked dec v short none there leaf seen low =
@@ -424,9 +425,9 @@ module _ (bundles : Bundles) (before after : List (List ℕ)) (stop : List ℕ) 
       let part : Part = record { tree = child.tree; most = p.most } in
       let next = step (suc j) used ss k p child.tree B qs h d (kind_of p.tree) refl near is walked child.entered seen.0 (omega (arith, low)) dec (value_here (suc j) used h d v) in
       let A = at_path most bundles before ss in
-      let deep : enters k A ≡ at_path most bundles before (ss ++ k ∷ []) = sym (deeper most bundles before ss k (front_links bundles before after stop (ss ++ k ∷ []) near).0) in
+      let deep : enters k A ≡ at_path most bundles before (ss ++ k ∷ []) = sym (deeper most bundles before ss k (front_links bundles before after stop ss (links_front bundles all_stops ss (k ∷ []) near)).0) in
       let split : at_path most bundles all_stops (ss ++ k ∷ []) ≡ (at_path most bundles before (ss ++ k ∷ []) ++ part ∷ next.others) ++ (next.back ++ enters k qs) =
-      deeper most bundles all_stops ss k near
+      deeper most bundles all_stops ss k (links_front bundles all_stops ss (k ∷ []) near)
       ∙ split_on k (at_path most bundles all_stops ss) A B next.others next.back qs p part is (ap (λ (o : Option Resource). parts_of o p.most) child.entered) next.split
       ∙ ap (λ (l : List Part). (l ++ part ∷ next.others) ++ (next.back ++ enters k qs)) deep in
       let rest = shown ks (ss ++ k ∷ []) j (longer used k) part next.others (next.back ++ enters k qs) next.is.0 next.value t links split child.is next.is.1.0 next.is.1.1 (omega arith)
@@ -434,9 +435,10 @@ module _ (bundles : Bundles) (before after : List (List ℕ)) (stop : List ℕ) 
       ap (λ (o : Option Data). option_and_then (λ c. data_at ks c) o) next.there ∙ rest
 
 -- ---- the lookup
-found_leaf : (b : Bool) (t : Resource) (stop : List ℕ) (hit : Hit) → cond b (Err look.PathTooLong) (Ok (record { tree = t; actual = stop })) ≡ Ok hit → hit.tree ≡ t
-found_leaf true t stop hit e = absurd cc
-found_leaf false t stop hit e = let same : record { tree = t; actual = stop } ≡ hit = cc in sym (ap (λ (x : Hit). x.tree) same)
+found_leaf : (b : Bool) (t : Resource) (r : Result Hit LookError) (hit : Hit) → IsAnswer t r → cond b (Err look.PathTooLong) r ≡ Ok hit → hit.tree ≡ t
+found_leaf true t r hit a e = absurd cc
+found_leaf false t (Ok h) hit a e = let same : h ≡ hit = cc in sym (ap (λ (x : Hit). x.tree) same) ∙ a.0
+found_leaf false t (Err f) hit a e = absurd cc
 
 pub all_shown : IsAllShown
 all_shown own icu parents n path hit d sorted found tree ks leaf short no_alias sight look is_leaf =
@@ -466,10 +468,10 @@ all_shown own icu parents n path hit d sorted found tree ks leaf short no_alias 
     stops_append room own before (stop ∷ sight.after) (ss ++ ks)
     ∙ ap (λ (l : List Part). l ++ (ended room (walk_of (own stop) (ss ++ ks)) ++ at_path room own sight.after (ss ++ ks))) (none_there room own before (ss ++ ks) sight.none)
     ∙ ap (λ (w : Walked). ended room w ++ at_path room own sight.after (ss ++ ks)) end.is in
-    let first = first_is room own all (ss ++ ks) e (at_path room own sight.after (ss ++ ks)) no_links last in
+    let first = first_is room own all (ss ++ ks) e (at_path room own sight.after (ss ++ ks)) (links_over own all (ss ++ ks) no_links) last in
     let firsts = subst (λ (l : List (List ℕ)). First own l (ss ++ ks) end.tree) (sym sight.split) first in
     let answer = search_first 255 s n (ss ++ ks) sight.ns end.tree sight.trail firsts in
-    let same : leaf.tree ≡ end.tree = found_leaf (is_long (ss ++ ks)) end.tree firsts.stop leaf (sym answer ∙ look) in
+    let same : leaf.tree ≡ end.tree = found_leaf (is_long (ss ++ ks)) end.tree answer.answer leaf answer.of (sym answer.is ∙ look) in
     let shows = shown own before sight.after stop room sorted ks ss 63 0 p B [] tree.here d end.tree no_links (parts ∙ sym (append-nil (at_path room own before ss ++ p ∷ B))) root.is
     decides tree.value (omega arith) sight.none end.is (subst (λ (x : Resource). IsLeaf (kind_of x)) same is_leaf) sight.seen (omega (arith, fits)) in
     shows ∙ ap (λ (x : Resource). Some (value_of x)) (sym same)

@@ -1,6 +1,7 @@
 -- Defines how a tree with inheritance agrees with lookups, ICU's `ures_getByKeyWithFallback` along the trail of UTS #35
 -- (LDML): each value in it is what a lookup of its path finds, and it has each leaf that a lookup finds, unless an
--- earlier stop hides it. Both are said of paths on which no stop has an alias.
+-- earlier stop hides it. The first is of paths on which no stop has an alias, except one at the end whose text can't be
+-- read; the second is of paths without any.
 use Rattle.std.specs.Prelude.{◌≡◌, ◌<◌, ℕ, List, [], ◌∷◌, ◌++◌, length, Option, Some, None, option_and_then, Result}
 use Rattle.std.specs.Prelude.{Ok, Err}
 use Rattle.std.specs.Cmp.Lexicographic.{slice_cmp}
@@ -13,7 +14,7 @@ use Rattle.serde_json.specs.Find.{get_item, get_member}
 use Rattle.rb_tree.specs.Limits.{height_limit}
 use Rattle.rb_tree.specs.Parts.{children_of, kind_of, pairs_of}
 use Rattle.rb_tree.specs.Path.{index_of, segments}
-use Rattle.rb_tree.specs.Resource.{Resource}
+use Rattle.rb_tree.specs.Resource.{Resource, alias}
 use Rattle.rb_tree.specs.Walk.{Walked, ends, links, gone}
 use Rattle.rb_tree.specs.declared.kind.Kind.{Kind}
 use Rattle.rb_tree.specs.declared.kind.Kind.TheVariants as kind
@@ -23,7 +24,7 @@ use Rattle.rb_fallback.specs.Search.{Hit, look_up, walk_of}
 use Rattle.rb_fallback.specs.Words.{look_word}
 use Rattle.rb_fallback.specs.declared.fault.LookError.{LookError}
 use Rattle.rb_inherit.specs.Leaves.{IsLeaf}
-use Rattle.rb_inherit.specs.Merged.{IsTreeAt, error_data}
+use Rattle.rb_inherit.specs.Merged.{IsTreeAt, alias_fault, error_data}
 
 -- ---- the value at a path
 -- a member by its key, or an item by its index, as JSON pointers have them (RFC 6901)
@@ -56,6 +57,19 @@ IsNoLink (ends t) = Unit {0}
 IsNoLink (links us walked rest) = ⊥
 IsNoLink gone = Unit {0}
 
+-- a walk that ends at no alias, or at the end of its path at one whose text can't be read
+abbrev pub IsDirect : Walked → Type 0
+IsDirect (ends t) = Unit {0}
+IsDirect (links us walked []) = (e : LookError) × (alias_fault (alias us) ≡ Some e)
+IsDirect (links us walked (s ∷ rest)) = ⊥
+IsDirect gone = Unit {0}
+
+-- no stop of a name has an alias on a path, except one at its end whose text can't be read
+abbrev pub HaveDirectWalks : Bundles → ParentsOf → List ℕ → List (List ℕ) → Type 0
+HaveDirectWalks bundles parents n ss =
+    (ns : List (List ℕ)) → trail bundles parents n ≡ names ns
+    → AllByRecursion (λ m. IsDirect (walk_of (bundles m) ss)) (stops bundles ns)
+
 -- no stop of a name has an alias on a path
 abbrev pub HaveNoAlias : Bundles → ParentsOf → List ℕ → List (List ℕ) → Type 0
 HaveNoAlias bundles parents n ss =
@@ -80,7 +94,7 @@ abbrev pub IsAllFound : Type 0
 IsAllFound =
     (own icu : Bundles) (parents : ParentsOf) (n path : List ℕ) (hit : Hit) (d : Data) → AreSorted own
     → look_up own icu parents n (segments path) ≡ Ok hit → IsTreeAt own parents n path d
-    → (ks : List (List ℕ)) (e : Data) → length ks < height_limit → HaveNoAlias own parents n (segments path ++ ks)
+    → (ks : List (List ℕ)) (e : Data) → length ks < height_limit → HaveDirectWalks own parents n (segments path ++ ks)
     → data_at ks d ≡ Some e → Tells (look_up own icu parents n (segments path ++ ks)) e
 
 -- ---- what is found is in the tree

@@ -2,7 +2,8 @@ ghost use Rattle.rb_inherit.specs.Agreement.{IsAllFound, IsAllShown};
 
 /// Proves that what a tree has at a path is what a lookup of the path answers: the JSON of the leaf
 /// that it finds, an object for a table, an array for an array, or its error. The path has at most
-/// 63 segments below the tree's, and no stop has an alias on it.
+/// 63 segments below the tree's, and no stop has an alias on it, except one at its end whose text
+/// can't be read.
 pub fn a_tree_has_what_lookups_find()
     ensures { IsAllFound }
 {}
