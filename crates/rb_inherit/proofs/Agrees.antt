@@ -168,7 +168,7 @@ all_have (l ∷ ls) =
     (λ e h. key_here (lookup (pointwise nat_eq e.0) l.entries) l.most (at_key e.0 ls) h) l.entries (all_there l.entries l.entries (λ k h. h)))
     (all_change (HasKey ls) (HasKey (l ∷ ls)) (λ k h. key_later (lookup (pointwise nat_eq k) l.entries) l.most (at_key k ls) h) (all_keys ls) (all_have ls))
 
-all_firsts : (P : List ℕ → Type 0) (es : List (List ℕ × Data)) → AllByRecursion P (map (λ e. e.0) es) → AllByRecursion (λ (e : List ℕ × Data). P e.0) es
+pub all_firsts : (P : List ℕ → Type 0) (es : List (List ℕ × Data)) → AllByRecursion P (map (λ e. e.0) es) → AllByRecursion (λ (e : List ℕ × Data). P e.0) es
 all_firsts P [] h = tt
 all_firsts P (e ∷ es) h = (h.0, all_firsts P es h.1)
 

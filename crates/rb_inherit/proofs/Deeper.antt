@@ -182,7 +182,7 @@ ends_no_alias t u (s ∷ ss) h e k =
     by more None n f = cc
     by more (Some v) n f = more v (link_after s (walk v ss) n) (after_ends (walk v ss) f)
 
-source_no_alias : (o : Option SourceTree) (u : Resource) (ss : List (List ℕ)) → IsNoLink (walk_of o ss) → walk_of o ss ≡ ends u → kind_of u ≡ kind.Alias → ⊥
+pub source_no_alias : (o : Option SourceTree) (u : Resource) (ss : List (List ℕ)) → IsNoLink (walk_of o ss) → walk_of o ss ≡ ends u → kind_of u ≡ kind.Alias → ⊥
 source_no_alias None u ss h e k = cc
 source_no_alias (Some b) u ss h e k = ends_no_alias b.tree u ss h e k
 

@@ -12,6 +12,7 @@ pub mod Leaves
 pub mod Members
 pub mod Merges
 pub mod Nexts
+pub mod OneTree
 pub mod Places
 pub mod Pointers
 pub mod Roots

@@ -6,8 +6,8 @@ use Rattle.std.specs.Ordering.{match_ordering, nat_cmp, is_eq}
 use Rattle.std.specs.declared.cmp.Ordering.{Ordering}
 use Rattle.std.specs.declared.cmp.Ordering.TheVariants.{Less, Equal, Greater}
 use Rattle.std.specs.Cmp.Lexicographic.{slice_cmp}
-use Rattle.std.proofs.lemmas.Bool.{and_from, and_parts, eq-eqb, eqb-true, le-leb, leb-true, ltb-true}
-use Rattle.std.proofs.lemmas.Fmt.{decimal-digits_value}
+use Rattle.std.proofs.lemmas.Bool.{and_from, and_parts, eq-eqb, eqb-true, le-leb, leb-true, lt-ltb, ltb-true, ne_eqb}
+use Rattle.std.proofs.lemmas.Fmt.{decimal-digits_value, decimal_digit, decimal_nonempty, digits_decimal, digits_value-decimal, first_decimal}
 use Rattle.std.proofs.lemmas.Map.Text.{is_eq-slice_cmp}
 use Rattle.std.proofs.lemmas.Slice.Eq.{bytes_eq-Decides}
 use Rattle.std.proofs.lemmas.Str.{encode_ascii, encode_same, length-encode}
@@ -146,3 +146,24 @@ spells k i h small = by (is_decimal k) refl h
         let zeros : get_or k 0 0 ≡ 48 → length k ≡ 1 = λ z. eqb-true (length k) 1 (lead (slice_index k 0 == 48) (length k == 1) more.1 (eq-eqb (slice_index k 0) 48 z)) in
         ap decimal (sym is) ∙ decimal-digits_value decimals k more.0 (ltb-true 0 (length k) parts.0) zeros (omega (arith, is, small))
     by false e f = absurd cc
+
+first_by : (a b : Bool) → a ≡ false → (not a || b) ≡ true
+first_by true b e = cc
+first_by false b e = refl
+
+second_by : (a b : Bool) → b ≡ true → (not a || b) ≡ true
+second_by true b e = e
+second_by false b e = refl
+
+-- an index is read as it is spelled
+pub spelled : (i : ℕ) → i < 18446744073709551616 → index_of (decimal i) ≡ Some i
+spelled i small =
+    ap (λ (b : Bool). cond b (Some (value_of (decimal i))) None) (and_from (nat_lt 0 (length (decimal i))) _ (lt-ltb 0 (length (decimal i)) (decimal_nonempty i small))
+    (and_from (list_all is_digit (decimal i)) _ (digits_decimal decimals i small) (lead_by i small)))
+    ∙ ap (λ (n : ℕ). Some n) (digits_value-decimal decimals i small)
+  where
+    lead_by : (n : ℕ) → n < 18446744073709551616 → (not (slice_index (decimal n) 0 == 48) || (length (decimal n) == 1)) ≡ true
+    lead_by zero h = second_by (slice_index (decimal 0) 0 == 48) (length (decimal 0) == 1) (ap (λ (s : List ℕ). length s == 1) (decimal_digit 0 (omega arith)))
+    lead_by (suc n) h =
+        first_by (slice_index (decimal (suc n)) 0 == 48) (length (decimal (suc n)) == 1)
+        (ne_eqb (slice_index (decimal (suc n)) 0) 48 (λ e. let f = first_decimal (suc n) (omega arith) h in omega (arith, e, f)))

@@ -131,3 +131,14 @@ IsAllShown =
     → (ks : List (List ℕ)) (leaf : Hit) → length ks < height_limit → HaveNoAlias own parents n (segments path ++ ks)
     → IsInSight own parents n (segments path) ks → look_up own icu parents n (segments path ++ ks) ≡ Ok leaf
     → IsLeaf (kind_of leaf.tree) → data_at ks d ≡ Some (value_of leaf.tree)
+
+-- ---- one tree
+-- no walk in a bundle ends at an alias
+abbrev pub HasNoAliases : Bundles → Type 0
+HasNoAliases bundles = (m : List ℕ) (ss : List (List ℕ)) → IsNoLink (walk_of (bundles m) ss)
+
+-- bundles without aliases have one tree at a path
+abbrev pub IsOneTree : Type 0
+IsOneTree =
+    (bundles : Bundles) (parents : ParentsOf) (n path : List ℕ) (d e : Data) → AreSorted bundles
+    → HasNoAliases bundles → IsTreeAt bundles parents n path d → IsTreeAt bundles parents n path e → d ≡ e

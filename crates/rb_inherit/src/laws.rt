@@ -1,4 +1,4 @@
-ghost use Rattle.rb_inherit.specs.Agreement.{IsAllFound, IsAllShown};
+ghost use Rattle.rb_inherit.specs.Agreement.{IsAllFound, IsAllShown, IsOneTree};
 
 /// Proves that what a tree has at a path is what a lookup of the path answers: the JSON of the leaf
 /// that it finds, an object for a table, an array for an array, or its error. The path has at most
@@ -14,4 +14,10 @@ pub fn a_tree_has_what_lookups_find()
 /// stop has an alias on it.
 pub fn a_tree_has_each_leaf()
     ensures { IsAllShown }
+{}
+
+/// Proves that bundles without aliases have one tree at a path, so that its definition leaves nothing
+/// open there.
+pub fn there_is_one_tree()
+    ensures { IsOneTree }
 {}
