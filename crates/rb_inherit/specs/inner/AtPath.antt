@@ -84,14 +84,14 @@ AddsStops tree used ps before old after None new = AddsSome tree used ps before 
 AddsStops tree used ps before old after (Some link) new = AddsUpTo tree used ps before old after link new
 
 -- ---- aliases that can't be read
-abbrev pub RefusesLink : {N : Type 0} {G : Ghosts N} → Option LookError → Found N → List (Layer N G) → Found N → Option (Link N)
-    → List (Layer N G) → Type 0
+abbrev pub RefusesLink : {N : Type 0} {G : Ghosts N} → Option LookError → Found N → List (Layer N G) → Found N
+    → Option (Link N) → List (Layer N G) → Type 0
 RefusesLink None before old after link new = Unit {0}
 RefusesLink (Some e) before old after link new = (link ≡ None) × ((after ≡ and_error before e) × (new ≡ old))
 
 -- the alias of a walk that ended at one was refused
-abbrev pub RefusesAfter : {N : Type 0} {G : Ghosts N} → (N → Resource) → Option (Link N) → Found N → List (Layer N G) → Found N → List (Layer N G)
-    → Type 0
+abbrev pub RefusesAfter : {N : Type 0} {G : Ghosts N} → (N → Resource) → Option (Link N) → Found N → List (Layer N G)
+    → Found N → List (Layer N G) → Type 0
 RefusesAfter tree None before old after new = Unit {0}
 RefusesAfter tree (Some link) before old after new = Refuses (alias_fault (tree link.node)) before old after new
 

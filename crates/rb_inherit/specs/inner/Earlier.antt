@@ -93,7 +93,8 @@ fault_in (Ok x) = None
 fault_in (Err e) = Some e
 
 -- an alias whose text can't be read has added its error alone
-abbrev pub Refuses : {N : Type 0} {G : Ghosts N} → Option LookError → Found N → List (Layer N G) → Found N → List (Layer N G) → Type 0
+abbrev pub Refuses : {N : Type 0} {G : Ghosts N} → Option LookError → Found N → List (Layer N G) → Found N
+    → List (Layer N G) → Type 0
 Refuses None before old after new = Unit {0}
 Refuses (Some e) before old after new = (after ≡ and_error before e) × (new ≡ old)
 
