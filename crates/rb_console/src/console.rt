@@ -143,7 +143,7 @@ pub struct ShownName<'a> {
 
 /// Checks whether a terminal acts on a character in place of showing it: a control character, or
 /// one that controls the direction of text.
-fn is_control(c: char) -> bool {
+pub(crate) fn is_control(c: char) -> bool {
     matches!(
         c,
         '\0'..='\u{1f}'

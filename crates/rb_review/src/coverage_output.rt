@@ -1,6 +1,5 @@
 //! The output of `resb coverage`: a table by locale, a list by key, JSON and CSV.
-use crate::escaped::JsonText;
-use rb_console::Console;
+use rb_console::{Console, JsonText};
 use rb_coverage::{Counts, Finding, Found};
 use rb_locales::Name;
 use rb_tree::Tree;

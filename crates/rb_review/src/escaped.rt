@@ -1,29 +1,6 @@
 //! Texts as other formats write them.
 use std::fmt;
 
-/// A text inside quotes of JSON.
-#[derive(Clone, Copy, Debug)]
-pub(crate) struct JsonText<'a>(pub(crate) &'a str);
-
-impl<'a> fmt::Display for JsonText<'a> {
-    fn fmt<W: fmt::Write>(&self, f: &mut fmt::Formatter<W>) -> fmt::Result {
-        for c in self.0.chars() {
-            match c {
-                '"' | '\\' => {
-                    f.write_char('\\')?;
-                    f.write_char(c)?;
-                }
-                '\0'..='\u{1f}' | '\u{7f}'..='\u{9f}' => {
-                    let code = u32::from(c);
-                    write!(f, "\\u{code:04x}")?;
-                }
-                _ => f.write_char(c)?,
-            }
-        }
-        Ok(())
-    }
-}
-
 /// A file's name as a relative reference of a URI.
 #[derive(Clone, Copy, Debug)]
 pub(crate) struct UriText<'a>(pub(crate) &'a str);

@@ -1,7 +1,7 @@
 //! The output of `resb lint`: lines for people and editors, JSON, SARIF, and GitHub's commands.
-use crate::escaped::{GitHubText, JsonText, UriText};
+use crate::escaped::{GitHubText, UriText};
 use crate::lint_words::Format;
-use rb_console::Console;
+use rb_console::{Console, JsonText};
 use rb_lint::{Finding, Rule};
 use std::io;
 
