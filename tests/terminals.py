@@ -31,6 +31,11 @@ def shown(name):
     return "".join(f"\\u{{{ord(c):x}}}" if ord(c) in CONTROLS or ord(c) < 0x20 else c for c in name)
 
 
+def in_json(name):
+    """The name as it is inside quotes of JSON, in a pipe and on a terminal."""
+    return "".join(f"\\u{ord(c):04x}" if ord(c) in CONTROLS or ord(c) < 0x20 else c for c in name)
+
+
 def opened():
     """A terminal that changes no byte: its two ends."""
     master, slave = pty.openpty()
@@ -144,6 +149,8 @@ def names(terminals):
             out.write(content)
     write(terminals.folder, NAME + ".txt", 'root{a{"x"}')
     terminals.command(["check", name, NAME + "bad.res", "missing" + NAME], named=[NAME], has=NAME)
+    terminals.command(["check", "--json", name, NAME + "bad.res"], has=in_json(NAME))
+    terminals.command(["lint", "--format", "json", NAME + ".txt"], has=in_json(NAME))
     for command in (["get", name, NAME], ["json", name, NAME], ["text", "missing" + NAME], ["compile", NAME + ".txt", "o.res"],
                     ["compile", "root.txt", name + "/o"], ["lint", NAME + ".txt"], ["explain", NAME], ["look", NAME, "a", "root.res"],
                     ["look", "root", "a", NAME + "=missing.res"], ["lines", NAME, "root.txt"], ["serve", "--apps", NAME],

@@ -8,7 +8,7 @@ _resb() {
     case ${COMP_WORDS[1]} in
         # options, by tools/pages
         compile) flags='--to --from --json --no-fallback --quiet --help' ;;
-        check) flags='--quiet --help' ;;
+        check) flags='--json --quiet --help' ;;
         get) flags='--raw --help' ;;
         lint) flags='--against --root --allow --deny --strict --all --format --name --list --help' ;;
         fmt) flags='--check --diff --quiet --help' ;;

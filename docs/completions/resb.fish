@@ -8,6 +8,7 @@ complete -c resb -n '__fish_seen_subcommand_from compile' -l from -x -d 'with --
 complete -c resb -n '__fish_seen_subcommand_from compile' -l json -d 'read JSON, as resb json prints it, in place of bundle texts'
 complete -c resb -n '__fish_seen_subcommand_from compile' -l no-fallback -d 'set the flag nofallback, which JSON doesn\'t have'
 complete -c resb -n '__fish_seen_subcommand_from compile' -l quiet -d 'no line on success'
+complete -c resb -n '__fish_seen_subcommand_from check' -l json -d 'an object for each file, in a line'
 complete -c resb -n '__fish_seen_subcommand_from check' -l quiet -d 'no line on success'
 complete -c resb -n '__fish_seen_subcommand_from get' -l raw -d 'print a String as its text, not as JSON'
 complete -c resb -n '__fish_seen_subcommand_from lint' -l against -r -d 'the bundle text of the root locale, to compare with'

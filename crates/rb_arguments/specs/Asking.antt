@@ -68,9 +68,10 @@ AsksFor name rows (CompileAllJson folder from files no_fallback is_quiet) =
     × (texts files.items ≡ texts_in rows)
     × IsFlagIn rows (codes "no-fallback") no_fallback
     × IsFlagIn rows (codes "quiet") is_quiet
-AsksFor name rows (Check files is_quiet) =
+AsksFor name rows (Check files is_json is_quiet) =
     (name ≡ codes "check")
     × (texts files.items ≡ words_in rows (codes "FILE"))
+    × IsFlagIn rows (codes "json") is_json
     × IsFlagIn rows (codes "quiet") is_quiet
 AsksFor name rows (Get file path is_raw) =
     (name ≡ codes "get")

@@ -44,6 +44,7 @@ pub enum Asked<'a> {
     /// `check FILE..`
     Check {
         files: Vec<&'a str>,
+        is_json: bool,
         is_quiet: bool,
     },
     /// `get FILE PATH`
@@ -319,6 +320,7 @@ fn check_asked<'a>(alloc: Global, given: &ArgMatches<'a>) -> Result<Asked<'a>, A
 {
     Ok(Asked::Check {
         files: words_of(alloc, given, "FILE")?,
+        is_json: flag_of(given, "json"),
         is_quiet: flag_of(given, "quiet"),
     })
 }

@@ -65,8 +65,11 @@ const CHECK_HELP: &str = "\
 Examples:
   resb check de.res
   resb check bundles/*.res
+  resb check --json bundles/*.res
 
-Each line begins with the file's name where there is more than one file.
+Each line begins with the file's name where there is more than one file. With --json each file that
+can be read has a JSON object in a line of standard output, with its name in file, and in visits the
+number of its tables and arrays with data, or in code the error's name.
 
 Status:
   0  each file is a bundle; the number of its tables and arrays with data is printed
@@ -78,6 +81,7 @@ pub const CHECK: Description = Description {
     name: "check",
     about: "Checks .res files",
     arguments: &[
+        Argument("json", Kind::Flag, "an object for each file, in a line"),
         Argument("quiet", Kind::ShortFlag('q'), "no line on success"),
         Argument("FILE", Kind::Words("FILE"), "a .res file"),
     ],

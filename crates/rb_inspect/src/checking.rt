@@ -1,8 +1,8 @@
 //! `resb check`.
-ghost use Rattle.std.specs.Prelude.{◌≡◌, IfErr};
+ghost use Rattle.std.specs.Prelude.{◌≡◌, ◌≢◌, IfErr};
 ghost use Rattle.std.specs.Process.{exit_status};
 
-use rb_console::{CommandError, Console, accepted, each, failed, finish, printed};
+use rb_console::{CommandError, Console, JsonText, accepted, each, failed, finish, printed};
 use rb_validator::Bundle;
 use std::process::ExitCode;
 use std::rt::{Clock, Files};
@@ -61,5 +61,51 @@ pub fn check_all<R: Files + Clock + AllocGlobal + Print + Eprint>(
         console,
         names,
         |name| checked(rt, console, name, accepted(rt, name)),
+    )
+}
+
+/// Prints an object for a file, and returns its status: 1 if the file isn't accepted, 2 if standard
+/// output can't be written.
+fn checked_json<R: Print + Eprint>(
+    rt: &R,
+    console: Console,
+    name: &str,
+    accepted: Result<Bundle, CommandError<'_>>,
+) -> ExitCode
+    ensures refused { IfErr accepted.entry (λ error. exit_status result ≢ 0) }
+{
+    let file = JsonText(name);
+    match accepted {
+        Ok(_) if console.is_quiet => ExitCode::SUCCESS,
+        Ok(bundle) => {
+            let visits = bundle.visits();
+            printed(
+                rt,
+                println!(rt; "{{\"file\":\"{file}\",\"visits\":{visits}}}"),
+            )
+        }
+        Err(CommandError::Refused(_, code)) => {
+            match println!(rt; "{{\"code\":\"{code}\",\"file\":\"{file}\"}}") {
+                Ok(()) => ExitCode::from(1),
+                Err(error) => printed(rt, Err(error)),
+            }
+        }
+        Err(error) => failed(rt, console, error),
+    }
+}
+
+/// Checks each file as `check_all` does, and prints an object for each on a line of standard
+/// output, with the error's name if the file is refused. That a file can't be read is said on
+/// standard error.
+pub fn check_json<R: Files + Clock + AllocGlobal + Print + Eprint>(
+    rt: &R,
+    console: Console,
+    names: &[&str],
+) -> ExitCode {
+    each(
+        rt,
+        console,
+        names,
+        |name| checked_json(rt, console, name, accepted(rt, name)),
     )
 }

@@ -12,7 +12,7 @@ mod trace;
 mod trace_steps;
 mod words;
 
-pub use checking::{check, check_all, check_on};
+pub use checking::{check, check_all, check_json, check_on};
 pub use explain_words::{explain, explain_on};
 pub use getting::{get, get_on, get_raw};
 pub use inherited::{Inheritance, print_tree};

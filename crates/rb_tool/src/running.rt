@@ -13,7 +13,8 @@ use rb_convert::{
 };
 use rb_fmt::{FormatMode, format_all};
 use rb_inspect::{
-    Inheritance, Lookup, check_all, check_on, explain_on, get_on, get_raw, look_up, print_tree,
+    Inheritance, Lookup, check_all, check_json, check_on, explain_on, get_on, get_raw, look_up,
+    print_tree,
 };
 use rb_requests::Limits;
 use rb_review::{CoverageWords, LintWords, cover_all, lint_all, list_rules};
@@ -92,13 +93,15 @@ fn run_get<R: Files + AllocGlobal + Print + Eprint>(
     }
 }
 
-/// `check FILE`, or `check FILE..`, where each line names its file.
+/// `check FILE`, or `check FILE..`, where each line names its file, or `check --json FILE..`
 fn run_check<R: Files + Clock + AllocGlobal + Print + Eprint>(
     rt: &R,
     console: Console,
     files: &[&str],
+    is_json: bool,
 ) -> ExitCode {
     match files {
+        names if is_json => check_json(rt, console, names),
         [name] => check_on(rt, console, name),
         names => check_all(rt, console, names),
     }
@@ -276,7 +279,11 @@ pub fn run_asked<
             let target = Target { folder, from };
             compile_all_json(rt, quieted(console, is_quiet), target, &texts, no_fallback)
         }
-        Asked::Check { files, is_quiet } => run_check(rt, quieted(console, is_quiet), &files),
+        Asked::Check {
+            files,
+            is_json,
+            is_quiet,
+        } => { run_check(rt, quieted(console, is_quiet), &files, is_json) }
         Asked::Get { file, path, is_raw } => run_get(rt, console, file, path, is_raw),
         Asked::Json {
             file,
