@@ -1,5 +1,5 @@
 -- Defines the changes that a release makes together, or the reason why it makes none, a rule of this project.
-use Rattle.std.specs.Prelude.{◌≡◌, ◌⊎◌, ◌+◌, ℕ, true, false, List, [], ◌∷◌, length, take, nat_lt, is_some}
+use Rattle.std.specs.Prelude.{◌≡◌, ◌⊎◌, ◌+◌, ◌≤◌, ℕ, true, false, List, [], ◌∷◌, length, take, nat_lt, is_some}
 use Rattle.std.specs.Prelude.{MatchBool, MatchOption}
 use Rattle.std.specs.Prelude.{Option, Some, None, Result, Ok, Err, codes}
 use Rattle.std.specs.List.{slice_get}
@@ -81,11 +81,12 @@ IsUnreleased limits kept app (Ok a) changes r =
 
 -- ---- a release that is made
 
--- all changes are made in their order, and nothing else
+-- all changes are made in their order, at most as many as an application may have bundles, and nothing else
 pub record IsReleased (limits : Limits) (old : Kept) (app : List ℕ) (changes : List ReleaseChange)
     (new : Kept) : Type 0 where
   pub own : List ℕ
   pub is : app_of app ≡ Ok own
+  pub few : length changes ≤ bundle_limit
   pub edits : Edits
   pub all : HaveEdits limits app changes edits
   pub files : files_of own new.packages ≡ edited edits (files_of own old.packages)

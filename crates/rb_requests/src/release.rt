@@ -1,8 +1,9 @@
 //! Releases: changes of one application's bundles, all of which are made or none.
-ghost use Rattle.std.specs.Prelude.{◌≡◌, ◌⊎◌, ◌++◌, ◌∷◌, [], List, ℕ, length, true, false};
+ghost use Rattle.std.specs.Prelude.{◌≡◌, ◌<◌, ◌⊎◌, ◌++◌, ◌∷◌, [], List, ℕ, length, true, false};
 ghost use Rattle.std.specs.Prelude.{IfErr, IfOk, OnErr, OnOk, Some, codes};
 ghost use Rattle.hex.specs.Hex.{decode_of};
 ghost use Rattle.rb_packages.specs.App.{app_of};
+ghost use Rattle.rb_packages.specs.Limits.{bundle_limit};
 ghost use Rattle.rb_engine.specs.Source.{payload_of};
 ghost use Rattle.rb_engine.specs.declared.request.Payload.{Payload};
 ghost use Rattle.rb_requests.specs.Asked.{decoded};
@@ -126,6 +127,7 @@ fn draft_at(
     draft: &mut Draft,
 ) -> Result<(), Unmade>
     ensures app { draft.new.app ≡ draft.old.app }
+    ensures few { OnOk result (index < bundle_limit) }
     ensures edits { (c : ReleaseChange) → change_seen change.now ≡ Some c
         → DraftsAt limits.now app.now index c draft.old.edits result draft.new.edits }
 {

@@ -1,5 +1,6 @@
 -- For what is private. Defines the effect of judging the changes of a release, and of adding them to a draft.
-use Rattle.std.specs.Prelude.{◌≡◌, ◌++◌, ◌∷◌, [], ℕ, List, Option, Result, Ok, Err}
+use Rattle.std.specs.Prelude.{◌≡◌, ◌≤◌, ◌++◌, ◌∷◌, [], ℕ, List, length, Option, Result, Ok, Err}
+use Rattle.rb_packages.specs.Limits.{bundle_limit}
 use Rattle.rb_packages.specs.Release.{Edits}
 use Rattle.rb_requests.specs.ExtendedAsked.{ReleaseChange}
 use Rattle.rb_requests.specs.Refused.{Reason, at_index}
@@ -27,5 +28,5 @@ DraftsAt limits app index change old (Err unmade) new = IfRefused unmade (IsReas
 
 -- all changes are added, or the first that is refused is the reason
 abbrev pub DraftsAll : Limits → (app : List ℕ) → List ReleaseChange → Result (Unit {0}) Unmade → Edits → Type 0
-DraftsAll limits app changes (Ok x) edits = HaveEdits limits app changes edits
+DraftsAll limits app changes (Ok x) edits = HaveEdits limits app changes edits × (length changes ≤ bundle_limit)
 DraftsAll limits app changes (Err unmade) edits = IfRefused unmade (IsFirstRefused limits app changes)

@@ -20,4 +20,4 @@ returns-in_err-judge_sum-clause-refused c =
     (sym (c.draft_all.ensures.app ∙ c.in-Ok-draft.ensures.app)) (sym c.in-Ok.ensures) in
     let failed = c.in_err-judge_sum in
     rw (p.1, p.2) (λ cs e. unreleased_sum c.args.limits.now c.args.engine.now c.args.app.now draft.app (app_of c.args.app.now) cs
-    failed.field-0.0 draft.edits own (c.in_ok-draft_all.ensures.edits cs e c.in-Ok-draft.ensures.none) failed.ensures)
+    failed.field-0.0 draft.edits own (c.in_ok-draft_all.ensures.edits cs e c.in-Ok-draft.ensures.none).0 failed.ensures)
