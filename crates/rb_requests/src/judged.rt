@@ -7,7 +7,7 @@ ghost use Rattle.rb_engine.specs.ReadFaults.{IsFirstFault};
 ghost use Rattle.rb_engine.specs.Source.{payload_of};
 ghost use Rattle.rb_engine.specs.declared.request.Payload.{Payload};
 ghost use Rattle.rb_requests.specs.Refused.{IsFirstError, at_index, file_reason, only, text_reason};
-ghost use Rattle.rb_requests.specs.Released.{IsUntaken};
+ghost use Rattle.rb_requests.specs.inner.Drafted.{untaken_reason};
 ghost use Rattle.rb_requests.specs.inner.Judged.{IfRefused, Judges, reason_of};
 ghost use Rattle.rb_requests.specs.inner.Judged.{names_error as error_of_names};
 
@@ -86,7 +86,7 @@ fn bad_file(fault: FileFault) -> Unmade
 }
 
 pub(crate) fn undrafted(fault: DraftFault) -> Unmade
-    ensures { IfRefused result IsUntaken }
+    ensures { reason_of result ≡ untaken_reason fault }
 {
     match fault {
         DraftFault::Absent => Unmade::plain(Reply::Absent.word()),

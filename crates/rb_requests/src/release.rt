@@ -1,19 +1,22 @@
 //! Releases: changes of one application's bundles, all of which are made or none.
-ghost use Rattle.std.specs.Prelude.{◌≡◌, ◌<◌, ◌⊎◌, ◌++◌, ◌∷◌, [], List, ℕ, length, true, false};
-ghost use Rattle.std.specs.Prelude.{IfErr, IfOk, OnErr, OnOk, Some, codes};
+ghost use Rattle.std.specs.Prelude.{◌≡◌, ◌<◌, ◌-◌, ◌^◌, [], List, ℕ, length, min, sum_by, false};
+ghost use Rattle.std.specs.Prelude.{IfErr, IfOk, OnErr, OnOk, None, Some};
 ghost use Rattle.hex.specs.Hex.{decode_of};
 ghost use Rattle.rb_packages.specs.App.{app_of};
 ghost use Rattle.rb_packages.specs.Limits.{bundle_limit};
+ghost use Rattle.rb_packages.specs.Packages.{Files, files_of};
+ghost use Rattle.rb_packages.specs.Release.{IsDraftOf, edited, put_fault};
+ghost use Rattle.rb_packages.specs.Usage.{apps_of};
 ghost use Rattle.rb_engine.specs.Source.{payload_of};
 ghost use Rattle.rb_engine.specs.declared.request.Payload.{Payload};
 ghost use Rattle.rb_requests.specs.Asked.{decoded};
 ghost use Rattle.rb_requests.specs.ExtendedAsked.{PutsAt, ReleaseChange, RemovesAt};
 ghost use Rattle.rb_requests.specs.Limits.{is_over as over};
-ghost use Rattle.rb_requests.specs.Refused.{only};
-ghost use Rattle.rb_requests.specs.Released.{IsReleased, IsSumRefused, IsUnreleased, IsUntaken};
+ghost use Rattle.rb_requests.specs.Released.{IsPutRefused, IsReleased, IsSumRefused, IsUnreleased};
+ghost use Rattle.rb_requests.specs.Released.{sum_refusal};
 ghost use Rattle.rb_requests.specs.declared.limits.Limits.{Limits};
 ghost use Rattle.rb_requests.specs.inner.ChangesRead.{change_seen, changes_seen};
-ghost use Rattle.rb_requests.specs.inner.Drafted.{Drafts, DraftsAll, DraftsAt};
+ghost use Rattle.rb_requests.specs.inner.Drafted.{Adds, Drafts, DraftsAll, DraftsAt, refusal_by};
 ghost use Rattle.rb_requests.specs.inner.Judged.{IfRefused};
 
 use crate::ask::decode;
@@ -43,10 +46,10 @@ fn file_source(alloc: Global, digits: &str) -> Result<BundleSource<'static>, Unm
 fn add_brought(limits: &Limits, brought: Brought, draft: &mut Draft) -> Result<(), Unmade>
     ensures app { draft.new.app ≡ draft.old.app }
     ensures added { OnOk result ((over limits.now.bundle_bytes (length brought.1) ≡ false)
-        × (draft.new.edits ≡ draft.old.edits ++ (brought.0.name, Some brought.1) ∷ [])) }
-    ensures refused { IfErr result (λ unmade. IfRefused unmade (λ r. IsUntaken r
-        ⊎ ((over limits.now.bundle_bytes (length brought.1) ≡ true)
-        × (r ≡ only (codes "BundleTooLong"))))) }
+        × (put_fault brought.0.name draft.old ≡ None)
+        × Adds draft.old (brought.0.name, Some brought.1) draft.new) }
+    ensures refused { IfErr result (λ unmade. IfRefused unmade
+        (IsPutRefused limits.now draft.old brought.0 brought.1)) }
 {
     let is_long = is_over(limits.bundle_bytes, brought.len());
     match brought.add_to(draft) {
@@ -67,7 +70,7 @@ fn draft_put(
 ) -> Result<(), Unmade>
     ensures app { draft.new.app ≡ draft.old.app }
     ensures edits { Drafts limits.now app.now (PutsAt locale.now (payload_of source.entry))
-        draft.old.edits result draft.new.edits }
+        draft.old result draft.new }
 {
     match judge(alloc, limits, app, locale, source) {
         Ok(brought) => add_brought(limits, brought, draft),
@@ -79,14 +82,14 @@ fn draft_put(
 fn draft_removal(locale: &[u8], draft: &mut Draft) -> Result<(), Unmade>
     ensures app { draft.new.app ≡ draft.old.app }
     ensures edits { (limits : Limits) (app : List ℕ)
-        → Drafts limits app (RemovesAt locale.now) draft.old.edits result draft.new.edits }
+        → Drafts limits app (RemovesAt locale.now) draft.old result draft.new }
 {
     let Ok(name) = Name::read(locale) else {
         return Err(Unmade::plain(Reply::BadLocale.word()));
     };
     match draft.remove(name) {
         Ok(()) => Ok(()),
-        Err(fault) => Err(undrafted(fault)),
+        Err(untaken) => Err(undrafted(untaken)),
     }
 }
 
@@ -100,7 +103,7 @@ fn draft_change(
 ) -> Result<(), Unmade>
     ensures app { draft.new.app ≡ draft.old.app }
     ensures edits { (c : ReleaseChange) → change_seen change.now ≡ Some c
-        → Drafts limits.now app.now c draft.old.edits result draft.new.edits }
+        → Drafts limits.now app.now c draft.old result draft.new }
 {
     let locale = change.locale.as_bytes();
     match change.payload {
@@ -129,7 +132,7 @@ fn draft_at(
     ensures app { draft.new.app ≡ draft.old.app }
     ensures few { OnOk result (index < bundle_limit) }
     ensures edits { (c : ReleaseChange) → change_seen change.now ≡ Some c
-        → DraftsAt limits.now app.now index c draft.old.edits result draft.new.edits }
+        → DraftsAt limits.now app.now index c draft.old result draft.new }
 {
     if index >= BUNDLE_LIMIT {
         return Err(Unmade::plain(Reply::Full.word()).at(index));
@@ -149,8 +152,9 @@ fn draft_all(
     draft: &mut Draft,
 ) -> Result<(), Unmade>
     ensures app { draft.new.app ≡ draft.old.app }
-    ensures edits { (cs : List ReleaseChange) → changes_seen changes.now ≡ Some cs
-        → draft.old.edits ≡ [] → DraftsAll limits.now app.now cs result draft.new.edits }
+    ensures edits { (files : Files) (cs : List ReleaseChange) → changes_seen changes.now ≡ Some cs
+        → draft.old.edits ≡ [] → IsDraftOf files draft.old
+        → DraftsAll limits.now app.now files cs result draft.new }
 {
     for i in 0..changes.len() {
         match draft_at(alloc, limits, app, i, &changes[i], draft) {
@@ -161,20 +165,37 @@ fn draft_all(
     Ok(())
 }
 
-/// Judges the sum of all changes.
-fn judge_sum(engine: &Engine, limits: &Limits, draft: &Draft) -> Result<(), Unmade>
-    ensures { IfErr result (λ unmade. IfRefused unmade
-        (IsSumRefused limits.now engine.now draft.now.app)) }
+/// Returns the limit that refuses the sum of all changes, if any.
+fn refused_sum(engine: &Engine, limits: &Limits, draft: &Draft) -> Option<Refusal>
+    ensures { result ≡ refusal_by limits.now (min (sum_by (λ e. e.1) draft.now.sizes) (2 ^ 64 - 1))
+        (length draft.now.sizes) (length (files_of draft.now.app engine.now.packages))
+        (apps_of engine.now.packages) }
 {
     let then = draft.usage();
     if is_over(limits.app_bytes, then.bytes) {
-        return Err(Unmade::plain(Refusal::OverQuota.word()));
+        return Some(Refusal::OverQuota);
     }
     let is_new = then.bundles > 0 && engine.usage(draft.app()).bundles == 0;
     if is_new && is_sum_over(limits.apps, engine.apps(), 1) {
-        return Err(Unmade::plain(Refusal::TooManyApps.word()));
+        return Some(Refusal::TooManyApps);
     }
-    Ok(())
+    None
+}
+
+/// Judges the sum of all changes.
+fn judge_sum(engine: &Engine, limits: &Limits, draft: &Draft) -> Result<(), Unmade>
+    ensures free { IsDraftOf (files_of draft.now.app engine.now.packages) draft.now
+        → OnOk result (sum_refusal limits.now (files_of draft.now.app engine.now.packages)
+        (edited draft.now.edits (files_of draft.now.app engine.now.packages))
+        (apps_of engine.now.packages) ≡ None) }
+    ensures refused { IsDraftOf (files_of draft.now.app engine.now.packages) draft.now
+        → IfErr result (λ unmade. IfRefused unmade
+        (IsSumRefused limits.now engine.now draft.now.app draft.now.edits)) }
+{
+    match refused_sum(engine, limits, draft) {
+        Some(refusal) => Err(Unmade::plain(refusal.word())),
+        None => Ok(()),
+    }
 }
 
 /// Makes the changes of a release, or none if one is refused: each is judged as it comes, after
