@@ -22,4 +22,5 @@ pub mod LimitedLines
 pub mod ReplyLimits
 pub mod Changing
 pub mod Releasing
+pub mod Trees
 pub mod Extending

@@ -1,7 +1,20 @@
 //! Answers with an item and everything that it inherits.
-ghost use Rattle.std.specs.Prelude.{◌≡◌, [], IfErr, IfOk};
+ghost use Rattle.std.specs.Prelude.{◌≡◌, [], IfErr, IfOk, IfSome, Ok};
+ghost use Rattle.rb_tree.specs.Path.{IsPath, segments};
+ghost use Rattle.rb_parents.specs.Family.{parent_in, parent_of};
+ghost use Rattle.rb_fallback.specs.Answers.{hit_of};
+ghost use Rattle.rb_fallback.specs.Search.{Hit, look_up};
+ghost use Rattle.rb_views.specs.Seen.{tree_seen};
+ghost use Rattle.rb_inherit.specs.Lookups.{IsTreeOf};
+ghost use Rattle.rb_packages.specs.Lent.{bundles_lent};
+ghost use Rattle.rb_packages.specs.Packages.{icudata_of, list_of};
+ghost use Rattle.rb_packages.specs.Shelf.{bundle_at};
+ghost use Rattle.rb_engine.specs.Place.{place_of};
+ghost use Rattle.rb_engine.specs.declared.place.Place.{Place};
 ghost use Rattle.rb_replies.specs.Extended.{tree_line};
-ghost use Rattle.rb_requests.specs.TreeReply.{FoundReply, TreeReply};
+ghost use Rattle.rb_requests.specs.TreeReply.{FoundReply, IsTreeError, TreeReply};
+ghost use Rattle.rb_requests.specs.declared.limits.Limits.{Limits};
+ghost use Rattle.rb_requests.specs.inner.TreePlaced.{TreePlaced};
 ghost use Rattle.rb_requests.specs.inner.Placing.{PlacesReply};
 ghost use Rattle.rb_requests.specs.inner.Putting.{Puts, writer};
 ghost use Rattle.rb_requests.specs.inner.Streaming.{Takes};
@@ -23,21 +36,43 @@ use rb_views::Item;
 use std::alloc::{AllocError, Global};
 
 /// Returns the number of bytes that a tree may have, and the error code if it has more.
-fn tree_room(limits: &Limits) -> (u64, &'static str) {
+fn tree_room(limits: &Limits) -> (u64, &'static str)
+    ensures { IsTreeError limits.now result.1.now }
+{
     match limits.reply_bytes {
         Some(most) if most <= TREE_LIMIT => (most, LineError::ReplyTooLong.word()),
-        _ => (TREE_LIMIT, TreeError::TreeTooLarge.word()),
+        _ => (TREE_LIMIT, "TreeTooLarge"),
     }
 }
 
-/// Makes the text of a tree in memory, or returns the error code if there is none.
+/// Returns the error code if a tree takes too many steps; `None` is out of memory.
+fn tree_error(error: TreeError) -> Option<&'static str>
+    ensures { IfSome result (λ word. (limits : Limits) → IsTreeError limits word.now) }
+{
+    match error {
+        TreeError::TooManySteps => Some("TooManySteps"),
+        TreeError::TreeTooLarge => Some("TreeTooLarge"),
+        // A lookup found the item, so that of the tree does.
+        TreeError::Look(_) | TreeError::Memory => None,
+    }
+}
+
+/// Makes the text of the tree of an item that a lookup finds, or returns the error code if there is
+/// none.
 fn tree_text(
     alloc: Global,
     shelves: AppShelves<'_>,
     limits: &Limits,
     name: &Name,
     path: &[u8],
-) -> Result<Result<Vec<u8>, &'static str>, AllocError> {
+) -> Result<Result<Vec<u8>, &'static str>, AllocError>
+    ensures tree { IfOk result (λ made. IfOk made (λ tree. (hit : Hit) → IsPath path.now
+        → look_up (bundles_lent shelves.entry.own) (bundles_lent shelves.entry.icudata)
+        (parent_of shelves.entry.parents.now) name.now (segments path.now) ≡ Ok hit
+        → IsTreeOf (bundles_lent shelves.entry.own) (parent_of shelves.entry.parents.now) name.now
+        path.now (λ written. tree.items ≡ written) hit)) }
+    ensures error { IfOk result (λ made. IfErr made (λ word. IsTreeError limits.now word.now)) }
+{
     let (room, too_long) = tree_room(limits);
     let steps = TreeLimits {
         steps: limits.steps,
@@ -51,8 +86,12 @@ fn tree_text(
     let mut out = BoundedBuffer::new(alloc, room)?;
     match put_tree(&mut out, alloc, own, icudata, parents, name, path, steps) {
         Ok(()) => {}
-        Err(TreeError::Memory) => return Err(AllocError),
-        Err(error) => return Ok(Err(error.word())),
+        Err(error) => {
+            return match tree_error(error) {
+                Some(word) => Ok(Err(word)),
+                None => Err(AllocError),
+            };
+        }
     }
     match out.into_bytes() {
         Ok(tree) => Ok(Ok(tree)),
@@ -115,7 +154,7 @@ fn place_tree<S: Sink>(
     ensures { PlacesReply result reply.new
         (writer (S.written sink.old) (S.faults sink.old) (S.settled sink.old))
         (writer (S.written sink.new) (S.faults sink.new) (S.settled sink.new))
-        (FoundReply limits.now found.now.actual found.now.valid) }
+        (TreePlaced limits.now found.now.actual found.now.valid tree.now) }
 {
     if tree_is_above(&found.actual, &found.valid, tree, limits.reply_bytes) {
         tell_line_error(alloc, LineError::ReplyTooLong, reply)?;
@@ -138,7 +177,13 @@ fn answer_found<S: Sink>(
     ensures { PlacesReply result reply.new
         (writer (S.written sink.old) (S.faults sink.old) (S.settled sink.old))
         (writer (S.written sink.new) (S.faults sink.new) (S.settled sink.new))
-        (FoundReply limits.now found.now.actual found.now.valid) }
+        (λ text. IsPath path.now
+        → look_up (bundles_lent shelves.entry.own) (bundles_lent shelves.entry.icudata)
+        (parent_of shelves.entry.parents.now) name.now (segments path.now)
+        ≡ Ok (hit_of tree_seen found.now)
+        → FoundReply limits.now (bundles_lent shelves.entry.own)
+        (parent_of shelves.entry.parents.now) name.now path.now (hit_of tree_seen found.now)
+        found.now.valid text) }
 {
     match tree_text(alloc, shelves, limits, name, path)? {
         Ok(tree) => place_tree(alloc, limits, found, &tree, reply, sink),
@@ -164,7 +209,13 @@ fn answer_named<S: Sink>(
     ensures { PlacesReply result reply.new
         (writer (S.written sink.old) (S.faults sink.old) (S.settled sink.old))
         (writer (S.written sink.new) (S.faults sink.new) (S.settled sink.new))
-        (FoundReply limits.now found.now.actual found.now.valid) }
+        (λ text. (p : Place) → place_of app.now locale.now ≡ Ok p → IsPath path.now
+        → look_up (bundle_at (list_of p.app engine.now.packages))
+        (bundle_at (icudata_of engine.now.packages)) (parent_in engine.now.parents) p.name
+        (segments path.now) ≡ Ok (hit_of tree_seen found.now)
+        → FoundReply limits.now (bundle_at (list_of p.app engine.now.packages))
+        (parent_in engine.now.parents) p.name path.now (hit_of tree_seen found.now)
+        found.now.valid text) }
 {
     let word = match App::read(app) {
         Ok(app) => match Name::read(locale) {
