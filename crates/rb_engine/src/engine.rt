@@ -274,6 +274,10 @@ impl Engine {
         ensures files { OnOk result (files_of draft.app self.new.packages
             ≡ edited draft.edits (files_of draft.app self.old.packages)) }
         ensures others { OthersStay draft.app self.old.packages self.new.packages }
+        // The other applications with bundles stay as many.
+        ensures apps { OnOk result
+            (apps_of self.new.packages + more_apps (files_of draft.app self.new.packages)
+            ≡ apps_of self.old.packages + more_apps (files_of draft.app self.old.packages)) }
         ensures parents { self.new.parents ≡ self.old.parents }
         ensures version { OnOk result (self.new.version ≡ next_version self.old.version) }
         ensures unchanged { OnErr result (self.new ≡ self.old) }

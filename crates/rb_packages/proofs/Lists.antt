@@ -186,6 +186,12 @@ module _ {S : Type 0} {stored : Stored} {icudata : Files} (rows : Rows S) (e : r
         → apps_of changed ≡ apps_of stored + more_apps (files_of app stored)
     apps_added filled h = rw (length-map new _, apps_seen, files_seen app, more_apps_by (lookup (bytes_eq app) rows) filled) h
 
+    pub apps_changed : ¬ IsBare (lookup (bytes_eq app) rows)
+        → length new + more_apps (files_at app new) ≡ length rows + cond (is_some (lookup (bytes_eq app) rows)) 0 1
+        → apps_of changed + more_apps (files_of app changed) ≡ apps_of stored + more_apps (files_of app stored)
+    apps_changed filled h =
+        rw (length-map new _, apps_seen, lookup-files_by_app app new, files_seen app, more_apps_by (lookup (bytes_eq app) rows) filled) h
+
     pub files_changed : (change : Files → Files) → files_at app new ≡ change (files_at app rows) → files_of app changed ≡ change (files_of app stored)
     files_changed change h = lookup-files_by_app app new ∙ h ∙ ap change (sym (files_seen app))
 

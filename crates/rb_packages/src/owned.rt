@@ -206,6 +206,9 @@ fn release_first(owned: &mut Owned, app: &App, edits: Vec<Edit>) -> Result<(), A
     ensures own { OnOk result (files_at app.now owned.new.entries ≡ edited edits.items []) }
     ensures others { KeepsOthers app.now owned.old.entries owned.new.entries }
     ensures filled { OnOk result (¬ IsBare (lookup (bytes_eq app.now) owned.new.entries)) }
+    ensures count { OnOk result
+        (length owned.new.entries + more_apps (files_at app.now owned.new.entries)
+        ≡ length owned.old.entries + 1) }
     ensures stays { OnErr result
         (files_by_app owned.new.entries ≡ files_by_app owned.old.entries) }
 {
@@ -225,6 +228,10 @@ pub(crate) fn release(owned: &mut Owned, app: &App, edits: Vec<Edit>) -> Result<
         ≡ edited edits.items (files_at app.now owned.old.entries)) }
     ensures others { KeepsOthers app.now owned.old.entries owned.new.entries }
     ensures filled { OnOk result (¬ IsBare (lookup (bytes_eq app.now) owned.new.entries)) }
+    ensures count { OnOk result
+        (length owned.new.entries + more_apps (files_at app.now owned.new.entries)
+        ≡ length owned.old.entries
+        + (if is_some (lookup (bytes_eq app.now) owned.old.entries) then 0 else 1)) }
     ensures stays { OnErr result
         (files_by_app owned.new.entries ≡ files_by_app owned.old.entries) }
 {

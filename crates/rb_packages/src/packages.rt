@@ -220,6 +220,9 @@ impl Packages {
         ensures files { OnOk result
             (files_of draft.app self.new ≡ edited draft.edits (files_of draft.app self.old)) }
         ensures others { OthersStay draft.app self.old self.new }
+        // The other applications with bundles stay as many.
+        ensures apps { OnOk result (apps_of self.new + more_apps (files_of draft.app self.new)
+            ≡ apps_of self.old + more_apps (files_of draft.app self.old)) }
         ensures unchanged { OnErr result (self.new ≡ self.old) }
     {
         let app = *draft.app();
