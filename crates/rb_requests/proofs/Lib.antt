@@ -19,6 +19,7 @@ pub mod Unlimited
 pub mod Serving
 pub mod LineIsolation
 pub mod LimitedLines
+pub mod ExtendedIsolation
 pub mod ReplyLimits
 pub mod Changing
 pub mod Releasing

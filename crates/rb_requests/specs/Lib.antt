@@ -17,4 +17,5 @@ pub mod History
 pub mod Device
 pub mod Runs
 pub mod Isolation
+pub mod ExtendedIsolation
 pub mod inner

@@ -1,5 +1,6 @@
 ghost use Rattle.rb_engine.specs.History.{AsksOne, AnswersOwn, IsIsolated};
 ghost use Rattle.rb_requests.specs.History.{IsIsolatedWithin, IsWithinQuota};
+ghost use Rattle.rb_requests.specs.ExtendedIsolation.{AreExtendedIsolated, LeavesAlone, RepliesAlike};
 ghost use Rattle.rb_requests.specs.Isolation.{AreLinesIsolated, AreLinesIsolatedWithin};
 
 /// Proves that under limits too applications are isolated, and none exceeds its limit on bytes.
@@ -29,3 +30,14 @@ pub fn isolated()
 {
     rb_engine::laws::isolated();
 }
+
+/// Proves that applications are isolated with extended requests too: an application's lines can be
+/// answered only from its own bundles, those of ICUDATA and the explicit parents.
+pub fn extended_isolated()
+    // States that are the same to an application allow the same replies to its line.
+    ensures alike { RepliesAlike }
+    // A line of another application leaves it its files.
+    ensures alone { LeavesAlone }
+    // The replies to an application's lines are replies that it could get if there were no others.
+    ensures lines { AreExtendedIsolated }
+{}
