@@ -1,7 +1,7 @@
 -- Defines how a tree with inheritance agrees with lookups, ICU's `ures_getByKeyWithFallback` along the trail of UTS #35
--- (LDML): each value in it is what a lookup of its path finds, and it has each leaf that a lookup finds, unless an
--- earlier stop hides it. The first is of paths on which no stop has an alias, except one at the end whose text can't be
--- read; the second is of paths without any.
+-- (LDML): each value in it is what a lookup of its path finds, and it has each leaf that a lookup finds, unless a stop
+-- hides it. The first is of paths on which no stop has an alias, except one at the end whose text can't be read; the
+-- second is of paths on which no stop has any.
 use Rattle.std.specs.Prelude.{◌≡◌, ◌<◌, ℕ, List, [], ◌∷◌, ◌++◌, length, Option, Some, None, option_and_then, Result}
 use Rattle.std.specs.Prelude.{Ok, Err}
 use Rattle.std.specs.Cmp.Lexicographic.{slice_cmp}

@@ -43,7 +43,7 @@ text_reason e = record { error = codes "BadText"; code = Some (kind_word e.kind)
 abbrev pub file_reason : FileFault → Reason
 file_reason e = record { error = codes "BadFile"; code = Some (word_of e); index = None; line = None }
 
--- the first error of a text, as `compile` reports it, with its line; or of a file, as `accept` reports it
+-- an error of a text, as `compile` reports one, with its line; or the first one of a file, as `accept` reports it
 abbrev pub IsFirstError : Payload → Reason → Type 0
 IsFirstError payload r =
     ((e : SourceFault) × IsFirstFault payload (BadText e) × (e.kind ≢ Memory) × (r ≡ text_reason e))

@@ -93,7 +93,8 @@ fn serve_line<S: Sink>(
 
 /// Answers the lines of an input, each with one line, like `serve_limited`, and the extended
 /// requests too: `put`, `release`, `export`, `tree`, `list` with `sizes`, and `usage` whether or not
-/// there are limits. The refusal of a text or a file has the code of its first error, and the line.
+/// there are limits. The refusal of a text has the code and the line of an error, as `compile`
+/// reports one, and the refusal of a file the code of its first error.
 ///
 /// ```rust
 /// serve_extended(alloc, &mut engine, &Limits::NONE, &mut feed, &mut sink, 10) // Ok(Served { lines: 1 })

@@ -31,8 +31,9 @@ pub fn isolated()
     rb_engine::laws::isolated();
 }
 
-/// Proves that applications are isolated with extended requests too: an application's lines can be
-/// answered only from its own bundles, those of ICUDATA and the explicit parents.
+/// Proves that applications are isolated with extended requests too: which replies the definitions
+/// allow to an application's lines depends only on its own bundles, those of ICUDATA and the
+/// explicit parents. Bytes that they leave open, such as the layout of a text, aren't covered.
 pub fn extended_isolated()
     // States that are the same to an application allow the same replies to its line.
     ensures alike { RepliesAlike }
