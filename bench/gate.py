@@ -1,9 +1,10 @@
 #!/usr/bin/env python3
 """Sums the processor time of the gate by its parts: proofs, tests, mutants, programs.
 
-usage: gate.py [--anew] [--top N] [-- COMMAND ..]
+usage: gate.py [--anew] [--top N] [--in FOLDER] [-- COMMAND ..]
   --anew   proves from nothing what an earlier run on this machine kept
   --top N  prints the N most expensive crates of each part (8)
+  --in     runs in another checkout in place of this one
   COMMAND  what is measured in place of `rt ci` and of the mutants in crates/*/gate/
 
 Looks at the running processes twice a second, so a process that lives for less is in the total and in no part. Nothing else should run
@@ -70,17 +71,20 @@ def look(root, seen):
             continue
         try:
             with open(f"/proc/{number}/cmdline", "rb") as file:
-                words = file.read().decode(errors="replace").split("\0")
-            part = part_of(words, os.readlink(f"/proc/{number}/cwd"))
+                line = file.read()
+            part, crate = part_of(line.decode(errors="replace").split("\0"), os.readlink(f"/proc/{number}/cwd"))
         except OSError:
             continue
-        seen[number] = Seen(*part, seconds)
+        if not line and number in seen:
+            # A process that gives its memory back at its end has no command line any more.
+            part, crate = seen[number].part, seen[number].crate
+        seen[number] = Seen(part, crate, seconds)
 
 
-def measured(command):
-    """Runs a command; returns its status, its seconds on the clock, its processor seconds, and its processes."""
+def measured(command, folder):
+    """Runs a command in a folder; returns its status, its seconds on the clock, its processor seconds, and its processes."""
     before, began, seen = resource.getrusage(resource.RUSAGE_CHILDREN), time.time(), {}
-    process = subprocess.Popen(command, cwd=TOP)
+    process = subprocess.Popen(command, cwd=folder)
     ended = threading.Event()
 
     def watch():
@@ -121,10 +125,11 @@ def main():
     said = argparse.ArgumentParser(description=__doc__, formatter_class=argparse.RawDescriptionHelpFormatter)
     said.add_argument("--anew", action="store_true")
     said.add_argument("--top", type=int, default=8)
+    said.add_argument("--in", dest="folder", default=TOP)
     said.add_argument("command", nargs="*")
     given = said.parse_args()
     load = os.getloadavg()[0]
-    status, seconds, used, seen = measured(given.command or default(given.anew))
+    status, seconds, used, seen = measured(given.command or default(given.anew), given.folder)
     print(*table(used, seen, given.top), sep="\n")
     print(f"\n{os.cpu_count()} processors, load {load:.1f} at the start; {seconds / 60:.1f} minutes on the clock.")
     return status
