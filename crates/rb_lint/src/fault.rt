@@ -1,4 +1,4 @@
-//! Where a text that isn't compiled has its error, and what it is about.
+//! Finds the error of a text that isn't compiled, and describes it.
 use crate::path::shown_source;
 use crate::piece::Piece;
 use crate::position::line_of;
@@ -9,7 +9,7 @@ use rb_parser::parse;
 use std::alloc::{AllocError, Global};
 use std::fmt;
 
-/// What an error is about.
+/// The part of a text that an error is about.
 #[derive(Debug, Drop)]
 pub enum About {
     /// Nothing is known of it but its kind.
@@ -190,8 +190,8 @@ fn with_breaks(alloc: Global, text: &[u8], places: &[usize]) -> Result<Vec<u8>, 
     Ok(broken)
 }
 
-/// Returns which of some places of its line has a fault: the text is parsed again with each of them in a
-/// line of its own, so that the fault's line tells it.
+/// Returns which of some offsets in one line has a fault. The text is parsed again with a line
+/// break before each of them, so that the fault's line identifies the offset.
 fn place_of(
     alloc: Global,
     text: &[u8],

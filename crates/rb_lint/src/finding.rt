@@ -5,15 +5,15 @@ use crate::rule::Rule;
 use crate::warning::Doubt;
 use std::fmt;
 
-/// What a finding says.
+/// The subject of a finding.
 #[derive(Debug, Drop)]
 pub enum Message {
     /// Why the text isn't compiled.
     Fault(FaultText),
     Doubt(Doubt),
-    /// What a message has.
+    /// A mistake in a message pattern.
     Pattern(PatternDoubt),
-    /// How an item differs from the root's.
+    /// A difference between an item and the root's.
     Difference(Difference),
 }
 

@@ -4,7 +4,7 @@ use crate::piece::{Piece, PieceKind};
 use crate::warning::Doubt;
 use std::alloc::{AllocError, Global};
 
-/// What a body is, by its type or by its first entry or item.
+/// The kind of a body, by its type or by its first entry or item.
 #[derive(Clone, Copy, Debug, PartialEq, Eq)]
 enum Body {
     Unknown,

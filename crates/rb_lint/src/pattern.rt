@@ -2,7 +2,7 @@ use crate::rule::Rule;
 use rb_messages::{Category, MessageFault};
 use std::fmt;
 
-/// What a message of ICU's MessageFormat may have that fails when it is formatted, or is seldom meant.
+/// A mistake in a message of ICU's MessageFormat: formatting it fails, or it is seldom meant.
 #[derive(Debug, Drop)]
 pub enum PatternDoubt {
     /// It can't be parsed.

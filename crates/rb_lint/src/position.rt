@@ -35,7 +35,7 @@ impl Position {
         }
     }
 
-    /// Goes on to a later byte.
+    /// Moves to a later byte.
     pub(crate) fn advance(&mut self, text: &[u8], to: usize) {
         for byte in text.get(self.at..to).unwrap_or(&[]) {
             if *byte == b'\n' {

@@ -1,4 +1,4 @@
-//! Where a repeated key is defined first.
+//! Finds the first definition of a repeated key.
 use rb_lexer::{Mark, SourceKind, Token, Tokens};
 use std::alloc::{AllocError, Global};
 

@@ -20,7 +20,7 @@ use std::alloc::{AllocError, Global};
 /// The maximum number of warnings of one text, unless all are asked for.
 pub const WARNING_LIMIT: usize = 100;
 
-/// How to lint a text.
+/// The settings of one lint run.
 #[derive(Clone, Copy)]
 pub struct Settings<'a> {
     /// The name that the bundle should have, if it is known.

@@ -170,7 +170,7 @@ impl RuleSet {
     }
 }
 
-/// What to do with the warnings of each rule.
+/// The rules whose warnings are omitted, and those whose warnings are errors.
 #[derive(Clone, Copy, Debug, PartialEq, Eq)]
 pub struct Levels {
     /// The rules whose warnings are left out.

@@ -42,7 +42,7 @@ fn is_wide_white(window: &[u8]) -> bool {
     window.starts_with(b"\xE2\x80\xA9") || window.starts_with(b"\xEF\xBB\xBF")
 }
 
-/// What begins at a byte besides pieces.
+/// An event at a byte that is no piece.
 #[derive(Clone, Copy, Debug, PartialEq, Eq)]
 enum Event {
     Escape,
@@ -90,7 +90,7 @@ impl Scan {
         Ok(())
     }
 
-    /// Passes what began at a byte besides pieces to a visitor.
+    /// Passes the event at a byte to a visitor.
     fn pass_event<V: Visit>(&mut self, input: Input, visitor: &mut V) -> Result<(), AllocError> {
         match self.event.take() {
             Some(Event::Escape) => visitor.escape(input.at, input.window),
@@ -301,7 +301,7 @@ pub(crate) trait Visit {
     }
 }
 
-/// What isn't closed at the end of a text, and where it begins.
+/// A quote or comment that isn't closed at the end of a text, with the offset at which it begins.
 #[derive(Clone, Copy, Debug, PartialEq, Eq)]
 pub(crate) enum Open {
     Nothing,

@@ -1,7 +1,7 @@
 use crate::rule::Rule;
 use std::fmt;
 
-/// What a text may have that is valid and probably not meant.
+/// A part of a text that is valid and probably not meant.
 #[derive(Clone, Copy, Debug, PartialEq, Eq)]
 pub enum Doubt {
     /// A quoted piece spans lines.

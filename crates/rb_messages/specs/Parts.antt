@@ -41,7 +41,7 @@ IsOrdered (Stray at) = Unit {0}
 abbrev pub IsBetween : ℕ → ℕ → Part → Type 0
 IsBetween low high p = (low ≤ first_of p) × (past_of p ≤ high) × IsOrdered p
 
--- An argument is between its brace and the offset where reading goes on.
+-- An argument is between its brace and the offset at which reading continues.
 abbrev pub IsArgument : ℕ → ℕ → Arg → Type 0
 IsArgument brace past a = (brace < past) × IsBetween brace past (Argument a)
 

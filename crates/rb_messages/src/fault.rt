@@ -16,7 +16,7 @@ pub enum MessageFault {
     NoMessages,
     /// An apostrophe in a style isn't closed.
     OpenQuote,
-    /// What is written where a selector belongs is none.
+    /// Something that is no selector is in the place of one.
     Selector,
     /// A selector or a separator isn't followed by a message.
     NoMessage,

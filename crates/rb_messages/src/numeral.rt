@@ -30,7 +30,7 @@ pub(crate) fn is_argument_number(digits: &[u16]) -> bool {
     }
 }
 
-/// What the units of a number have so far.
+/// The state of reading a number's units.
 #[derive(Clone, Copy)]
 enum Numeral {
     Nothing,

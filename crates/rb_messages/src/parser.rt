@@ -11,7 +11,7 @@ use crate::part::{ArgumentType, Part, Span};
 use crate::skip::{find_quote_end, skip_name, skip_numerals, skip_white};
 use std::alloc::Global;
 
-/// What the next unit belongs to.
+/// The construct that the next unit belongs to.
 #[derive(Clone, Copy)]
 enum Place {
     Message,

@@ -15,7 +15,7 @@ use crate::limit::Room;
 use rb_json::{Outlet, put_name, skips_items, spell_bytes, spell_text, spell_unsigned};
 use rb_locales::Name;
 
-/// What a refusal says apart from its code.
+/// The members of a refusal's reply, except its code.
 #[derive(Clone, Copy, Debug, PartialEq, Eq)]
 pub struct Detail {
     /// The code of the first error of a text or a file.

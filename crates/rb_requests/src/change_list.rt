@@ -23,7 +23,7 @@ use json::{Invalid, Reader, Token};
 use rb_engine::BUNDLE_LIMIT;
 use std::alloc::{AllocError, Global};
 
-/// What a change of a release brings.
+/// The payload of one change of a release.
 #[derive(Clone, Copy, Debug, PartialEq, Eq)]
 pub(crate) enum ChangePayload<'a> {
     Text(&'a str),

@@ -2,7 +2,7 @@
 use rb_console::Console;
 use rb_lint::{Levels, Rule, RuleSet};
 
-/// What a command line gives for `resb lint`.
+/// The arguments of `resb lint`.
 #[derive(Clone, Copy, Debug)]
 pub struct LintWords<'a> {
     /// The root's text, to compare with.

@@ -9,7 +9,7 @@ use std::io;
 use std::process::ExitCode;
 use std::rt::Files;
 
-/// What is the same for all texts of a command.
+/// The settings that all texts of a command share.
 #[derive(Clone, Copy)]
 struct Common<'a> {
     console: Console,

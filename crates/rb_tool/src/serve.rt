@@ -76,7 +76,7 @@ fn serve_lines<R: Input + Print + Eprint + AllocGlobal>(
 /// The number of locales that a server keeps open, in 0.9 MB.
 const KEPT_LOCALES: usize = 2_048;
 
-/// What `resb serve` serves.
+/// The arguments of `resb serve`.
 #[derive(Drop)]
 pub struct Serving<'a> {
     /// The place of explicit parents, if they are given.
@@ -84,7 +84,7 @@ pub struct Serving<'a> {
     /// The bundles of ICUDATA, each `LOCALE=FILE`.
     pub bundles: Vec<&'a str>,
     pub limits: Option<Limits>,
-    /// Whether extended requests are answered too.
+    /// True if extended requests are answered, too.
     pub is_extended: bool,
 }
 

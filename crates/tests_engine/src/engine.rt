@@ -21,7 +21,7 @@ enum Step<'a> {
     /// Lookups of a path, and what they find: by name, from an open locale, and from one that the
     /// engine keeps open.
     Find(Place<'a>, &'a str, Hit<'a>),
-    /// The same lookups of a path, and the word of their error.
+    /// Lookups of a path in these three ways, and their error code.
     Miss(Place<'a>, &'a str, &'a str),
 }
 
