@@ -7,6 +7,8 @@ Needs gcc, genrb, libicu's headers and, for the second part, PyICU. Times are pr
 """
 import argparse
 import os
+import re
+import statistics
 import subprocess
 import sys
 import tempfile
@@ -15,6 +17,7 @@ import time
 import icu as data_of_icu
 from turns import TOP
 
+TURN = re.compile(r"resb (\d+) ns, open (\d+) ns, icu (\d+) ns")
 LOCALE, KEYS = "de_AT", ("calendar", "gregorian", "monthNames", "format", "wide")
 PATH = "/".join(KEYS)
 
@@ -24,6 +27,23 @@ def timed(call, rounds=20000):
     for _ in range(rounds):
         call()
     return (time.process_time() - began) / rounds * 1e6
+
+
+def spread(name, numbers, form):
+    """A line with the median of some numbers, and the least and the greatest."""
+    median, *ends = (format(it, form) for it in (statistics.median(numbers), min(numbers), max(numbers)))
+    return f"{name}: {median} ({ends[0]} to {ends[1]})"
+
+
+def in_c(program, folder, turns):
+    """Prints the times of a lookup in C by name, from an open locale and by libicu; then the medians, and the speeds beside libicu's."""
+    said = subprocess.run([program, folder, str(turns)], stdout=subprocess.PIPE, text=True, check=True).stdout
+    print(said, end="")
+    each = [tuple(map(int, times)) for times in TURN.findall(said)]
+    for name, times in zip(("by name, ns", "open, ns", "libicu, ns"), zip(*each)):
+        print(spread(name, times, ".0f"))
+    print(spread("by name, times libicu's speed", [icu / named for named, _, icu in each], ".2f"))
+    print(spread("open, times libicu's speed", [icu / kept for _, kept, icu in each], ".2f"))
 
 
 def python(library, folder, turns):
@@ -80,7 +100,7 @@ def main():
                             "-licuuc", "-o", program], check=True)
         except data_of_icu.Skipped as missing:
             sys.exit(f"skipped: {missing} is not there")
-        subprocess.run([program, files, str(given.turns)], check=True)
+        in_c(program, files, given.turns)
         python(library, files, given.turns)
 
 
