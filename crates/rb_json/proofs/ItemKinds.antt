@@ -1,8 +1,8 @@
 -- Items by their kinds.
 use Rattle.std.proofs.Common.{◌≡◌, codes, refl}
 use Rattle.std.specs.Map.{keys_of}
-use Rattle.rb_tree.specs.Resource.{Resource, ints, binary, array, table}
-use Rattle.rb_tree.specs.Parts.{bytes_of, kind_of, len_of, numbers_of, pairs_of}
+use Rattle.rb_tree.specs.Resource.{Resource, string, ints, binary, array, table}
+use Rattle.rb_tree.specs.Parts.{bytes_of, kind_of, len_of, numbers_of, pairs_of, units_of}
 use Rattle.hex.specs.Hex.{encode_lower}
 use Rattle.serde_json.specs.Data.{number, put, string as string_data, unsigned}
 use Rattle.rb_json.specs.Item.{item_members, numbers_data, of_type, texts_data}
@@ -27,3 +27,7 @@ pub array_members : (t : Resource) → kind_of t ≡ Kinds.Array
     → item_members t ≡ put (codes "len") (number (unsigned (len_of t))) (of_type (codes "array"))
 array_members (array ts) h = refl
 array_members _ h = absurd cc
+
+pub is_string : (t : Resource) → kind_of t ≡ Kinds.String → t ≡ string (units_of t)
+is_string (string us) h = refl
+is_string _ h = absurd cc

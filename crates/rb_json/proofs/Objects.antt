@@ -1,7 +1,7 @@
 -- The texts of objects, member by member.
 use Rattle.std.proofs.Common.{◌≡◌, ℕ, List, [], ◌∷◌, ◌++◌, Bool, true, false, cond, Option, Some, None, codes, encode_utf8_all, refl, ap, sym, subst, ◌∙◌, append_assoc}
 use Rattle.std.specs.Char.Utf16.{has_unpaired_surrogate, utf16_lossy_chars}
-use Rattle.json.specs.Print.{quoted}
+use Rattle.json.specs.Print.{escape, escape_byte, quoted}
 use Rattle.serde_json.specs.Data.{Data, Members, member, no_members, object, put, string}
 use Rattle.serde_json.specs.Written.{comma_if, compact_text, members_text}
 use Rattle.rb_tree.specs.Resource.{Resource, int, ints, binary, alias, array, table}
@@ -71,7 +71,7 @@ units_after : (a v us word : List ℕ)
     → put (codes "actual") (text_data a) (put (codes "valid") (text_data v) (with_text us (of_type word))) ≡ with_actual a v (with_text us (of_type word))
 units_after a v us word = text_after (has_unpaired_surrogate us) a v (units_data us) (string (encode_utf8_all (utf16_lossy_chars us))) word
 
-actual_first : (a v : List ℕ) (t : Resource) → put (codes "actual") (text_data a) (put (codes "valid") (text_data v) (item_members t)) ≡ with_actual a v (item_members t)
+pub actual_first : (a v : List ℕ) (t : Resource) → put (codes "actual") (text_data a) (put (codes "valid") (text_data v) (item_members t)) ≡ with_actual a v (item_members t)
 actual_first a v (tree.string us) = units_after a v us (codes "string")
 actual_first a v (int n) = refl
 actual_first a v (ints zs) = refl
@@ -104,6 +104,28 @@ other_item (binary bs) rest h = refl
 other_item (array ts) rest h = refl
 other_item (table es) rest h = refl
 
+-- ---- a String that was found
+
+string_found : (actual valid us : List ℕ) → has_unpaired_surrogate us ≡ false → found_data actual valid (tree.string us)
+    ≡ object (member (codes "actual") (text_data actual) (member (codes "type") (string (codes "string")) (member (codes "valid") (text_data valid)
+    (member (codes "value") (string (encode_utf8_all (utf16_lossy_chars us))) no_members))))
+string_found actual valid us h = rw h
+
+string_text : (actual valid us : List ℕ) → has_unpaired_surrogate us ≡ false → compact_text (found_data actual valid (tree.string us))
+    ≡ codes "{\"actual\":\"" ++ (escape (encode_utf8_all actual) ++ (codes "\",\"type\":\"string\",\"valid\":\""
+    ++ (escape (encode_utf8_all valid) ++ (codes "\",\"value\":\"" ++ (escape (encode_utf8_all (utf16_lossy_chars us)) ++ codes "\"}")))))
+unfolding escape_byte
+string_text actual valid us h =
+    let a = escape (encode_utf8_all actual) in
+    let v = escape (encode_utf8_all valid) in
+    let u = escape (encode_utf8_all (utf16_lossy_chars us)) in
+    let end = append_assoc u (34 ∷ []) (125 ∷ []) in
+    let value = codes ",\"value\":\"" ++ ((u ++ 34 ∷ []) ++ 125 ∷ []) in
+    let second = append_assoc v (34 ∷ []) value ∙ ap (λ (t : List ℕ). v ++ 34 ∷ (codes ",\"value\":\"" ++ t)) end in
+    let types = codes ",\"type\":\"string\",\"valid\":\"" in
+    let first = append_assoc a (34 ∷ []) (types ++ ((v ++ 34 ∷ []) ++ value)) ∙ ap (λ (t : List ℕ). a ++ 34 ∷ (types ++ t)) second in
+    ap compact_text (string_found actual valid us h) ∙ ap (λ (t : List ℕ). codes "{\"actual\":\"" ++ t) first
+
 -- ---- what is taken of them
 
 module _ {S : Type 0} (Takes : S → S → List ℕ → Type 0) (joined : (x y z : S) (a b : List ℕ) → Takes x y a → Takes y z b → Takes x z (a ++ b)) where
@@ -127,13 +149,30 @@ module _ {S : Type 0} (Takes : S → S → List ℕ → Type 0) (joined : (x y z
       append_assoc name value rest ∙ ap (λ (t : List ℕ). 44 ∷ t) (append_assoc (quoted (codes "valid")) (58 ∷ []) (value ++ rest)) in
       subst (Takes x z) all (joined x y z (valid_text (Some valid)) rest h k)
 
-  pub found_taken : (w x y z s : S) (actual valid : List ℕ) (t : Resource) → Takes w x (123 ∷ []) → Takes x y (name_text false (codes "actual"))
-      → Takes y z (compact_text (text_data actual)) → Takes z s (rest_text true (Some valid) (item_members t)) → Takes w s (compact_text (found_data actual valid t))
-  found_taken w x y z s actual valid t brace name value rest =
+  pub found_taken : (w x y s : S) (actual valid : List ℕ) (t : Resource) → Takes w x (codes "{\"actual\":")
+      → Takes x y (compact_text (text_data actual)) → Takes y s (rest_text true (Some valid) (item_members t)) → Takes w s (compact_text (found_data actual valid t))
+  unfolding escape_byte
+  found_taken w x y s actual valid t opening value rest =
       let ms = put (codes "valid") (text_data valid) (item_members t) in
-      let all = member (codes "actual") (text_data actual) ms in
-      let told = joined w x s (123 ∷ []) (members_text false all) brace (member_taken x y z s false (codes "actual") (text_data actual) ms name value rest) in
-      subst (λ (m : Members). Takes w s (123 ∷ members_text false m)) (sym (actual_first actual valid t)) told
+      let tail = compact_text (text_data actual) ++ members_text true ms in
+      subst (λ (m : Members). Takes w s (123 ∷ members_text false m)) (sym (actual_first actual valid t))
+      (joined w x s (codes "{\"actual\":") tail opening (joined x y s (compact_text (text_data actual)) (members_text true ms) value rest))
+
+  -- a String that was found, its texts and what is between them
+  pub string_taken : (s0 s1 s2 s3 s4 s5 s6 s7 : S) (actual valid us : List ℕ) → has_unpaired_surrogate us ≡ false
+      → Takes s0 s1 (codes "{\"actual\":\"") → Takes s1 s2 (escape (encode_utf8_all actual))
+      → Takes s2 s3 (codes "\",\"type\":\"string\",\"valid\":\"") → Takes s3 s4 (escape (encode_utf8_all valid))
+      → Takes s4 s5 (codes "\",\"value\":\"") → Takes s5 s6 (escape (encode_utf8_all (utf16_lossy_chars us))) → Takes s6 s7 (codes "\"}")
+      → Takes s0 s7 (compact_text (found_data actual valid (tree.string us)))
+  string_taken s0 s1 s2 s3 s4 s5 s6 s7 actual valid us whole h0 h1 h2 h3 h4 h5 h6 =
+      let a = escape (encode_utf8_all actual) in
+      let v = escape (encode_utf8_all valid) in
+      let u = escape (encode_utf8_all (utf16_lossy_chars us)) in
+      let after_valid = codes "\",\"value\":\"" ++ (u ++ codes "\"}") in
+      let after_actual = codes "\",\"type\":\"string\",\"valid\":\"" ++ (v ++ after_valid) in
+      let text = joined s4 s5 s7 _ (u ++ codes "\"}") h4 (joined s5 s6 s7 u _ h5 h6) in
+      let names = joined s2 s3 s7 _ (v ++ after_valid) h2 (joined s3 s4 s7 v after_valid h3 text) in
+      subst (Takes s0 s7) (sym (string_text actual valid us whole)) (joined s0 s1 s7 _ (a ++ after_actual) h0 (joined s1 s2 s7 a after_actual h1 names))
 
   pub alias_taken : (w x y z s : S) (t : Resource) (path : List ℕ) → kind_of t ≡ Kinds.Alias → Takes w x (123 ∷ []) → Takes x y (name_text false (codes "rest"))
       → Takes y z (compact_text (text_data path)) → Takes z s (rest_text true None (item_members t)) → Takes w s (compact_text (item_data t path))

@@ -1,7 +1,7 @@
 //! Items as JSON, written piece by piece into an outlet: no text is in memory whole.
 ghost use Rattle.std.specs.Prelude.{◌≡◌, Some, codes, decimal, encode_utf8_all, false, true};
 ghost use Rattle.std.specs.Prelude.{IfOk, option_map, string_bytes};
-ghost use Rattle.std.specs.Char.Utf16.{utf16_lossy_chars};
+ghost use Rattle.std.specs.Char.Utf16.{has_unpaired_surrogate, utf16_lossy_chars};
 ghost use Rattle.std.specs.Map.{keys_of};
 ghost use Rattle.json.specs.Print.{quoted};
 ghost use Rattle.serde_json.specs.Data.{put, string};
@@ -21,7 +21,8 @@ use crate::buffer::Buffer;
 use crate::leaf::signed;
 use crate::outlet::Outlet;
 use crate::spell::{
-    is_well_formed, spell_bytes, spell_hex, spell_integer, spell_text, spell_units, spell_unsigned,
+    is_well_formed, put_latin, put_runs, spell_bytes, spell_hex, spell_integer, spell_text,
+    spell_units, spell_unsigned,
 };
 use rb_tree::{Kind, Node};
 use std::alloc::{AllocError, Global};
@@ -311,6 +312,49 @@ fn put_members<O: Outlet, N: Node>(out: &mut O, later: bool, node: N, valid: Opt
     }
 }
 
+/// Writes an item that was found, member by member.
+fn put_found_members<O: Outlet, N: Node>(out: &mut O, actual: &[u8], valid: &[u8], node: N)
+    ensures { O.takes out.old out.new
+        (compact_text (found_data actual.now valid.now (N.tree node))) }
+{
+    out.put(b"{\"actual\":");
+    spell_bytes(out, actual);
+    put_members(out, true, node, Some(valid))
+}
+
+/// Writes a String that was found, with what is between its texts in one piece each.
+fn put_found_text<O: Outlet, N: Node>(out: &mut O, actual: &[u8], valid: &[u8], node: N)
+    requires string { kind_of (N.tree node) ≡ Kinds.String }
+    requires whole { has_unpaired_surrogate (units_of (N.tree node)) ≡ false }
+    ensures { O.takes out.old out.new
+        (compact_text (found_data actual.now valid.now (N.tree node))) }
+{
+    out.put(b"{\"actual\":\"");
+    put_latin(out, actual);
+    out.put(b"\",\"type\":\"string\",\"valid\":\"");
+    put_latin(out, valid);
+    out.put(b"\",\"value\":\"");
+    put_runs(out, node);
+    out.put(b"\"}")
+}
+
+/// Writes a String that was found, of which not even a unit is read if the outlet has no room for
+/// one byte for each.
+fn put_found_string<O: Outlet, N: Node>(out: &mut O, actual: &[u8], valid: &[u8], node: N)
+    requires { kind_of (N.tree node) ≡ Kinds.String }
+    ensures { O.takes out.old out.new
+        (compact_text (found_data actual.now valid.now (N.tree node))) }
+{
+    let least = node.len() as u64;
+    if out.skips(least) {
+        return;
+    }
+    if !is_well_formed(node) {
+        return put_found_members(out, actual, valid, node);
+    }
+    put_found_text(out, actual, valid, node)
+}
+
 /// Writes an item that a lookup found as the compact text of a JSON object: the members of
 /// `put_item` except `rest`, and the names of the bundle that has the item, `actual`, and of the
 /// one that decided, `valid`. It takes no memory.
@@ -322,10 +366,10 @@ pub fn put_found<O: Outlet, N: Node>(out: &mut O, actual: &[u8], valid: &[u8], n
     ensures { O.takes out.old out.new
         (compact_text (found_data actual.now valid.now (N.tree node))) }
 {
-    out.put(b"{");
-    put_member_name(out, "actual");
-    spell_bytes(out, actual);
-    put_members(out, true, node, Some(valid))
+    if node.kind() == Kind::String {
+        return put_found_string(out, actual, valid, node);
+    }
+    put_found_members(out, actual, valid, node)
 }
 
 /// Writes an alias by itself, with the rest of a path.

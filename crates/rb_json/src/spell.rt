@@ -129,7 +129,7 @@ fn put_each<O: Outlet>(out: &mut O, bytes: &[u8])
 }
 
 /// Writes bytes, a character each, in longer spans if they are ASCII.
-fn put_latin<O: Outlet>(out: &mut O, bytes: &[u8])
+pub(crate) fn put_latin<O: Outlet>(out: &mut O, bytes: &[u8])
     ensures { O.takes out.old out.new (escape (encode_utf8_all bytes.now)) }
 {
     match ascii(bytes) {
@@ -232,7 +232,7 @@ fn put_run<O: Outlet, N: Node>(out: &mut O, node: N, at: usize, len: usize) -> u
     put_next(out, node, at, len)
 }
 
-fn put_runs<O: Outlet, N: Node>(out: &mut O, node: N)
+pub(crate) fn put_runs<O: Outlet, N: Node>(out: &mut O, node: N)
     requires { HasUnits (kind_of (N.tree node)) }
     ensures { O.takes out.old out.new
         (escape (encode_utf8_all (utf16_lossy_chars (units_of (N.tree node))))) }
