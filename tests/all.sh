@@ -121,7 +121,7 @@ fi
 for script in examples replies stdout files clients project package; do
     start "$script" "tests/$script.sh" "$program"
 done
-for script in commands fmt coverage diff lint_formats lint_texts lint_warnings messages terminals documents completions traces pipe ignored_members icu2text json_values json_in inherit parents exchange; do
+for script in commands bundles fmt coverage diff lint_formats lint_texts lint_warnings messages terminals documents completions traces pipe ignored_members icu2text json_values json_in inherit parents exchange; do
     start_if python3 "$script" "tests/$script.py" "$program"
 done
 start_if python3 pages tools/pages --check "$program"

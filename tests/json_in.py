@@ -11,6 +11,7 @@ texts are written by hand; that a text is no JSON, and where, is compared with P
 import json
 import os
 import random
+import subprocess
 import sys
 import tempfile
 
@@ -25,10 +26,12 @@ REFUSED = [
     (b"\n ", "2:2: NotJson"),
     (b"\xef\xbb\xbf{}", "1:1: NotJson"),
     (b"{}\xff", "1:3: NotUtf8"),
+    (b'{\n"a\xff":1}', "2:3: NotUtf8"),
     (b"{\n\"\xc3\xa9\xc3\":1}", "2:3: NotUtf8"),
     (b'{"a":1', "1:7: NotJson"),
     (b'{"a":', "1:6: NotJson /a"),
     (b'{"a"', "1:2: NotJson"),
+    (b'{"a" 1}', "1:2: NotJson"),
     (b'{"a":\n  "x}', "2:3: NotJson /a"),
     (b'{"a":"\x01"}', "1:6: NotJson /a"),
     (b'{"a":"\\x"}', "1:6: NotJson /a"),
@@ -43,12 +46,14 @@ REFUSED = [
     (b"{'a':1}", "1:2: NotJson"),
     (b"{a:1}", "1:2: NotJson"),
     (b"{} {}", "1:4: TrailingText"),
+    (b"{},", "1:4: TrailingText"),
     (b"{}\n\n]", "3:1: TrailingText"),
     (b"[]", "1:1: NotTable"),
     (b' "x"', "1:2: NotTable"),
     (b"5", "1:1: NotTable"),
     (b'{":bin":"00"}', "1:1: NotTable"),
     (b"true", "1:1: UnknownValue"),
+    (b'{"a":true}', "1:6: UnknownValue /a"),
     (b'{"a":[0,null]}', "1:9: UnknownValue /a/1"),
     (b'{"a":{"b":false}}', "1:11: UnknownValue /a/b"),
     (b'{"a":{":x":1}}', "1:7: BadTag /a"),
@@ -84,11 +89,19 @@ REFUSED = [
     (b'{"a":"\xe2\x82\xac\xf0\x9f\x98\x80","b":x}', "1:15: NotJson /b"),
 ]
 
+# two forms of one tree: members in another order, space and escapes
+ALIKE = [
+    (b'{"b":{"d":[],"c":-5},"a":"x"}', b' {\r\n\t"a" : "\\u0078" , "b" : { "c" : -5 , "d" : [ ] } } \n'),
+    ('{"a":"\U0001F600"}'.encode(), b'{"\\u0061":"\\ud83d\\ude00"}'),
+    (b'{"::alias":{":bin":"00ff"}}', b'{"\\u003a:alias":{"\\u003abin":"\\u00300ff"}}'),
+]
+
 
 def large():
     """Returns long or deep texts, and what is said of each."""
     deep = b'{"a":' * DEEPEST
     yield deep + b"{}" + b"}" * DEEPEST, f"1:{5 * DEEPEST + 1}: TooDeep " + "/a" * DEEPEST
+    yield arrays(DEEPEST + 1), "1:69: TooDeep /a" + "/0" * 63
     yield b'{"a":' + b"[" * 1000000, "1:69: TooDeep /a" + "/0" * 63
     yield b'{"a":' + b"9" * 1000000 + b"}", "1:6: BadNumber /a"
     yield b'{"a":"' + b"x" * 17000000 + b'"}', "1:6: TooLarge /a"
@@ -155,6 +168,18 @@ def nested(levels):
     for level in range(levels - 1, 1, -1):
         tree = ("array", (tree,)) if level % 2 else ("table", (("k", tree),))
     return "table", (("k", tree),)
+
+
+def arrays(levels):
+    """Returns the JSON of a tree of this many levels, of arrays in the root."""
+    return b'{"a":' + b"[" * (levels - 1) + b"]" * (levels - 1) + b"}"
+
+
+def compiled(program, data):
+    """Returns the file of a JSON text."""
+    done = subprocess.run([program, "compile", "--json", "-", "-"], input=data, capture_output=True, check=False)
+    same("what compile --json says", (done.returncode, done.stderr), (0, b""), data)
+    return done.stdout
 
 
 def refused(program, folder, data, said):
@@ -228,6 +253,9 @@ def main():
             check_python(program, folder, data)
         for data, said in large():
             refused(program, folder, data, said)
+        for one, other in ALIKE:
+            same("the file", compiled(program, one), compiled(program, other), other)
+        compiled(program, arrays(DEEPEST))
         check_folder(program, folder)
         for levels in (2, DEEPEST - 1, DEEPEST):
             check_tree(program, folder, rng, nested(levels), False)

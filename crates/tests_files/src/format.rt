@@ -21,12 +21,18 @@ fn is_minor(alloc: Global, minor: u8, fault: Option<FileFault>) -> bool {
     }
 }
 
+fn are_minors(alloc: Global) -> bool {
+    for minor in [1, 2, 3, 255] {
+        if !is_minor(alloc, minor, None) {
+            return false;
+        }
+    }
+    is_minor(alloc, 0, Some(FileFault::FormatVersion))
+}
+
 #[test]
 fn minor_versions_are_read(rt: HostRuntime) {
-    for minor in [1, 2, 3, 255] {
-        assert!(rt; is_minor(rt.alloc(), minor, None));
-    }
-    assert!(rt; is_minor(rt.alloc(), 0, Some(FileFault::FormatVersion)));
+    assert!(rt; are_minors(rt.alloc()));
 }
 
 /// Minor versions, and the attributes of data with the flag.
@@ -63,14 +69,20 @@ const BITS: [(u32, bool, bool); 7] = [
     (8, false, false),
 ];
 
-#[test]
-fn attributes_are_read(rt: HostRuntime) {
-    assert!(rt; is_flagged(bytes_of(rt.alloc(), ONE_STRING_WITHOUT_FALLBACK)));
+fn are_bits() -> bool {
     for (bits, no_fallback, has_pool) in BITS {
         let attributes = Attributes { bits };
-        assert!(rt; attributes.no_fallback() == no_fallback);
-        assert!(rt; attributes.has_pool() == has_pool);
+        if (attributes.no_fallback(), attributes.has_pool()) != (no_fallback, has_pool) {
+            return false;
+        }
     }
+    true
+}
+
+#[test]
+fn attributes_are_read(rt: HostRuntime) {
+    let file = bytes_of(rt.alloc(), ONE_STRING_WITHOUT_FALLBACK);
+    assert!(rt; is_flagged(file) && are_bits());
 }
 
 const WORDS: [(usize, Option<u32>); 4] = [
@@ -124,9 +136,13 @@ fn is_one_string(file: Option<Vec<u8>>) -> bool {
     }
 }
 
+/// Checks what the word of a table at word 9 says.
+fn is_table_word(word: u32) -> bool {
+    item_type(word) == 2 && item_offset(word) == 9 && item_kind(word) == Some(ItemKind::Table)
+}
+
 #[test]
 fn fields_are_read(rt: HostRuntime) {
-    assert!(rt; is_one_string(bytes_of(rt.alloc(), ONE_STRING)));
-    assert!(rt; item_type(0x2000_0009) == 2 && item_offset(0x2000_0009) == 9);
-    assert!(rt; item_kind(0x2000_0009) == Some(ItemKind::Table));
+    let file = bytes_of(rt.alloc(), ONE_STRING);
+    assert!(rt; is_one_string(file) && is_table_word(0x2000_0009));
 }

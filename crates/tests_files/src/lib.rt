@@ -1,23 +1,13 @@
-//! Tests bundle files (`rb_format`, `rb_writer`, `rb_validator`, `rb_views`) and printed texts
-//! (`rb_printer`), and proves that the parser reads what is printed, and that the reader of JSON
-//! reads no other tree than the printed one.
+//! Tests the layout and the views of bundle files (`rb_format`, `rb_views`), and proves that the parser
+//! reads what is printed, and that the reader of JSON reads no other tree than the printed one. What
+//! commands show of files and texts is tested by the script `tests/bundles.py`.
 #![tactic(auto)]
 
 #[cfg(test)]
 mod format;
-#[cfg(test)]
-mod json_in;
 pub mod laws;
-#[cfg(test)]
-mod made;
-#[cfg(test)]
-mod prints;
 #[cfg(test)]
 mod samples;
 mod sound;
 #[cfg(test)]
-mod validator;
-#[cfg(test)]
 mod views;
-#[cfg(test)]
-mod writer;

@@ -1,9 +1,5 @@
-ghost use Rattle.std.specs.Prelude.{◌≤◌};
-
-use crate::made::chain;
-use crate::samples::{EVERY_TYPE, SUFFIX_KEY, bytes_of};
-use crate::writer::{file, file_of_alias, numbered, numbered_key};
-use rb_tree::{Ending, Kind, Node, path_ok, walk};
+use crate::samples::{EVERY_TYPE, bytes_of, file_of_alias};
+use rb_tree::{Kind, Node};
 use rb_validator::{Bundle, accept};
 use rb_views::{Ints, Item, Table, Units, root};
 use std::alloc::Global;
@@ -13,45 +9,6 @@ fn bundle(alloc: Global, file: Option<Vec<u8>>) -> Option<Bundle> {
         Ok(bundle) => Some(bundle),
         Err(_) => None,
     }
-}
-
-fn int_at(table: Table<'_>, key: &[u8]) -> Option<i32> {
-    table.get(key)?.int()
-}
-
-fn finds_both_keys(table: Table<'_>) -> bool {
-    table.len() == 2
-        && int_at(table, b"ab") == Some(1)
-        && int_at(table, b"b") == Some(2)
-        && int_at(table, b"a").is_none()
-}
-
-fn is_entry(entry: Option<(&[u8], Item<'_>)>, wanted: &[u8], number: i32) -> bool {
-    match entry {
-        Some((key, item)) => key == wanted && item.int() == Some(number),
-        None => false,
-    }
-}
-
-fn gives_both_entries(table: Table<'_>) -> bool {
-    let mut entries = table.iter();
-    is_entry(entries.next(), b"ab", 1)
-        && is_entry(entries.next(), b"b", 2)
-        && entries.next().is_none()
-}
-
-/// Checks whether both keys of a table of `ab` and `b` are found, and its entries come in order.
-fn has_both_keys(bundle: Option<Bundle>) -> Option<bool> {
-    let bundle = bundle?;
-    let table = root(&bundle).table()?;
-    Some(finds_both_keys(table) && gives_both_entries(table))
-}
-
-#[test]
-fn a_key_that_ends_another_is_found(rt: HostRuntime) {
-    let alloc = rt.alloc();
-    let bundle = bundle(alloc, bytes_of(alloc, SUFFIX_KEY));
-    assert!(rt; has_both_keys(bundle) == Some(true));
 }
 
 fn is_text(units: Option<Units<'_>>, text: &[u16]) -> bool {
@@ -153,74 +110,10 @@ fn every_kind_is_viewed(rt: HostRuntime) {
     assert!(rt; has_every_kind(bundle) == Some(true));
 }
 
-fn finds_each_number(table: Table<'_>, count: u32) -> bool {
-    for i in 0..count {
-        if int_at(table, &numbered_key(i)) != Some(0) {
-            return false;
-        }
-    }
-    table.get(&numbered_key(count)).is_none()
-}
-
-fn has_each_number(bundle: Option<Bundle>, count: u32) -> Option<bool> {
-    let bundle = bundle?;
-    let table = root(&bundle).table()?;
-    Some(finds_each_number(table, count))
-}
-
-#[test]
-fn each_key_of_a_long_table_is_found(rt: HostRuntime) {
-    let alloc = rt.alloc();
-    let bundle = bundle(alloc, file(alloc, numbered(alloc, 9_360), false));
-    assert!(rt; has_each_number(bundle, 9_360) == Some(true));
-}
-
-/// Returns the key `a`, and the first item this many times.
-fn path_down(alloc: Global, levels: usize) -> Option<Vec<u8>> {
-    let mut path = b"a".to_vec(alloc).ok()?;
-    for _ in 0..levels {
-        path.extend_from_slice(b"/0").ok()?;
-    }
-    Some(path)
-}
-
-/// Returns the integer at which a walk ends, from an item this many levels down.
-fn int_below(alloc: Global, item: Item<'_>, levels: usize) -> Option<i32> {
-    let path = path_down(alloc, levels)?;
-    if !path_ok(path.as_slice()) {
-        return None;
-    }
-    match walk(item, path.as_slice()) {
-        Ending::End(end) => end.int(),
-        Ending::Link(..) | Ending::Gone => None,
-    }
-}
-
-/// Checks whether a walk through this many nested arrays ends at an Int, and nothing is below that.
-fn walks_down(alloc: Global, arrays: u32) -> bool
-    requires { arrays ≤ 100 }
-{
-    match bundle(alloc, chain(alloc, arrays)) {
-        Some(bundle) => {
-            let levels = arrays as usize;
-            int_below(alloc, root(&bundle), levels) == Some(0)
-                && int_below(alloc, root(&bundle), levels + 1).is_none()
-        }
-        None => false,
-    }
-}
-
-#[test]
-fn a_walk_goes_through_nested_arrays(rt: HostRuntime) {
-    assert!(rt; walks_down(rt.alloc(), 30));
-    assert!(rt; walks_down(rt.alloc(), 62));
-}
-
-/// Counts the marked blocks of a file with an alias of this many letters, and those that can be
-/// skipped from one on.
-fn passed_over(alloc: Global, letters: usize, from: usize) -> Option<(usize, usize)> {
-    let text = vec![in alloc; 0x78u16; letters].ok()?;
-    let bundle = bundle(alloc, file_of_alias(alloc, &text))?;
+/// Counts the marked blocks of a file with an alias of twice this many letters, and the letters that
+/// can be skipped from one on.
+fn passed_over(alloc: Global, pairs: u16, from: usize) -> Option<(usize, usize)> {
+    let bundle = bundle(alloc, file_of_alias(alloc, pairs))?;
     let marked = bundle.blocks().iter().filter(|marked| **marked).count();
     let alias = root(&bundle).table()?.get(b"a")?;
     match alias.kind() {
@@ -229,11 +122,15 @@ fn passed_over(alloc: Global, letters: usize, from: usize) -> Option<(usize, usi
     }
 }
 
+/// Checks three aliases. The text begins at half word 16, and of 5,000 letters the blocks from 1,024
+/// to 4,096 have letters alone.
+fn are_passed_over(alloc: Global) -> bool {
+    passed_over(alloc, 2_500, 2_000) == Some((3, 2_080))
+        && passed_over(alloc, 2_500, 4_500) == Some((3, 0))
+        && passed_over(alloc, 500, 0) == Some((0, 0))
+}
+
 #[test]
 fn blocks_of_long_aliases_are_passed_over(rt: HostRuntime) {
-    let alloc = rt.alloc();
-    // the text begins at half word 16, and the blocks from 1,024 to 4,096 have its letters alone
-    assert_eq!(rt; passed_over(alloc, 5_000, 2_000), Some((3, 2_080)));
-    assert_eq!(rt; passed_over(alloc, 5_000, 4_500), Some((3, 0)));
-    assert_eq!(rt; passed_over(alloc, 1_000, 0), Some((0, 0)));
+    assert!(rt; are_passed_over(rt.alloc()));
 }

@@ -1,7 +1,0 @@
-use Rattle.std.specs.Prelude.{All}
-use Rattle.rb_tree.specs.Keys.{IsKey}
-use Rattle.rb_tree.specs.Table.{keys_in}
-use Rattle.tests_files.proofs.writer.put_rows.Given as goal
-
-abbrev pub invariant-loop-key : goal.invariant-loop-key
-invariant-loop-key l = All IsKey (keys_in l.pairs.items)
