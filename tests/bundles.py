@@ -342,13 +342,17 @@ def check_long_tables(bundles):
 
 
 def check_nested(bundles):
-    """Walks go through nested arrays, which are printed as JSON and texts unless they spell too much."""
+    """Walks go through nested arrays, by paths of any length up to the limit; the text of a chain would be too large."""
     for count in 30, 62:
         file = bundles.put("chain.res", chain(count))
         path = "a" + "/0" * count
         bundles.same("the end of a walk", bundles.output("get", file, path), b'{"signed":0,"type":"int","unsigned":0}\n')
         done = bundles.run("get", file, path + "/0")
         bundles.same("below it", (done.returncode, done.stdout, done.stderr), (1, b"", path.encode() + b"/0: Missing\n"))
+    for length, code in (1024, "Missing"), (1025, "PathTooLong"):
+        path = "x" * length
+        done = bundles.run("get", bundles.put("one.res", bundles.samples["one_string"]), path)
+        bundles.same("a long path", (done.returncode, done.stdout, done.stderr), (1, b"", f"{path}: {code}\n".encode()))
     done = bundles.run("text", file)
     bundles.same("the text of a chain", (done.returncode, done.stdout, done.stderr), (1, b"", b"chain.res: TooLarge\n"))
 

@@ -3,7 +3,7 @@
 
 Each NAME.json in commands/ has "files" (texts) and "binaries" (hexadecimal digits), which are written to a folder, and "cases", which are
 run there. A case has "args"; "stdin", the text of standard input (none if left out); "text", a bundle text that is compiled first, to "file" (a.res if left out); "closed", if standard output is closed; and what is
-expected: "status" (0 if left out), "stdout" and "stderr" (empty if left out).
+expected: "status" (0 if left out), "stdout" and "stderr" (empty if left out), and "leaves", the hexadecimal digits of files after it, or null for a file that must not exist.
 
 usage: commands.py PROGRAM
 Ends with status 0 if all agree, with 1 if one differs; says `skipped` if there is no such program.
@@ -35,6 +35,11 @@ def outcome(program, folder, case):
     return done.returncode, (done.stdout or b"").decode(), done.stderr.decode()
 
 
+def digits_of(path):
+    """Returns a file's bytes as hexadecimal digits, or None if it doesn't exist."""
+    return path.read_bytes().hex().upper() if path.exists() else None
+
+
 def differences(program, stored):
     """Yields the cases of a file that end otherwise, each with what is expected and what came."""
     with tempfile.TemporaryDirectory() as name:
@@ -49,6 +54,9 @@ def differences(program, stored):
             found = outcome(program, folder, case)
             if found != wanted:
                 yield case["args"], wanted, found
+            left = {path: digits_of(folder / path) for path in case.get("leaves", {})}
+            if left != case.get("leaves", {}):
+                yield case["args"], case["leaves"], left
 
 
 def main():

@@ -11,10 +11,16 @@ const WORDS: [(Of, &str, Option<&str>); 7] = [
     (Of::Memory, "Memory", Some("Memory")),
 ];
 
+fn are_found() -> bool {
+    for (of, word, wanted) in WORDS {
+        if of.explanation(word).map(|explanation| explanation.word) != wanted {
+            return false;
+        }
+    }
+    true
+}
+
 #[test]
 fn finds_words(rt: HostRuntime) {
-    for (of, word, wanted) in WORDS {
-        let found = of.explanation(word).map(|explanation| explanation.word);
-        assert!(rt; found == wanted);
-    }
+    assert!(rt; are_found());
 }

@@ -100,7 +100,6 @@ pub struct Desk {
     files: RefCell<Vec<(String, Bytes)>>,
     output: RefCell<String>,
     errors: RefCell<String>,
-    output_is_closed: Cell<bool>,
     seconds: Cell<u64>,
 }
 
@@ -112,7 +111,6 @@ impl Desk {
             files: RefCell::new(Vec::new(alloc)),
             output: RefCell::new(String::new(alloc)),
             errors: RefCell::new(String::new(alloc)),
-            output_is_closed: Cell::new(false),
             seconds: Cell::new(0),
         }
     }
@@ -166,11 +164,6 @@ impl Desk {
         self.find(path).is_some()
     }
 
-    /// Closes standard output: later prints to it fail.
-    pub fn close_output(&self) {
-        self.output_is_closed.set(true);
-    }
-
     /// Checks whether these texts were printed to standard output and standard error since the last
     /// call.
     pub fn said(&self, output: &str, errors: &str) -> bool {
@@ -213,16 +206,10 @@ impl Print for Desk {
     }
 
     fn println<D: Display + Drop>(&self, value: D) -> io::Result<()> {
-        if self.output_is_closed.get() {
-            return Err(io::Error::from(ErrorKind::StorageFull));
-        }
         self.say(&self.output, value, "\n")
     }
 
     fn write_all(&self, bytes: &[u8]) -> io::Result<()> {
-        if self.output_is_closed.get() {
-            return Err(io::Error::from(ErrorKind::StorageFull));
-        }
         match str::from_utf8(bytes) {
             Ok(text) => self.say(&self.output, text, ""),
             Err(_) => Err(io::Error::from(ErrorKind::InvalidData)),

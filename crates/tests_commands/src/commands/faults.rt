@@ -261,31 +261,65 @@ const OUTPUTS: [(&str, &str); 4] = [
     ("to-new.res", "new.res"),
 ];
 
-#[test]
-fn a_failed_call_leaves_files_whole(rt: HostRuntime) {
-    for (output, target) in OUTPUTS {
-        for call in 0..CALLS {
-            let (desk, is_written) = compiled(rt.alloc(), call, output);
-            assert!(rt; is_whole(&desk, target, is_written));
+fn is_left_whole(alloc: Global, call: u64, output: &str, target: &str) -> bool {
+    let (desk, is_written) = compiled(alloc, call, output);
+    is_whole(&desk, target, is_written)
+}
+
+fn all_left_whole(alloc: Global, output: &str, target: &str) -> bool {
+    for call in 0..CALLS {
+        if !is_left_whole(alloc, call, output, target) {
+            return false;
         }
     }
+    true
+}
+
+fn outputs_left_whole(alloc: Global) -> bool {
+    for (output, target) in OUTPUTS {
+        if !all_left_whole(alloc, output, target) {
+            return false;
+        }
+    }
+    true
+}
+
+#[test]
+fn a_failed_call_leaves_files_whole(rt: HostRuntime) {
+    assert!(rt; outputs_left_whole(rt.alloc()));
+}
+
+fn is_file_written(alloc: Global, output: &str, target: &str) -> bool {
+    let (desk, is_written) = compiled(alloc, u64::MAX, output);
+    is_written && is_whole(&desk, target, true) && desk.said("wrote 56 bytes\n", "")
+}
+
+fn are_files_written(alloc: Global) -> bool {
+    for (output, target) in OUTPUTS {
+        if !is_file_written(alloc, output, target) {
+            return false;
+        }
+    }
+    true
 }
 
 #[test]
 fn no_failed_call_writes_the_file(rt: HostRuntime) {
-    for (output, target) in OUTPUTS {
-        let (desk, is_written) = compiled(rt.alloc(), u64::MAX, output);
-        assert!(rt; is_written && is_whole(&desk, target, true));
-        assert!(rt; desk.said("wrote 56 bytes\n", ""));
-    }
+    assert!(rt; are_files_written(rt.alloc()));
+}
+
+fn is_output_refused(alloc: Global, output: &str, errors: &str) -> bool {
+    let (desk, is_written) = compiled(alloc, u64::MAX, output);
+    !is_written && is_whole(&desk, "out.res", false) && desk.said("", errors)
 }
 
 #[test]
-fn refuses_links_to_texts_and_loops(rt: HostRuntime) {
-    let (desk, is_written) = compiled(rt.alloc(), u64::MAX, "to-text.res");
-    assert!(rt; !is_written && is_whole(&desk, "out.res", false));
-    assert!(rt; desk.said("", "resb: OUT is a bundle text: to-text.res\n"));
-    let (desk, is_written) = compiled(rt.alloc(), u64::MAX, "loop.res");
-    assert!(rt; !is_written && is_whole(&desk, "out.res", false));
-    assert!(rt; desk.said("", "cannot write loop.res\n"));
+fn refuses_links_to_texts(rt: HostRuntime) {
+    let errors = "resb: OUT is a bundle text: to-text.res\n";
+    assert!(rt; is_output_refused(rt.alloc(), "to-text.res", errors));
+}
+
+#[test]
+fn refuses_loops_of_links(rt: HostRuntime) {
+    assert!(rt; is_output_refused(rt.alloc(), "loop.res", "cannot write loop.res\n"));
 }
