@@ -14,7 +14,7 @@ import (
 func TestClusterPatches(t *testing.T) {
 	needJSON(t)
 	c := newPatientCluster(t)
-	if status, _, text := c.machines[0].send("PUT", "/v1/shop/de.txt", `de{a{"A"}}`); status != 201 {
+	if status, _, text := c.machines[0].sendAgain("PUT", "/v1/shop/de.txt", `de{a{"A"}}`); status != 201 {
 		t.Fatal(status, text)
 	}
 	const rounds = 5

@@ -19,16 +19,22 @@ import (
 	"time"
 )
 
-// ask sends a request with headers, each a name and a value, and returns the response, or nil if none came, with its body. It sends a change
-// again if the gateway stood still.
+// ask sends a request with headers, each a name and a value, and returns the response, or nil if none came, with its body. It sends the
+// request again as long as it is put off.
 func (m *machine) ask(method, path, body string, headers ...string) (got *http.Response, text string) {
-	unlessStill(method, func() (int, string) {
-		if got, text = m.askOnce(method, path, body, headers...); got == nil {
-			return 0, ""
-		}
-		return got.StatusCode, text
+	unlessPutOff(func() (int, string) {
+		got, text = m.askOnce(method, path, body, headers...)
+		return statusOf(got), text
 	})
 	return got, text
+}
+
+// statusOf returns the status of a response, or 0 if none came.
+func statusOf(got *http.Response) int {
+	if got == nil {
+		return 0
+	}
+	return got.StatusCode
 }
 
 func (m *machine) askOnce(method, path, body string, headers ...string) (got *http.Response, text string) {
@@ -53,9 +59,23 @@ func (m *machine) askOnce(method, path, body string, headers ...string) (got *ht
 	return got, string(content)
 }
 
-// release releases texts, and returns the status and the revision, which are 0 without a response.
+// release releases texts, and returns the status and the revision, which are 0 without a response. It releases them again as long as that is
+// put off.
 func (m *machine) release(files ...namedText) (status int, revision int64, text string) {
-	got, text := m.ask("POST", "/v1/shop/_releases", linesOf(m.t, files...), "Content-Type", asLines)
+	unlessPutOff(func() (int, string) {
+		status, revision, text = m.releaseOnce(files...)
+		return status, text
+	})
+	return status, revision, text
+}
+
+// releaseOnce releases texts, again only if the gateway stood still.
+func (m *machine) releaseOnce(files ...namedText) (status int, revision int64, text string) {
+	var got *http.Response
+	unlessStill("POST", func() (int, string) {
+		got, text = m.askOnce("POST", "/v1/shop/_releases", linesOf(m.t, files...), "Content-Type", asLines)
+		return statusOf(got), text
+	})
 	if got == nil {
 		return 0, 0, ""
 	}
@@ -180,9 +200,6 @@ func (c *cluster) race() {
 		go func() {
 			defer all.Done()
 			status, revision, text := m.release(longFiles(20 + i)...)
-			for status == 503 && errorCode(text) == "Replaying" { // the log was slow, and another one was made meanwhile
-				status, revision, text = m.release(longFiles(20 + i)...)
-			}
 			mu.Lock()
 			defer mu.Unlock()
 			if status != 200 || revision == last {
@@ -266,7 +283,7 @@ func TestClusterKillsInARelease(t *testing.T) {
 // it afterwards, also none that starts later, with or without its database.
 func TestClusterErases(t *testing.T) {
 	c := newPatientCluster(t)
-	if status, _, text := c.machines[0].send("PUT", "/v1/bank/de.txt", `de{v{"B"}}`); status != 201 {
+	if status, _, text := c.machines[0].sendAgain("PUT", "/v1/bank/de.txt", `de{v{"B"}}`); status != 201 {
 		t.Fatal(status, text)
 	}
 	for round := 1; round < 3; round++ {
@@ -282,7 +299,7 @@ func TestClusterErases(t *testing.T) {
 	time.Sleep(60 * time.Millisecond)
 	c.machines[2].gateway.kill()
 	<-ends
-	status, last, text := c.machines[0].send("DELETE", "/v1/shop?erase", "")
+	status, last, text := c.machines[0].sendAgain("DELETE", "/v1/shop?erase", "")
 	if status != 200 || last == 0 {
 		t.Fatal(status, last, text)
 	}
@@ -329,7 +346,7 @@ type publisher struct {
 // publish makes a release. Without an answer it may be made or not.
 func (p *publisher) publish() {
 	p.round++
-	status, revision, text := p.machines[p.random.Intn(3)].release(longFiles(p.round)...)
+	status, revision, text := p.machines[p.random.Intn(3)].releaseOnce(longFiles(p.round)...)
 	switch {
 	case status == 200:
 		if revision <= p.last {
@@ -337,7 +354,7 @@ func (p *publisher) publish() {
 		}
 		p.may, p.last = map[int]bool{p.round: true}, revision
 		p.made++
-	case status == 503 && strings.Contains("Unreached Replaying Busy ShardEnded", errorCode(text)):
+	case isPutOff(status, text):
 	default:
 		p.may[p.round] = true
 		p.unknown++

@@ -7,6 +7,7 @@ import (
 	"bytes"
 	"crypto/tls"
 	"fmt"
+	"io"
 	"net"
 	"net/http"
 	"os"
@@ -101,28 +102,25 @@ func TestClusterOfRequestsThatAreHeldUp(t *testing.T) {
 	m, other := c.machines[0], c.machines[1]
 	d := c.setApart(25 * time.Millisecond)
 	const rounds = 8
-	last := int64(0)
+	last, puts := int64(0), int32(0)
 	for i := 0; i < rounds; i++ {
 		conn, err := net.Dial("tcp", m.address)
 		if err != nil {
 			t.Fatal(err)
 		}
 		path := fmt.Sprintf("/v1/shop/l%c.txt", 'a'+i)
-		putOver(t, conn, path, "1")
-		if got, err := http.ReadResponse(bufio.NewReader(conn), nil); err != nil || got.StatusCode != http.StatusCreated {
-			t.Fatal(err, got)
-		}
+		puts += installOver(t, conn, path) + 1
 		d.loses.Store(true)
 		putOver(t, conn, path, "2")
 		_ = conn.Close()
 		time.Sleep(time.Second / 2) // the end of the connection, which is sent again first, is lost once more
-		status, revision, text := other.send("PUT", path, `x{v{"3"}}`)
+		status, revision, text := other.sendAgain("PUT", path, `x{v{"3"}}`)
 		if status != 200 {
 			t.Fatal(status, text)
 		}
 		last = revision
 		d.loses.Store(false)
-		eventually(t, "the request is sent again", func() bool { return d.puts.Load() >= int32(2*(i+1)) })
+		eventually(t, "the request is sent again", func() bool { return d.puts.Load() >= puts })
 	}
 	time.Sleep(time.Second)
 	undone := 0
@@ -158,6 +156,26 @@ func putOver(t *testing.T, conn net.Conn, path, value string) {
 	if _, err := conn.Write([]byte(header + body)); err != nil {
 		t.Fatal(err)
 	}
+}
+
+// installOver installs the first bundle over a connection, again as long as that is put off, and returns how often it was sent.
+func installOver(t *testing.T, conn net.Conn, path string) (sent int32) {
+	t.Helper()
+	replies := bufio.NewReader(conn)
+	unlessPutOff(func() (int, string) {
+		putOver(t, conn, path, "1")
+		sent++
+		got, err := http.ReadResponse(replies, nil)
+		if err != nil {
+			t.Fatal(err)
+		}
+		text, err := io.ReadAll(got.Body)
+		if err != nil || got.StatusCode != http.StatusCreated && !isPutOff(got.StatusCode, string(text)) {
+			t.Fatal(err, got.StatusCode, string(text))
+		}
+		return got.StatusCode, string(text)
+	})
+	return sent
 }
 
 // TestThePeerOfAConnection asks of connections as http.Server has them, before and after the caller closes them.
