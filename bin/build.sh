@@ -76,26 +76,26 @@ crates_below() {
         END { visit(crate) }' "$top/crates.txt"
 }
 
-# A whole build takes this many times as long as its first crate (bench/first_build.py).
-whole_by_first=16
+# A whole build takes this many times as long as its beginning up to rb_tree (bench/notes/first_build.md).
+whole_by_tree=6
 
-# Prints after the first crate how long the build will take. On a machine that kept proofs it takes less.
+# Prints how long the build will take, once rb_tree is proved: most crates stand on it, so it is one of the first. On a machine that kept
+# proofs it takes less.
 estimate() {
-    say "a build from nothing takes about $(($1 * whole_by_first / 60 + 1)) min on this machine"
+    say "a build from nothing takes about $(($1 * whole_by_tree / 60 + 1)) min on this machine"
     say 'bin/resb --unproved COMMAND answers in two minutes meanwhile; an interrupted build continues where it stopped'
 }
 
 # Reports each crate once it is proved, with the number of remaining crates and the time so far; on a terminal in one place.
 progress() {
     left=$(crates_below rb_tool | wc -l)
-    all=$left
     began=$(date +%s)
     while IFS= read -r line; do
         case $line in
             '== summary') ;;
             '== '*)
                 seconds=$(($(date +%s) - began))
-                [ "$left" != "$all" ] || estimate "$seconds"
+                [ "$line" != '== rb_tree' ] || estimate "$seconds"
                 left=$((left - 1))
                 time=$(printf '%d:%02d' $((seconds / 60)) $((seconds % 60)))
                 if [ -t 2 ]; then
@@ -117,7 +117,7 @@ prove_and_link() {
 }
 
 build() {
-    say 'proving and building; a first build takes a quarter to half an hour'
+    say 'proving and building; a first build takes 25 to 40 minutes'
     log=$(mktemp)
     began=$(mktemp)
     trap 'rm -f "$log" "$began"' EXIT

@@ -10,9 +10,9 @@ failed=0
 # checkout FOLDER: makes a checkout in which the program is built.
 checkout() {
     mkdir -p "$1/bin" "$1/crates/rb_tool/src" "$1/crates/rb_tool/specs" "$1/crates/rb_tool/proofs" "$1/crates/rb_tool/out"
-    mkdir "$1/crates/rb_arguments" "$1/crates/rb_inspect" "$1/crates/rb_requests"
+    mkdir "$1/crates/rb_arguments" "$1/crates/rb_tree" "$1/crates/rb_requests"
     cp "$top"/bin/* "$1/bin"
-    printf '%s\n' 'rb_arguments:' 'rb_requests:' 'rb_inspect:' 'rb_tool: rb_inspect rb_requests rb_arguments' >"$1/crates.txt"
+    printf '%s\n' 'rb_arguments:' 'rb_tree:' 'rb_requests: rb_tree' 'rb_tool: rb_requests rb_arguments' >"$1/crates.txt"
     echo 'fn main() {}' >"$1/crates/rb_tool/src/main.rt"
     touch -d '1 hour ago' "$1/crates.txt" "$1/crates/rb_tool/src/main.rt" "$1/crates/rb_tool/src" "$1/crates/rb_tool/specs"
     program "$1/crates/rb_tool/out/rb_tool"
@@ -82,7 +82,7 @@ rt() {
     printf '%s\n' '#!/bin/sh' 'echo "of rt: $*"' "$@" >"$tools/rt"
     chmod +x "$tools/rt"
 }
-building='resb: proving and building; a first build takes a quarter to half an hour'
+building='resb: proving and building; a first build takes 25 to 40 minutes'
 
 rt 'exit 1'
 trial 'a build that fails' "$building
@@ -91,16 +91,16 @@ resb: the build failed; 2" env RESB_JOBS=3 PATH="$tools" "$second/bin/resb" serv
 
 # It proves the crates, links the program, and prints its version, as the real one does.
 rt 'case $* in' \
-    "'all check --jobs 3') echo '== rb_arguments'; echo '== rb_inspect'; echo '== rb_requests'; echo '== rb_tool'; echo '== summary' ;;" \
+    "'all check --jobs 3') echo '== rb_arguments'; echo '== rb_tree'; echo '== rb_requests'; echo '== rb_tool'; echo '== summary' ;;" \
     "*) $(command -v mv) '$made/rb_tool' out/rb_tool; echo 'resb 0.0.0' ;;" \
     'esac'
 trial 'a build says so on standard error, and nothing of it is on standard output' 'ran: check a; 0' \
     env RESB_JOBS=3 PATH="$tools" /bin/sh -c '"$0" check a 2>"$1"' "$second/bin/resb" "$made/said"
 trial 'each crate has a line' "$building
+resb: 0:00: rb_arguments is checked, 3 to go
 resb: a build from nothing takes about 1 min on this machine
 resb: bin/resb --unproved COMMAND answers in two minutes meanwhile; an interrupted build continues where it stopped
-resb: 0:00: rb_arguments is checked, 3 to go
-resb: 0:00: rb_inspect is checked, 2 to go
+resb: 0:00: rb_tree is checked, 2 to go
 resb: 0:00: rb_requests is checked, 1 to go
 resb: 0:00: rb_tool is checked, 0 to go; 0" sed -E 's/0:[0-9]+:/0:00:/' "$made/said"
 touch -d '1 hour ago' "$second/crates/rb_tool/src/main.rt"
