@@ -110,8 +110,8 @@ fn every_kind_is_viewed(rt: HostRuntime) {
     assert!(rt; has_every_kind(bundle) == Some(true));
 }
 
-/// Counts the marked blocks of a file with an alias of twice this many letters, and the letters that
-/// can be skipped from one on.
+/// Counts the marked blocks of a file with an alias of twice this many letters, and those letters
+/// that can be skipped from one on.
 fn passed_over(alloc: Global, pairs: u16, from: usize) -> Option<(usize, usize)> {
     let bundle = bundle(alloc, file_of_alias(alloc, pairs))?;
     let marked = bundle.blocks().iter().filter(|marked| **marked).count();
@@ -122,8 +122,8 @@ fn passed_over(alloc: Global, pairs: u16, from: usize) -> Option<(usize, usize)>
     }
 }
 
-/// Checks three aliases. The text begins at half word 16, and of 5,000 letters the blocks from 1,024
-/// to 4,096 have letters alone.
+/// Checks three aliases. The text begins at half word 16, and of 5,000 letters the blocks from
+/// 1,024 to 4,096 have letters alone.
 fn are_passed_over(alloc: Global) -> bool {
     passed_over(alloc, 2_500, 2_000) == Some((3, 2_080))
         && passed_over(alloc, 2_500, 4_500) == Some((3, 0))

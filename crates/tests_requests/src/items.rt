@@ -16,13 +16,16 @@ fn is_text(alloc: Global, units: &[u16], rest: &[u8], text: &str) -> bool {
     }
 }
 
+fn are_texts(alloc: Global) -> bool {
+    let text = "{\"rest\":\"x\",\"type\":\"alias\",\"value\":\"/a\"}";
+    let no_rest = "{\"rest\":\"\",\"type\":\"alias\",\"value\":\"a\"}";
+    let no_text = "{\"rest\":\"b/1\",\"type\":\"alias\",\"units\":[55296]}";
+    is_text(alloc, &[0x2F, 0x61], b"x", text)
+        && is_text(alloc, &[0x61], b"", no_rest)
+        && is_text(alloc, &[0xD800], b"b/1", no_text)
+}
+
 #[test]
 fn aliases_have_a_rest(rt: HostRuntime) {
-    let alloc = rt.alloc();
-    let text = "{\"rest\":\"x\",\"type\":\"alias\",\"value\":\"/a\"}";
-    assert!(rt; is_text(alloc, &[0x2F, 0x61], b"x", text));
-    let no_rest = "{\"rest\":\"\",\"type\":\"alias\",\"value\":\"a\"}";
-    assert!(rt; is_text(alloc, &[0x61], b"", no_rest));
-    let no_text = "{\"rest\":\"b/1\",\"type\":\"alias\",\"units\":[55296]}";
-    assert!(rt; is_text(alloc, &[0xD800], b"b/1", no_text));
+    assert!(rt; are_texts(rt.alloc()));
 }

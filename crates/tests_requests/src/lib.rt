@@ -1,11 +1,10 @@
-//! Tests requests by the line (`rb_requests`) and the lines of replies (`rb_replies`).
-//! `tests/replies.sh` tests more lines through the program.
+//! Tests requests by the line (`rb_requests`) and the lines of replies (`rb_replies`): readers and
+//! writers that fail, limits and pieces. `tests/replies.sh` tests requests, and extended ones,
+//! through the program.
 #![tactic(auto)]
 
 #[cfg(test)]
 mod devices;
-#[cfg(test)]
-mod extended;
 #[cfg(test)]
 mod items;
 #[cfg(test)]

@@ -65,15 +65,19 @@ fn answers_before_read(rt: &HostRuntime, failing: usize) -> Option<bool> {
     )
 }
 
-/// The last call of the reader reports the end.
+/// Checks each call of the reader, of which the last one reports the end.
+fn answers_before_each(rt: &HostRuntime) -> bool {
+    for failing in 0..RUN.len() + 1 {
+        if answers_before_read(rt, failing) != Some(true) {
+            return false;
+        }
+    }
+    true
+}
+
 #[test]
 fn answers_the_lines_before_each_failed_read(rt: HostRuntime) {
-    for failing in 0..RUN.len() + 1 {
-        assert!(rt;
-            answers_before_read(&rt, failing) == Some(true),
-            "at {failing}"
-        );
-    }
+    assert!(rt; answers_before_each(&rt));
 }
 
 /// Checks whether this many calls of the writer wrote these bytes. Each call takes a byte or flushes a
@@ -91,15 +95,19 @@ fn writes_before_failure(rt: &HostRuntime, failing: usize) -> Option<bool> {
     Some(fault == Some(ServeFault::Write) && wrote(failing, writer.written()))
 }
 
-#[test]
-fn writes_a_part_before_each_failed_write(rt: HostRuntime) {
+fn writes_before_each(rt: &HostRuntime) -> bool {
     let calls = REPLIES.len().saturating_add(feeds(REPLIES));
     for failing in 0..calls {
-        assert!(rt;
-            writes_before_failure(&rt, failing) == Some(true),
-            "at {failing}"
-        );
+        if writes_before_failure(rt, failing) != Some(true) {
+            return false;
+        }
     }
+    true
+}
+
+#[test]
+fn writes_a_part_before_each_failed_write(rt: HostRuntime) {
+    assert!(rt; writes_before_each(&rt));
 }
 
 /// Checks whether whole replies to the first lines are written if memory runs out, and else all.

@@ -183,11 +183,18 @@ fn is_item_streamed(rt: &HostRuntime, row: &str) -> bool {
     }
 }
 
+fn are_items_streamed(rt: &HostRuntime) -> bool {
+    for row in ITEMS.lines() {
+        if !is_item_streamed(rt, row) {
+            return false;
+        }
+    }
+    true
+}
+
 #[test]
 fn puts_long_items_piece_by_piece(rt: HostRuntime) {
-    for row in ITEMS.lines() {
-        assert!(rt; is_item_streamed(&rt, row), "{row}");
-    }
+    assert!(rt; are_items_streamed(&rt));
 }
 
 fn is_table_streamed(rt: &HostRuntime, keys: u32) -> bool {
@@ -199,6 +206,5 @@ fn is_table_streamed(rt: &HostRuntime, keys: u32) -> bool {
 
 #[test]
 fn puts_long_tables_piece_by_piece(rt: HostRuntime) {
-    assert!(rt; is_table_streamed(&rt, 2_000));
-    assert!(rt; is_table_streamed(&rt, 20_000));
+    assert!(rt; is_table_streamed(&rt, 2_000) && is_table_streamed(&rt, 20_000));
 }
