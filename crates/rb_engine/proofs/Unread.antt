@@ -10,11 +10,11 @@ use Rattle.rb_engine.specs.declared.request.Payload.TheVariants.{Text, File}
 use Rattle.rb_engine.specs.declared.request.Reply.TheVariants.{Memory}
 
 -- memory ran out for it, or it has none
-pub none_brought : (payload : Payload) (e : PayloadFault) → HasNone payload e
+pub none_incoming : (payload : Payload) (e : PayloadFault) → HasNone payload e
     → (unread_reply e ≡ Memory) ⊎ ((source : SourceTree) → HasBundle payload source → ⊥)
-none_brought (Text bytes) fault.BadText h = inr (λ source has. h has.0 source has.1)
-none_brought (File bytes) fault.BadFile h = inr (λ source has. h source has)
-none_brought (Text bytes) fault.BadFile h = absurd h
-none_brought (File bytes) fault.BadText h = absurd h
-none_brought (Text bytes) fault.Memory h = inl refl
-none_brought (File bytes) fault.Memory h = inl refl
+none_incoming (Text bytes) fault.BadText h = inr (λ source has. h has.0 source has.1)
+none_incoming (File bytes) fault.BadFile h = inr (λ source has. h source has)
+none_incoming (Text bytes) fault.BadFile h = absurd h
+none_incoming (File bytes) fault.BadText h = absurd h
+none_incoming (Text bytes) fault.Memory h = inl refl
+none_incoming (File bytes) fault.Memory h = inl refl

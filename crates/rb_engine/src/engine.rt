@@ -28,8 +28,8 @@ ghost use Rattle.rb_engine.specs.Start.{Loads, IsRefused, IsIndexed};
 ghost use Rattle.rb_engine.specs.declared.request.Payload.{Payload};
 
 use crate::app_shelves::AppShelves;
-use crate::brought::Brought;
 use crate::handle::{self, Change};
+use crate::incoming::IncomingBundle;
 use crate::open_locale::{OpenLocale, Stale, find_opened, is_current, look_opened, open_at};
 use crate::open_locales::OpenLocales;
 use crate::place::{Place, place_of};
@@ -160,8 +160,8 @@ impl Engine {
         ensures version { result ≡ Reply.Done → self.new.version ≡ next_version self.old.version }
         ensures unchanged { result ≢ Reply.Done → self.new ≡ self.old }
     {
-        match Brought::read_payload(alloc, app, locale, payload) {
-            Ok(brought) => self.put(change, brought),
+        match IncomingBundle::read_payload(alloc, app, locale, payload) {
+            Ok(incoming) => self.put(change, incoming),
             Err(reply) => reply,
         }
     }
@@ -169,24 +169,24 @@ impl Engine {
     /// Stores an incoming bundle: the part of `handle` after reading the payload. Any reply other
     /// than `Done` changes nothing and drops the bundle: `Exists`, `Full` and `Memory` for an
     /// install, `Absent` for a replacement, which allocates nothing.
-    pub fn put(&mut self, change: Change, brought: Brought) -> Reply
+    pub fn put(&mut self, change: Change, incoming: IncomingBundle) -> Reply
         ensures step { (app locale : List ℕ) → (payload : Payload)
-            → Reads app locale payload (Ok brought)
+            → Reads app locale payload (Ok incoming)
             → Step (state_of self.old) (Requests (change_request change app locale payload))
             (Replies result)
             (state_of self.new) }
-        ensures files { result ≡ Reply.Done → files_of brought.0.app self.new.packages
-            ≡ files_after change brought.0.name brought.1
-            (files_of brought.0.app self.old.packages) }
+        ensures files { result ≡ Reply.Done → files_of incoming.0.app self.new.packages
+            ≡ files_after change incoming.0.name incoming.1
+            (files_of incoming.0.app self.old.packages) }
         ensures apps { result ≡ Reply.Done → apps_of self.new.packages
-            ≡ apps_of self.old.packages + more_apps (files_of brought.0.app self.old.packages) }
-        ensures others { OthersStay brought.0.app self.old.packages self.new.packages }
+            ≡ apps_of self.old.packages + more_apps (files_of incoming.0.app self.old.packages) }
+        ensures others { OthersStay incoming.0.app self.old.packages self.new.packages }
         ensures parents { self.new.parents ≡ self.old.parents }
         ensures version { result ≡ Reply.Done → self.new.version ≡ next_version self.old.version }
         ensures unchanged { result ≢ Reply.Done → self.new ≡ self.old }
         ensures memory { change ≡ Change.Replace → result ≢ Reply.Memory }
     {
-        let (place, bundle) = brought.into_parts();
+        let (place, bundle) = incoming.into_parts();
         match change {
             Change::Install => {
                 handle::install(&mut self.packages, &mut self.version, &place, bundle)
@@ -292,11 +292,11 @@ impl Engine {
     }
 
     /// Returns the length of the file that is stored under the incoming bundle's name.
-    pub fn file_len(&self, brought: &Brought) -> Option<u64>
+    pub fn file_len(&self, incoming: &IncomingBundle) -> Option<u64>
         ensures { result
-            ≡ option_map length (file_at brought.now.0.app brought.now.0.name self.now.packages) }
+            ≡ option_map length (file_at incoming.now.0.app incoming.now.0.name self.now.packages) }
     {
-        let place = brought.place();
+        let place = incoming.place();
         self.packages.file_len(&place.app, &place.name)
     }
 

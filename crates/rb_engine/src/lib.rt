@@ -3,10 +3,10 @@
 #![tactic(auto)]
 
 mod app_shelves;
-mod brought;
 mod compiling;
 mod engine;
 mod handle;
+mod incoming;
 mod item_shelf;
 mod judging;
 pub mod laws;
@@ -20,10 +20,10 @@ mod start;
 mod words;
 
 pub use app_shelves::AppShelves;
-pub use brought::Brought;
 pub use compiling::compile;
 pub use engine::Engine;
 pub use handle::Change;
+pub use incoming::IncomingBundle;
 pub use judging::ReadFault;
 pub use open_locale::{OpenLocale, Stale};
 pub use rb_packages::{App, AppFault, BUNDLE_LIMIT, Draft, DraftFault, Usage};

@@ -22,7 +22,7 @@ use Rattle.rb_engine.specs.declared.request.Reply.TheVariants as reply
 use Rattle.rb_engine.specs.declared.request.Request.TheVariants as request
 use Rattle.rb_engine.proofs.Histories.{answer_not_memory}
 use Rattle.rb_engine.proofs.StepLemmas.{app-place_of}
-use Rattle.rb_engine.proofs.Unread.{none_brought}
+use Rattle.rb_engine.proofs.Unread.{none_incoming}
 use Rattle.rb_requests.specs.Limits.{is_over, payload_len, file_refusal, change_refusal, call_refusal}
 use Rattle.rb_requests.specs.Steps.{Answers, Refuses, BringsAt, CallBrings, is_read, may_starve, IsAnswered, CallComesTo, put_file, taken_out, files_then}
 use Rattle.rb_requests.specs.inner.LongPayload.{long_payload}
@@ -39,15 +39,15 @@ caller_is : (made : Change) (app locale : List ℕ) (payload : Payload) → call
 caller_is change.Install app locale payload = refl
 caller_is change.Replace app locale payload = refl
 
-brings_is : (limits : Limits) (made : Change) (app locale : List ℕ) (payload : Payload) (brought : Option (List ℕ))
-    → BringsAt limits (place_of app locale) payload brought → CallBrings limits (asks made app locale payload) brought
-brings_is limits change.Install app locale payload brought h = h
-brings_is limits change.Replace app locale payload brought h = h
+brings_is : (limits : Limits) (made : Change) (app locale : List ℕ) (payload : Payload) (incoming : Option (List ℕ))
+    → BringsAt limits (place_of app locale) payload incoming → CallBrings limits (asks made app locale payload) incoming
+brings_is limits change.Install app locale payload incoming h = h
+brings_is limits change.Replace app locale payload incoming h = h
 
-refusal_is : (limits : Limits) (k : Kept) (made : Change) (app locale : List ℕ) (payload : Payload) (brought : Option (List ℕ))
-    → call_refusal limits k (asks made app locale payload) brought ≡ change_refusal limits k made (place_of app locale) payload brought
-refusal_is limits k change.Install app locale payload brought = refl
-refusal_is limits k change.Replace app locale payload brought = refl
+refusal_is : (limits : Limits) (k : Kept) (made : Change) (app locale : List ℕ) (payload : Payload) (incoming : Option (List ℕ))
+    → call_refusal limits k (asks made app locale payload) incoming ≡ change_refusal limits k made (place_of app locale) payload incoming
+refusal_is limits k change.Install app locale payload incoming = refl
+refusal_is limits k change.Replace app locale payload incoming = refl
 
 read_starves : (limits : Limits) (made : Change) (app locale : List ℕ) (payload : Payload) → is_read limits (place_of app locale) payload ≡ true
     → may_starve limits (asks made app locale payload) ≡ true
@@ -59,31 +59,31 @@ named_place : (made : Change) (app locale : List ℕ) (payload : Payload) → ma
 named_place change.Install app locale payload h = h
 named_place change.Replace app locale payload h = h
 
-files_put : (made : Change) (app locale : List ℕ) (payload : Payload) (brought : Option (List ℕ)) (files : Files)
-    → files_then (asks made app locale payload) brought (Replies reply.Done) files ≡ put_file made (place_of app locale) brought files
-files_put change.Install app locale payload brought files = refl
-files_put change.Replace app locale payload brought files = refl
+files_put : (made : Change) (app locale : List ℕ) (payload : Payload) (incoming : Option (List ℕ)) (files : Files)
+    → files_then (asks made app locale payload) incoming (Replies reply.Done) files ≡ put_file made (place_of app locale) incoming files
+files_put change.Install app locale payload incoming files = refl
+files_put change.Replace app locale payload incoming files = refl
 
 -- ---- answers of the engine
 
 -- a reply is `Done`, `Memory` or another, which changes no files
-data Told (call : Call) (brought : Option (List ℕ)) (r : Reply) : Type 0 where
-  done : r ≡ reply.Done → Told call brought r
-  memory : r ≡ reply.Memory → Told call brought r
-  other : r ≢ reply.Done → is_memory_reply r ≡ false → ((files : Files) → files_then call brought (Replies r) files ≡ files) → Told call brought r
+data Told (call : Call) (incoming : Option (List ℕ)) (r : Reply) : Type 0 where
+  done : r ≡ reply.Done → Told call incoming r
+  memory : r ≡ reply.Memory → Told call incoming r
+  other : r ≢ reply.Done → is_memory_reply r ≡ false → ((files : Files) → files_then call incoming (Replies r) files ≡ files) → Told call incoming r
 
-told : (call : Call) (brought : Option (List ℕ)) (r : Reply) → Told call brought r
-told call brought reply.Done = done refl
-told call brought reply.Memory = memory refl
-told call brought (reply.Names names) = other (λ e. cc) refl (λ files. refl)
-told call brought reply.BadApp = other (λ e. cc) refl (λ files. refl)
-told call brought reply.Reserved = other (λ e. cc) refl (λ files. refl)
-told call brought reply.BadLocale = other (λ e. cc) refl (λ files. refl)
-told call brought reply.BadText = other (λ e. cc) refl (λ files. refl)
-told call brought reply.BadFile = other (λ e. cc) refl (λ files. refl)
-told call brought reply.Exists = other (λ e. cc) refl (λ files. refl)
-told call brought reply.Absent = other (λ e. cc) refl (λ files. refl)
-told call brought reply.Full = other (λ e. cc) refl (λ files. refl)
+told : (call : Call) (incoming : Option (List ℕ)) (r : Reply) → Told call incoming r
+told call incoming reply.Done = done refl
+told call incoming reply.Memory = memory refl
+told call incoming (reply.Names names) = other (λ e. cc) refl (λ files. refl)
+told call incoming reply.BadApp = other (λ e. cc) refl (λ files. refl)
+told call incoming reply.Reserved = other (λ e. cc) refl (λ files. refl)
+told call incoming reply.BadLocale = other (λ e. cc) refl (λ files. refl)
+told call incoming reply.BadText = other (λ e. cc) refl (λ files. refl)
+told call incoming reply.BadFile = other (λ e. cc) refl (λ files. refl)
+told call incoming reply.Exists = other (λ e. cc) refl (λ files. refl)
+told call incoming reply.Absent = other (λ e. cc) refl (λ files. refl)
+told call incoming reply.Full = other (λ e. cc) refl (λ files. refl)
 
 not_memory : (k k' : Kept) (call : Call) (r : Reply) → Step (state_of k) call (Replies r) (state_of k') → is_memory_reply r ≡ false
     → Answered (state_of k) call (Replies r) (state_of k')
@@ -98,11 +98,11 @@ starved_may k k' call r (inr s) m =
     let answered : is_memory (Replies r) ≡ false = ap is_memory s.right ∙ answer_not_memory _ _ s.ask in
     absurd (false≢true (sym answered ∙ ap is_memory_reply m))
 
-same_answered : (limits : Limits) (k : Kept) (call : Call) (brought : Option (List ℕ)) (response : Response) → call_refusal limits k call brought ≡ None
+same_answered : (limits : Limits) (k : Kept) (call : Call) (incoming : Option (List ℕ)) (response : Response) → call_refusal limits k call incoming ≡ None
     → Answered (state_of k) call response (state_of k) → is_memory response ≡ false
-    → files_then call brought response (files_of (caller call) k.packages) ≡ files_of (caller call) k.packages
-    → IsAnswered limits k call brought (Answers response) k
-same_answered limits k call brought response free answered told files = record {
+    → files_then call incoming response (files_of (caller call) k.packages) ≡ files_of (caller call) k.packages
+    → IsAnswered limits k call incoming (Answers response) k
+same_answered limits k call incoming response free answered told files = record {
   free = free;
   response = response;
   answer = refl;
@@ -116,19 +116,19 @@ same_answered limits k call brought response free answered told files = record {
 }
 
 -- a call that changes nothing
-pub unchanged : (limits : Limits) (k : Kept) (call : Call) (brought : Option (List ℕ)) (r : Reply) → CallBrings limits call brought
-    → call_refusal limits k call brought ≡ None → (r ≡ reply.Memory → may_starve limits call ≡ true) → Step (state_of k) call (Replies r) (state_of k)
-    → (r ≡ reply.Done → files_then call brought (Replies reply.Done) (files_of (caller call) k.packages) ≡ files_of (caller call) k.packages)
+pub unchanged : (limits : Limits) (k : Kept) (call : Call) (incoming : Option (List ℕ)) (r : Reply) → CallBrings limits call incoming
+    → call_refusal limits k call incoming ≡ None → (r ≡ reply.Memory → may_starve limits call ≡ true) → Step (state_of k) call (Replies r) (state_of k)
+    → (r ≡ reply.Done → files_then call incoming (Replies reply.Done) (files_of (caller call) k.packages) ≡ files_of (caller call) k.packages)
     → CallComesTo limits k call (Answers (Replies r)) k
-unchanged limits k call brought r brings free may step files = by (told call brought r)
+unchanged limits k call incoming r brings free may step files = by (told call incoming r)
   where
-    by : Told call brought r → CallComesTo limits k call (Answers (Replies r)) k
+    by : Told call incoming r → CallComesTo limits k call (Answers (Replies r)) k
     by (done e) =
         let answered = not_memory k k call r step (ap is_memory_reply e) in
-        let kept = subst (λ (x : Reply). files_then call brought (Replies x) (files_of (caller call) k.packages) ≡ files_of (caller call) k.packages) (sym e) (files e) in
-        inr (brought, brings, inr (same_answered limits k call brought (Replies r) free answered (ap is_memory_reply e) kept))
+        let kept = subst (λ (x : Reply). files_then call incoming (Replies x) (files_of (caller call) k.packages) ≡ files_of (caller call) k.packages) (sym e) (files e) in
+        inr (incoming, brings, inr (same_answered limits k call incoming (Replies r) free answered (ap is_memory_reply e) kept))
     by (memory e) = inl (record { memory = ap (λ (x : Reply). Answers (Replies x)) e; may = may e; same = refl })
-    by (other n m f) = inr (brought, brings, inr (same_answered limits k call brought (Replies r) free (not_memory k k call r step m) m (f _)))
+    by (other n m f) = inr (incoming, brings, inr (same_answered limits k call incoming (Replies r) free (not_memory k k call r step m) m (f _)))
 
 -- ---- payloads
 
@@ -181,7 +181,7 @@ put_nothing made (Ok p) files = refl
 read_nothing : (limits : Limits) (app locale : List ℕ) (payload : Payload) (r : Reply) → long_payload limits (place_of app locale) payload ≡ false
     → Reads app locale payload (Err r) → (r ≡ reply.Memory) ⊎ BringsAt limits (place_of app locale) payload None
 read_nothing limits app locale payload r long (inl (e, is, x)) = inr (rw is refl)
-read_nothing limits app locale payload r long (inr (p, e, is, none, x)) = elim (none_brought payload e none) [
+read_nothing limits app locale payload r long (inr (p, e, is, none, x)) = elim (none_incoming payload e none) [
   | inl m ↦ inl (x ∙ m)
   | inr brings ↦ let short = rw is at long in inr (rw (is, short) brings)
 ]

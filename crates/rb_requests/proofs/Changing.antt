@@ -67,19 +67,19 @@ judges_unread limits app locale payload Memory none short h = read_by limits (ap
 -- ---- payloads that are read
 
 -- a payload with a bundle brings a file
-brings_file : {E : Type 0} (limits : Limits) (r : Result Place E) (payload : Payload) (source : SourceTree) (brought : Option (List ℕ))
-    → HasBundle payload source → is_read limits r payload ≡ true → BringsAt limits r payload brought
-    → (file : List ℕ) × (brought ≡ Some file)
-brings_file limits (Err e) payload source brought has read brings = absurd (false≢true read)
+brings_file : {E : Type 0} (limits : Limits) (r : Result Place E) (payload : Payload) (source : SourceTree) (incoming : Option (List ℕ))
+    → HasBundle payload source → is_read limits r payload ≡ true → BringsAt limits r payload incoming
+    → (file : List ℕ) × (incoming ≡ Some file)
+brings_file limits (Err e) payload source incoming has read brings = absurd (false≢true read)
 brings_file limits (Ok p) payload source None has read brings =
     absurd (MatchBool-at_false (◌≡◌ {A = Option (List ℕ)} None None) (Brings payload None) (not_true (is_over limits.bundle_bytes (payload_len payload)) read) brings
     source has)
 brings_file limits (Ok p) payload source (Some file) has read brings = (file, refl)
 
-brings_at : (limits : Limits) (made : Change) (app locale : List ℕ) (payload : Payload) (brought : Option (List ℕ))
-    → CallBrings limits (Requests (change_request made app locale payload)) brought → BringsAt limits (place_of app locale) payload brought
-brings_at limits change.Install app locale payload brought h = h
-brings_at limits change.Replace app locale payload brought h = h
+brings_at : (limits : Limits) (made : Change) (app locale : List ℕ) (payload : Payload) (incoming : Option (List ℕ))
+    → CallBrings limits (Requests (change_request made app locale payload)) incoming → BringsAt limits (place_of app locale) payload incoming
+brings_at limits change.Install app locale payload incoming h = h
+brings_at limits change.Replace app locale payload incoming h = h
 
 -- a call whose payload is read is answered by its outcome
 pub change_told : (limits : Limits) (old new : Kept) (made : Change) (app locale : List ℕ) (payload : Payload) (b : Place × List ℕ)
@@ -87,9 +87,9 @@ pub change_told : (limits : Limits) (old new : Kept) (made : Change) (app locale
     → Reads app locale payload (Ok b) → is_read limits (place_of app locale) payload ≡ true
     → CallIsJudged limits old (Requests (change_request made app locale payload)) outcome new → text ≡ line outcome
     → ChangeReply limits old made app locale payload line text new
-change_told limits old new made app locale payload b outcome line text reads read (brought, brings, judged) told =
-    let at = brings_at limits made app locale payload brought brings in
-    let is = brings_file limits (place_of app locale) payload (source_tree_of b.1) brought reads.1 read at in
+change_told limits old new made app locale payload b outcome line text reads read (incoming, brings, judged) told =
+    let at = brings_at limits made app locale payload incoming brings in
+    let is = brings_file limits (place_of app locale) payload (source_tree_of b.1) incoming reads.1 read at in
     inr (
       is.0,
       outcome,

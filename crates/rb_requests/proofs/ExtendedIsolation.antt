@@ -31,7 +31,7 @@ use Rattle.rb_requests.specs.ExportReply.{ExportReply, FileReply, limited_line, 
 use Rattle.rb_requests.specs.ExtendedAsked.{ExtendedAsk, Calls, Puts, Releases, Exports, AsksTree, AsksSizes, AsksUsage, ReleaseChange, extended_of}
 use Rattle.rb_requests.specs.ExtendedIsolation.{IsSame, RepliesAlike, LeavesAlone, AreExtendedIsolated, extended_asker, asks_of, is_line_of, has_all_apps, lines_of_app, replies_to_app}
 use Rattle.rb_requests.specs.ExtendedReply.{AskReply, CalledReply, ChangeReply, ExtendedReply, ExtendedWithin, PutReply, ReleaseReply, is_stored, put_change, stored_line}
-use Rattle.rb_requests.specs.Limits.{is_over, payload_len, len_at, takes_place, used, used_with, file_refusal, brought_refusal, change_refusal, steps_refusal, call_refusal}
+use Rattle.rb_requests.specs.Limits.{is_over, payload_len, len_at, takes_place, used, used_with, file_refusal, incoming_refusal, change_refusal, steps_refusal, call_refusal}
 use Rattle.rb_requests.specs.Lines.{RepliesBy}
 use Rattle.rb_requests.specs.Refused.{Reason}
 use Rattle.rb_requests.specs.Released.{HaveEdits, IsFirstRefused, IsReleased, IsSumRefused, IsUnreleased, sum_refusal}
@@ -78,20 +78,20 @@ file_alike limits change n files a b file e =
     (cond (is_over limits.app_bytes (used_with n files (length file))) (Some OverQuota)
     (cond (eqb (length files) 0 && over) (Some TooManyApps) None)))) e
 
-brought_alike : (limits : Limits) (k l : Kept) (change : Change) (p : Place) (brought : Option (List ℕ))
+incoming_alike : (limits : Limits) (k l : Kept) (change : Change) (p : Place) (incoming : Option (List ℕ))
     → files_of p.app k.packages ≡ files_of p.app l.packages → has_all_apps limits k ≡ has_all_apps limits l
-    → brought_refusal limits k change p brought ≡ brought_refusal limits l change p brought
-brought_alike limits k l change p None e f = refl
-brought_alike limits k l change p (Some file) e f =
+    → incoming_refusal limits k change p incoming ≡ incoming_refusal limits l change p incoming
+incoming_alike limits k l change p None e f = refl
+incoming_alike limits k l change p (Some file) e f =
     file_alike limits change p.name (files_of p.app k.packages) (apps_of k.packages) (apps_of l.packages) file f
     ∙ ap (λ (files : Files). file_refusal limits change p.name files (apps_of l.packages) file) e
 
-change_alike : {E : Type 0} (limits : Limits) (k l : Kept) (change : Change) (r : Result Place E) (payload : Payload) (brought : Option (List ℕ))
+change_alike : {E : Type 0} (limits : Limits) (k l : Kept) (change : Change) (r : Result Place E) (payload : Payload) (incoming : Option (List ℕ))
     → ((p : Place) → r ≡ Ok p → files_of p.app k.packages ≡ files_of p.app l.packages) → has_all_apps limits k ≡ has_all_apps limits l
-    → change_refusal limits k change r payload brought ≡ change_refusal limits l change r payload brought
-change_alike limits k l change (Err e) payload brought h f = refl
-change_alike limits k l change (Ok p) payload brought h f =
-    ap (λ (x : Option Refusal). cond (is_over limits.bundle_bytes (payload_len payload)) (Some BundleTooLong) x) (brought_alike limits k l change p brought (h p refl) f)
+    → change_refusal limits k change r payload incoming ≡ change_refusal limits l change r payload incoming
+change_alike limits k l change (Err e) payload incoming h f = refl
+change_alike limits k l change (Ok p) payload incoming h f =
+    ap (λ (x : Option Refusal). cond (is_over limits.bundle_bytes (payload_len payload)) (Some BundleTooLong) x) (incoming_alike limits k l change p incoming (h p refl) f)
 
 -- what holds of an application holds of that of its place
 at_place : (app locale : List ℕ) (Holds : List ℕ → Type 0) → Holds app → (p : Place) → place_of app locale ≡ Ok p → Holds p.app
@@ -100,15 +100,15 @@ at_place app locale Holds h p is = subst Holds (sym (app-place_of app locale p i
 abbrev SameFiles : Kept → Kept → List ℕ → Type 0
 SameFiles k l app = files_of app k.packages ≡ files_of app l.packages
 
-refused_alike : (limits : Limits) (k l : Kept) (call : Call) (brought : Option (List ℕ)) → IsSame (caller call) k l
-    → has_all_apps limits k ≡ has_all_apps limits l → call_refusal limits k call brought ≡ call_refusal limits l call brought
-refused_alike limits k l (Requests (request.Install app locale payload)) brought h f =
-    change_alike limits k l made.Install (place_of app locale) payload brought (at_place app locale (SameFiles k l) h.files) f
-refused_alike limits k l (Requests (request.Replace app locale payload)) brought h f =
-    change_alike limits k l made.Replace (place_of app locale) payload brought (at_place app locale (SameFiles k l) h.files) f
-refused_alike limits k l (Requests (request.Remove app locale)) brought h f = refl
-refused_alike limits k l (Requests (request.List app)) brought h f = refl
-refused_alike limits k l (LooksUp app locale path) brought h f =
+refused_alike : (limits : Limits) (k l : Kept) (call : Call) (incoming : Option (List ℕ)) → IsSame (caller call) k l
+    → has_all_apps limits k ≡ has_all_apps limits l → call_refusal limits k call incoming ≡ call_refusal limits l call incoming
+refused_alike limits k l (Requests (request.Install app locale payload)) incoming h f =
+    change_alike limits k l made.Install (place_of app locale) payload incoming (at_place app locale (SameFiles k l) h.files) f
+refused_alike limits k l (Requests (request.Replace app locale payload)) incoming h f =
+    change_alike limits k l made.Replace (place_of app locale) payload incoming (at_place app locale (SameFiles k l) h.files) f
+refused_alike limits k l (Requests (request.Remove app locale)) incoming h f = refl
+refused_alike limits k l (Requests (request.List app)) incoming h f = refl
+refused_alike limits k l (LooksUp app locale path) incoming h f =
     ap (λ (start : Start). steps_refusal limits.steps start (list_of app k.packages) app locale path) h.start
     ∙ ap (λ (files : Files). steps_refusal limits.steps (state_of l).start (shelf_of files) app locale path) h.files
 
@@ -141,49 +141,49 @@ answered_alike k k' l l' call response h t start own others =
     }
 
 -- an answer that changes nothing
-kept_alike : (limits : Limits) (k l : Kept) (call : Call) (brought : Option (List ℕ)) (outcome : Outcome) → IsSame (caller call) k l
-    → has_all_apps limits k ≡ has_all_apps limits l → (p : IsAnswered limits k call brought outcome k) → IsAnswered limits l call brought outcome l
-kept_alike limits k l call brought outcome h f p =
+kept_alike : (limits : Limits) (k l : Kept) (call : Call) (incoming : Option (List ℕ)) (outcome : Outcome) → IsSame (caller call) k l
+    → has_all_apps limits k ≡ has_all_apps limits l → (p : IsAnswered limits k call incoming outcome k) → IsAnswered limits l call incoming outcome l
+kept_alike limits k l call incoming outcome h f p =
     let app = caller call in
     record {
-      free = sym (refused_alike limits k l call brought h f) ∙ p.free;
+      free = sym (refused_alike limits k l call incoming h f) ∙ p.free;
       response = p.response;
       answer = p.answer;
       told = p.told;
       answered = answered_alike k k l l call p.response h p.answered refl (sym h.files) (λ a n. refl);
-      own = sym h.files ∙ p.own ∙ ap (λ (files : Files). files_then call brought p.response files) h.files;
+      own = sym h.files ∙ p.own ∙ ap (λ (files : Files). files_then call incoming p.response files) h.files;
       others = λ a n. refl;
       icudata = refl;
       parents = refl;
       kept = λ n. refl;
     }
 
-done_alike : (limits : Limits) (k k' l : Kept) (call : Call) (brought : Option (List ℕ)) (outcome : Outcome) → IsSame (caller call) k l
-    → has_all_apps limits k ≡ has_all_apps limits l → (p : IsAnswered limits k call brought outcome k') → p.response ≡ Replies Done
-    → IsAnswered limits l call brought outcome (with_files (caller call) (files_of (caller call) k'.packages) l l.version)
-done_alike limits k k' l call brought outcome h f p done =
+done_alike : (limits : Limits) (k k' l : Kept) (call : Call) (incoming : Option (List ℕ)) (outcome : Outcome) → IsSame (caller call) k l
+    → has_all_apps limits k ≡ has_all_apps limits l → (p : IsAnswered limits k call incoming outcome k') → p.response ≡ Replies Done
+    → IsAnswered limits l call incoming outcome (with_files (caller call) (files_of (caller call) k'.packages) l l.version)
+done_alike limits k k' l call incoming outcome h f p done =
     let app = caller call in
     let files = files_of app k'.packages in
     let own = own_files app files l l.version in
     let others = other_files app files l l.version in
     record {
-      free = sym (refused_alike limits k l call brought h f) ∙ p.free;
+      free = sym (refused_alike limits k l call incoming h f) ∙ p.free;
       response = p.response;
       answer = p.answer;
       told = p.told;
       answered = answered_alike k k' l (with_files app files l l.version) call p.response h p.answered refl own others;
-      own = own ∙ p.own ∙ ap (λ (files : Files). files_then call brought p.response files) h.files;
+      own = own ∙ p.own ∙ ap (λ (files : Files). files_then call incoming p.response files) h.files;
       others = others;
       icudata = refl;
       parents = refl;
       kept = λ n. absurd (n done);
     }
 
-refuses_alike : (limits : Limits) (k k' l : Kept) (call : Call) (brought : Option (List ℕ)) (outcome : Outcome) → IsSame (caller call) k l
-    → has_all_apps limits k ≡ has_all_apps limits l → IsRefused limits k call brought outcome k' → IsRefused limits l call brought outcome l
-refuses_alike limits k k' l call brought outcome h f p = record {
+refuses_alike : (limits : Limits) (k k' l : Kept) (call : Call) (incoming : Option (List ℕ)) (outcome : Outcome) → IsSame (caller call) k l
+    → has_all_apps limits k ≡ has_all_apps limits l → IsRefused limits k call incoming outcome k' → IsRefused limits l call incoming outcome l
+refuses_alike limits k k' l call incoming outcome h f p = record {
   refusal = p.refusal;
-  refused = sym (refused_alike limits k l call brought h f) ∙ p.refused;
+  refused = sym (refused_alike limits k l call incoming h f) ∙ p.refused;
   word = p.word;
   same = refl;
 }
@@ -192,38 +192,38 @@ refuses_alike limits k k' l call brought outcome h f p = record {
 abbrev Alike : (List ℕ) → Kept → (Kept → Type 0) → Type 0
 Alike app k' Reply = (l' : Kept) × Reply l' × IsSame app k' l'
 
-judged_alike : (limits : Limits) (k k' l : Kept) (call : Call) (brought : Option (List ℕ)) (outcome : Outcome) → IsSame (caller call) k l
-    → has_all_apps limits k ≡ has_all_apps limits l → IsJudged limits k call brought outcome k'
-    → Alike (caller call) k' (λ l'. IsJudged limits l call brought outcome l')
-judged_alike limits k k' l call brought outcome h f (inl p) =
-    (l, inl (refuses_alike limits k k' l call brought outcome h f p), same_as (caller call) k k' l p.same h)
-judged_alike limits k k' l call brought outcome h f (inr p) = by (is_done p.response) refl
+judged_alike : (limits : Limits) (k k' l : Kept) (call : Call) (incoming : Option (List ℕ)) (outcome : Outcome) → IsSame (caller call) k l
+    → has_all_apps limits k ≡ has_all_apps limits l → IsJudged limits k call incoming outcome k'
+    → Alike (caller call) k' (λ l'. IsJudged limits l call incoming outcome l')
+judged_alike limits k k' l call incoming outcome h f (inl p) =
+    (l, inl (refuses_alike limits k k' l call incoming outcome h f p), same_as (caller call) k k' l p.same h)
+judged_alike limits k k' l call incoming outcome h f (inr p) = by (is_done p.response) refl
   where
-    by : (b : Bool) → is_done p.response ≡ b → Alike (caller call) k' (λ l'. IsJudged limits l call brought outcome l')
+    by : (b : Bool) → is_done p.response ≡ b → Alike (caller call) k' (λ l'. IsJudged limits l call incoming outcome l')
     by true e =
         let app = caller call in
         let files = files_of app k'.packages in (
           with_files app files l l.version,
-          inr (done_alike limits k k' l call brought outcome h f p (done_is p.response e)),
+          inr (done_alike limits k k' l call incoming outcome h f p (done_is p.response e)),
           record { start = p.answered.start ∙ h.start; files = sym (own_files app files l l.version) },
         )
     by false e =
         let same : k' ≡ k = p.kept (λ d. false≢true (sym e ∙ ap is_done d)) in
-        let at_k = subst (λ (x : Kept). IsAnswered limits k call brought outcome x) same p in
-        (l, inr (kept_alike limits k l call brought outcome h f at_k), same_as (caller call) k k' l same h)
+        let at_k = subst (λ (x : Kept). IsAnswered limits k call incoming outcome x) same p in
+        (l, inr (kept_alike limits k l call incoming outcome h f at_k), same_as (caller call) k k' l same h)
 
 call_alike : (limits : Limits) (k k' l : Kept) (call : Call) (text : List ℕ) → IsSame (caller call) k l → has_all_apps limits k ≡ has_all_apps limits l
     → CallReply limits k call text k' → Alike (caller call) k' (λ l'. CallReply limits l call text l')
-call_alike limits k k' l call text h f (outcome, (brought, brings, judged), told) =
-    let j = judged_alike limits k k' l call brought outcome h f judged in (j.0, (outcome, (brought, brings, j.1), told), j.2)
+call_alike limits k k' l call text h f (outcome, (incoming, brings, judged), told) =
+    let j = judged_alike limits k k' l call incoming outcome h f judged in (j.0, (outcome, (incoming, brings, j.1), told), j.2)
 
 -- a lookup changes nothing
 looks_alike : (limits : Limits) (k l : Kept) (app locale path : List ℕ) (outcome : Outcome) → IsSame app k l → has_all_apps limits k ≡ has_all_apps limits l
     → CallIsJudged limits k (LooksUp app locale path) outcome k → CallIsJudged limits l (LooksUp app locale path) outcome l
-looks_alike limits k l app locale path outcome h f (brought, brings, inl p) =
-    (brought, brings, inl (refuses_alike limits k k l (LooksUp app locale path) brought outcome h f p))
-looks_alike limits k l app locale path outcome h f (brought, brings, inr p) =
-    (brought, brings, inr (kept_alike limits k l (LooksUp app locale path) brought outcome h f p))
+looks_alike limits k l app locale path outcome h f (incoming, brings, inl p) =
+    (incoming, brings, inl (refuses_alike limits k k l (LooksUp app locale path) incoming outcome h f p))
+looks_alike limits k l app locale path outcome h f (incoming, brings, inr p) =
+    (incoming, brings, inr (kept_alike limits k l (LooksUp app locale path) incoming outcome h f p))
 
 -- ---- a release that is made
 
@@ -416,10 +416,10 @@ replies_alike limits app line text k k' l own h f (inr (short, inr (keeps, told,
 
 -- ---- the lines of others
 
-judged_alone : (limits : Limits) (k k' : Kept) (call : Call) (brought : Option (List ℕ)) (outcome : Outcome) (app : List ℕ) → app ≢ caller call
-    → IsJudged limits k call brought outcome k' → IsSame app k k'
-judged_alone limits k k' call brought outcome app n (inl p) = stays app k k' p.same
-judged_alone limits k k' call brought outcome app n (inr p) = record { start = sym p.answered.start; files = sym (p.others app n) }
+judged_alone : (limits : Limits) (k k' : Kept) (call : Call) (incoming : Option (List ℕ)) (outcome : Outcome) (app : List ℕ) → app ≢ caller call
+    → IsJudged limits k call incoming outcome k' → IsSame app k k'
+judged_alone limits k k' call incoming outcome app n (inl p) = stays app k k' p.same
+judged_alone limits k k' call incoming outcome app n (inr p) = record { start = sym p.answered.start; files = sym (p.others app n) }
 
 change_alone : (limits : Limits) (k k' : Kept) (change : Change) (app' locale : List ℕ) (payload : Payload) (line : Outcome → List ℕ) (text app : List ℕ)
     → app ≢ app' → ChangeReply limits k change app' locale payload line text k' → IsSame app k k'
@@ -434,12 +434,12 @@ called_alone limits k k' (Requests (request.Install app' locale payload)) text a
     change_alone limits k k' made.Install app' locale payload (outcome_line limits) text app n r
 called_alone limits k k' (Requests (request.Replace app' locale payload)) text app n r =
     change_alone limits k k' made.Replace app' locale payload (outcome_line limits) text app n r
-called_alone limits k k' (Requests (request.Remove app' locale)) text app n (outcome, (brought, brings, judged), told) =
-    judged_alone limits k k' (Requests (request.Remove app' locale)) brought outcome app n judged
-called_alone limits k k' (Requests (request.List app')) text app n (outcome, (brought, brings, judged), told) =
-    judged_alone limits k k' (Requests (request.List app')) brought outcome app n judged
-called_alone limits k k' (LooksUp app' locale path) text app n (outcome, (brought, brings, judged), told) =
-    judged_alone limits k k' (LooksUp app' locale path) brought outcome app n judged
+called_alone limits k k' (Requests (request.Remove app' locale)) text app n (outcome, (incoming, brings, judged), told) =
+    judged_alone limits k k' (Requests (request.Remove app' locale)) incoming outcome app n judged
+called_alone limits k k' (Requests (request.List app')) text app n (outcome, (incoming, brings, judged), told) =
+    judged_alone limits k k' (Requests (request.List app')) incoming outcome app n judged
+called_alone limits k k' (LooksUp app' locale path) text app n (outcome, (incoming, brings, judged), told) =
+    judged_alone limits k k' (LooksUp app' locale path) incoming outcome app n judged
 
 release_alone : (limits : Limits) (k k' : Kept) (app' : List ℕ) (changes : List ReleaseChange) (text app : List ℕ) → app ≢ app'
     → ReleaseReply limits k app' changes text k' → IsSame app k k'

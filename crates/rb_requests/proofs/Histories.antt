@@ -22,7 +22,7 @@ use Rattle.rb_engine.specs.declared.request.Payload.{Payload}
 use Rattle.rb_engine.specs.declared.request.Payload.TheVariants.{Text, File}
 use Rattle.rb_engine.specs.declared.request.Request.TheVariants as request
 use Rattle.rb_engine.proofs.StepLemmas.{app-place_of}
-use Rattle.rb_requests.specs.Limits.{is_over, payload_len, len_at, takes_place, used_with, file_refusal, brought_refusal, change_refusal, steps_refusal, call_refusal}
+use Rattle.rb_requests.specs.Limits.{is_over, payload_len, len_at, takes_place, used_with, file_refusal, incoming_refusal, change_refusal, steps_refusal, call_refusal}
 use Rattle.rb_requests.specs.Steps.{Outcome, Answers, Refuses, Brings, BringsAt, CallBrings, Starves, IsRefused, IsAnswered, IsJudged, CallIsJudged, CallComesTo, files_then}
 use Rattle.rb_requests.specs.History.{Turn, Run, turns_of, asked_by, outcomes_to, ran_out_of_memory, was_one_too_many, IsIsolatedWithin}
 use Rattle.rb_requests.specs.declared.limits.Limits.{Limits}
@@ -35,16 +35,16 @@ one_file : (payload : Payload) (file other : List ℕ) → IsFileOf payload file
 one_file (Text bytes) file other f g = one_compiled bytes file other f g
 one_file (File bytes) file other f g = f ∙ sym g
 
-one_brought : (payload : Payload) (a b : Option (List ℕ)) → Brings payload a → Brings payload b → a ≡ b
-one_brought payload None None f g = refl
-one_brought payload None (Some other) f g = absurd (f (source_tree_of other) g.0)
-one_brought payload (Some file) None f g = absurd (g (source_tree_of file) f.0)
-one_brought payload (Some file) (Some other) f g = ap (λ (x : List ℕ). Some x) (one_file payload file other f.1 g.1)
+one_incoming : (payload : Payload) (a b : Option (List ℕ)) → Brings payload a → Brings payload b → a ≡ b
+one_incoming payload None None f g = refl
+one_incoming payload None (Some other) f g = absurd (f (source_tree_of other) g.0)
+one_incoming payload (Some file) None f g = absurd (g (source_tree_of file) f.0)
+one_incoming payload (Some file) (Some other) f g = ap (λ (x : List ℕ). Some x) (one_file payload file other f.1 g.1)
 
 one_if_read : (long : Bool) (payload : Payload) (a b : Option (List ℕ)) → MatchBool long (a ≡ None) (Brings payload a)
     → MatchBool long (b ≡ None) (Brings payload b) → a ≡ b
 one_if_read true payload a b f g = f ∙ sym g
-one_if_read false payload a b f g = one_brought payload a b f g
+one_if_read false payload a b f g = one_incoming payload a b f g
 
 one_at : {E : Type 0} (limits : Limits) (r : Result Place E) (payload : Payload) (a b : Option (List ℕ)) → BringsAt limits r payload a
     → BringsAt limits r payload b → a ≡ b
@@ -89,11 +89,11 @@ files_agree limits change name files a b file =
     orders_agree (takes_place change (len_at name files) (length files)) (is_over limits.bundle_bytes (length file))
     (is_over limits.app_bytes (used_with name files (length file))) (eqb (length files) 0) (is_over limits.apps (a + 1)) (is_over limits.apps (b + 1))
 
-brought_agree : (limits : Limits) (k l : Kept) (change : Change) (p : Place) (brought : Option (List ℕ))
+incoming_agree : (limits : Limits) (k l : Kept) (change : Change) (p : Place) (incoming : Option (List ℕ))
     → files_of p.app k.packages ≡ files_of p.app l.packages
-    → Agree (brought_refusal limits k change p brought) (brought_refusal limits l change p brought)
-brought_agree limits k l change p None e = inl refl
-brought_agree limits k l change p (Some file) e =
+    → Agree (incoming_refusal limits k change p incoming) (incoming_refusal limits l change p incoming)
+incoming_agree limits k l change p None e = inl refl
+incoming_agree limits k l change p (Some file) e =
     subst (λ (files : Files). Agree (file_refusal limits change p.name (files_of p.app k.packages) (apps_of k.packages) file)
     (file_refusal limits change p.name files (apps_of l.packages) file)) e
     (files_agree limits change p.name (files_of p.app k.packages) (apps_of k.packages) (apps_of l.packages) file)
@@ -106,25 +106,25 @@ long_agree false x y h = h
 at_app : (app locale : List ℕ) (Holds : List ℕ → Type 0) → Holds app → (p : Place) → place_of app locale ≡ Ok p → Holds p.app
 at_app app locale Holds h p is = subst Holds (sym (app-place_of app locale p is)) h
 
-change_agree : {E : Type 0} (limits : Limits) (k l : Kept) (change : Change) (r : Result Place E) (payload : Payload) (brought : Option (List ℕ))
+change_agree : {E : Type 0} (limits : Limits) (k l : Kept) (change : Change) (r : Result Place E) (payload : Payload) (incoming : Option (List ℕ))
     → ((p : Place) → r ≡ Ok p → files_of p.app k.packages ≡ files_of p.app l.packages)
-    → Agree (change_refusal limits k change r payload brought) (change_refusal limits l change r payload brought)
-change_agree limits k l change (Err e) payload brought h = inl refl
-change_agree limits k l change (Ok p) payload brought h =
-    long_agree (is_over limits.bundle_bytes (payload_len payload)) (brought_refusal limits k change p brought) (brought_refusal limits l change p brought)
-    (brought_agree limits k l change p brought (h p refl))
+    → Agree (change_refusal limits k change r payload incoming) (change_refusal limits l change r payload incoming)
+change_agree limits k l change (Err e) payload incoming h = inl refl
+change_agree limits k l change (Ok p) payload incoming h =
+    long_agree (is_over limits.bundle_bytes (payload_len payload)) (incoming_refusal limits k change p incoming) (incoming_refusal limits l change p incoming)
+    (incoming_agree limits k l change p incoming (h p refl))
 
-refusals_agree : (limits : Limits) (k l : Kept) (call : Call) (brought : Option (List ℕ)) → IsSame (caller call) k l
-    → Agree (call_refusal limits k call brought) (call_refusal limits l call brought)
-refusals_agree limits k l (Requests (request.Install app locale payload)) brought h =
-    change_agree limits k l made.Install (place_of app locale) payload brought
+refusals_agree : (limits : Limits) (k l : Kept) (call : Call) (incoming : Option (List ℕ)) → IsSame (caller call) k l
+    → Agree (call_refusal limits k call incoming) (call_refusal limits l call incoming)
+refusals_agree limits k l (Requests (request.Install app locale payload)) incoming h =
+    change_agree limits k l made.Install (place_of app locale) payload incoming
     (at_app app locale (λ a. files_of a k.packages ≡ files_of a l.packages) h.files)
-refusals_agree limits k l (Requests (request.Replace app locale payload)) brought h =
-    change_agree limits k l made.Replace (place_of app locale) payload brought
+refusals_agree limits k l (Requests (request.Replace app locale payload)) incoming h =
+    change_agree limits k l made.Replace (place_of app locale) payload incoming
     (at_app app locale (λ a. files_of a k.packages ≡ files_of a l.packages) h.files)
-refusals_agree limits k l (Requests (request.Remove app locale)) brought h = inl refl
-refusals_agree limits k l (Requests (request.List app)) brought h = inl refl
-refusals_agree limits k l (LooksUp app locale path) brought h = inl (
+refusals_agree limits k l (Requests (request.Remove app locale)) incoming h = inl refl
+refusals_agree limits k l (Requests (request.List app)) incoming h = inl refl
+refusals_agree limits k l (LooksUp app locale path) incoming h = inl (
     ap (λ (start : Start). steps_refusal limits.steps start (list_of app k.packages) app locale path) h.start
     ∙ ap (λ files. steps_refusal limits.steps (state_of l).start (shelf_of files) app locale path) h.files
     )
@@ -141,46 +141,46 @@ too_many TooManyApps h = refl
 too_many TooManySteps h = absurd (false≢true h)
 
 -- one application too many
-too_many_flag : (limits : Limits) (k : Kept) (call : Call) (brought : Option (List ℕ)) (o : Outcome) (k' : Kept) (p : IsRefused limits k call brought o k')
-    → call_refusal limits k call brought ≡ Some TooManyApps → was_one_too_many o ≡ true
-too_many_flag limits k call brought o k' p h =
+too_many_flag : (limits : Limits) (k : Kept) (call : Call) (incoming : Option (List ℕ)) (o : Outcome) (k' : Kept) (p : IsRefused limits k call incoming o k')
+    → call_refusal limits k call incoming ≡ Some TooManyApps → was_one_too_many o ≡ true
+too_many_flag limits k call incoming o k' p h =
     let e : Some p.refusal ≡ Some TooManyApps = sym p.refused ∙ h in
     let r : p.refusal ≡ TooManyApps = cc in
     ap was_one_too_many p.word ∙ ap (λ (x : Refusal). was_one_too_many (Refuses x)) r
 
-refusal_is : (limits : Limits) (k : Kept) (call : Call) (brought : Option (List ℕ)) (o : Outcome) (k' : Kept) (p : IsRefused limits k call brought o k')
+refusal_is : (limits : Limits) (k : Kept) (call : Call) (incoming : Option (List ℕ)) (o : Outcome) (k' : Kept) (p : IsRefused limits k call incoming o k')
     → was_one_too_many o ≡ true → p.refusal ≡ TooManyApps
-refusal_is limits k call brought o k' p h = too_many p.refusal (sym (ap was_one_too_many p.word) ∙ h)
+refusal_is limits k call incoming o k' p h = too_many p.refusal (sym (ap was_one_too_many p.word) ∙ h)
 
-same_refusal : (limits : Limits) (k k' l l' : Kept) (call : Call) (brought : Option (List ℕ)) (a b : Outcome) → IsSame (caller call) k l
-    → was_one_too_many a ≡ was_one_too_many b → (p : IsRefused limits k call brought a k') → (q : IsRefused limits l call brought b l')
+same_refusal : (limits : Limits) (k k' l l' : Kept) (call : Call) (incoming : Option (List ℕ)) (a b : Outcome) → IsSame (caller call) k l
+    → was_one_too_many a ≡ was_one_too_many b → (p : IsRefused limits k call incoming a k') → (q : IsRefused limits l call incoming b l')
     → p.refusal ≡ q.refusal
-same_refusal limits k k' l l' call brought a b h g p q = elim (refusals_agree limits k l call brought h) [
+same_refusal limits k k' l l' call incoming a b h g p q = elim (refusals_agree limits k l call incoming h) [
   | inl same ↦
       let e : Some p.refusal ≡ Some q.refusal = sym p.refused ∙ same ∙ q.refused in cc
   | inr (inl first) ↦
-      let flag = too_many_flag limits k call brought a k' p first in
-      refusal_is limits k call brought a k' p flag ∙ sym (refusal_is limits l call brought b l' q (sym g ∙ flag))
+      let flag = too_many_flag limits k call incoming a k' p first in
+      refusal_is limits k call incoming a k' p flag ∙ sym (refusal_is limits l call incoming b l' q (sym g ∙ flag))
   | inr (inr second) ↦
-      let flag = too_many_flag limits l call brought b l' q second in
-      refusal_is limits k call brought a k' p (g ∙ flag) ∙ sym (refusal_is limits l call brought b l' q flag)
+      let flag = too_many_flag limits l call incoming b l' q second in
+      refusal_is limits k call incoming a k' p (g ∙ flag) ∙ sym (refusal_is limits l call incoming b l' q flag)
 ]
 
-refusals_same : (limits : Limits) (k k' l l' : Kept) (call : Call) (brought : Option (List ℕ)) (a b : Outcome) → IsSame (caller call) k l
-    → was_one_too_many a ≡ was_one_too_many b → IsRefused limits k call brought a k' → IsRefused limits l call brought b l'
+refusals_same : (limits : Limits) (k k' l l' : Kept) (call : Call) (incoming : Option (List ℕ)) (a b : Outcome) → IsSame (caller call) k l
+    → was_one_too_many a ≡ was_one_too_many b → IsRefused limits k call incoming a k' → IsRefused limits l call incoming b l'
     → ComesToSame (caller call) a b k' l'
-refusals_same limits k k' l l' call brought a b h g p q = record {
-  outcome = p.word ∙ ap Refuses (same_refusal limits k k' l l' call brought a b h g p q) ∙ sym q.word;
+refusals_same limits k k' l l' call incoming a b h g p q = record {
+  outcome = p.word ∙ ap Refuses (same_refusal limits k k' l l' call incoming a b h g p q) ∙ sym q.word;
   files = ap (λ (x : Kept). files_of (caller call) x.packages) p.same ∙ h.files ∙ ap (λ (x : Kept). files_of (caller call) x.packages) (sym q.same);
 }
 
-not_both : (limits : Limits) (k k' l l' : Kept) (call : Call) (brought : Option (List ℕ)) (a b : Outcome) → IsSame (caller call) k l
-    → was_one_too_many a ≡ was_one_too_many b → IsRefused limits k call brought a k' → IsAnswered limits l call brought b l' → ⊥
-not_both limits k k' l l' call brought a b h g p q = elim (refusals_agree limits k l call brought h) [
+not_both : (limits : Limits) (k k' l l' : Kept) (call : Call) (incoming : Option (List ℕ)) (a b : Outcome) → IsSame (caller call) k l
+    → was_one_too_many a ≡ was_one_too_many b → IsRefused limits k call incoming a k' → IsAnswered limits l call incoming b l' → ⊥
+not_both limits k k' l l' call incoming a b h g p q = elim (refusals_agree limits k l call incoming h) [
   | inl same ↦
       let e : Some p.refusal ≡ None = sym p.refused ∙ same ∙ q.free in cc
   | inr (inl first) ↦
-      false≢true (sym (ap was_one_too_many q.answer) ∙ sym g ∙ too_many_flag limits k call brought a k' p first)
+      false≢true (sym (ap was_one_too_many q.answer) ∙ sym g ∙ too_many_flag limits k call incoming a k' p first)
   | inr (inr second) ↦
       let e : None ≡ Some TooManyApps = sym q.free ∙ second in cc
 ]
@@ -189,9 +189,9 @@ not_both limits k k' l l' call brought a b h g p q = elim (refusals_agree limits
 abbrev answer_by : Start → Files → Ask → Response
 answer_by start files ask = answer_over start (shelf_of files) ask
 
-answers_same : AsksOne → (limits : Limits) (k k' l l' : Kept) (call : Call) (brought : Option (List ℕ)) (a b : Outcome)
-    → IsSame (caller call) k l → IsAnswered limits k call brought a k' → IsAnswered limits l call brought b l' → ComesToSame (caller call) a b k' l'
-answers_same one limits k k' l l' call brought a b h p q =
+answers_same : AsksOne → (limits : Limits) (k k' l l' : Kept) (call : Call) (incoming : Option (List ℕ)) (a b : Outcome)
+    → IsSame (caller call) k l → IsAnswered limits k call incoming a k' → IsAnswered limits l call incoming b l' → ComesToSame (caller call) a b k' l'
+answers_same one limits k k' l l' call incoming a b h p q =
     let app = caller call in
     let ask : p.answered.ask ≡ q.answered.ask = one call p.answered.ask q.answered.ask p.answered.means q.answered.means in
     let same : p.response ≡ q.response =
@@ -202,26 +202,26 @@ answers_same one limits k k' l l' call brought a b h p q =
     ∙ sym q.answered.right in
     record {
       outcome = p.answer ∙ ap Answers same ∙ sym q.answer;
-      files = p.own ∙ ap (λ (r : Response). files_then call brought r (files_of app k.packages)) same
-          ∙ ap (files_then call brought q.response) h.files ∙ sym q.own;
+      files = p.own ∙ ap (λ (r : Response). files_then call incoming r (files_of app k.packages)) same
+          ∙ ap (files_then call incoming q.response) h.files ∙ sym q.own;
     }
 
 starves_flag : (limits : Limits) (k : Kept) (call : Call) (o : Outcome) (k' : Kept) → Starves limits k call o k' → ran_out_of_memory o ≡ true
 starves_flag limits k call o k' h = ap ran_out_of_memory h.memory
 
-judged_flag : (limits : Limits) (k : Kept) (call : Call) (brought : Option (List ℕ)) (o : Outcome) (k' : Kept) → IsJudged limits k call brought o k'
+judged_flag : (limits : Limits) (k : Kept) (call : Call) (incoming : Option (List ℕ)) (o : Outcome) (k' : Kept) → IsJudged limits k call incoming o k'
     → ran_out_of_memory o ≡ false
-judged_flag limits k call brought o k' (inl h) = ap ran_out_of_memory h.word
-judged_flag limits k call brought o k' (inr h) = ap ran_out_of_memory h.answer ∙ h.told
+judged_flag limits k call incoming o k' (inl h) = ap ran_out_of_memory h.word
+judged_flag limits k call incoming o k' (inr h) = ap ran_out_of_memory h.answer ∙ h.told
 
-judged_same : AsksOne → (limits : Limits) (k k' l l' : Kept) (call : Call) (brought : Option (List ℕ)) (a b : Outcome)
-    → IsSame (caller call) k l → IsJudged limits k call brought a k' → IsJudged limits l call brought b l'
+judged_same : AsksOne → (limits : Limits) (k k' l l' : Kept) (call : Call) (incoming : Option (List ℕ)) (a b : Outcome)
+    → IsSame (caller call) k l → IsJudged limits k call incoming a k' → IsJudged limits l call incoming b l'
     → was_one_too_many a ≡ was_one_too_many b → ComesToSame (caller call) a b k' l'
-judged_same one limits k k' l l' call brought a b h (inl p) (inl q) g = refusals_same limits k k' l l' call brought a b h g p q
-judged_same one limits k k' l l' call brought a b h (inl p) (inr q) g = absurd (not_both limits k k' l l' call brought a b h g p q)
-judged_same one limits k k' l l' call brought a b h (inr p) (inl q) g =
-    absurd (not_both limits l l' k k' call brought b a (record { start = sym h.start; files = sym h.files }) (sym g) q p)
-judged_same one limits k k' l l' call brought a b h (inr p) (inr q) g = answers_same one limits k k' l l' call brought a b h p q
+judged_same one limits k k' l l' call incoming a b h (inl p) (inl q) g = refusals_same limits k k' l l' call incoming a b h g p q
+judged_same one limits k k' l l' call incoming a b h (inl p) (inr q) g = absurd (not_both limits k k' l l' call incoming a b h g p q)
+judged_same one limits k k' l l' call incoming a b h (inr p) (inl q) g =
+    absurd (not_both limits l l' k k' call incoming b a (record { start = sym h.start; files = sym h.files }) (sym g) q p)
+judged_same one limits k k' l l' call incoming a b h (inr p) (inr q) g = answers_same one limits k k' l l' call incoming a b h p q
 
 -- judged calls, each with its own file, come to equal answers
 pub calls_same : AsksOne → (limits : Limits) (k k' l l' : Kept) (call : Call) (a b : Outcome)

@@ -35,24 +35,24 @@ no_limits = record {
   keep_serving = false;
 }
 
-change_free : {E : Type 0} (kept : Kept) (made : Change) (r : Result Place E) (payload : Payload) (brought : Option (List ℕ))
-    → change_refusal no_limits kept made r payload brought ≡ None
-change_free kept made (Err e) payload brought = refl
+change_free : {E : Type 0} (kept : Kept) (made : Change) (r : Result Place E) (payload : Payload) (incoming : Option (List ℕ))
+    → change_refusal no_limits kept made r payload incoming ≡ None
+change_free kept made (Err e) payload incoming = refl
 change_free kept made (Ok p) payload None = refl
 change_free kept made (Ok p) payload (Some file) =
     sym (keeps_nothing no_limits made p.name (files_of p.app kept.packages) (apps_of kept.packages) file refl refl refl)
 
-call_free : (kept : Kept) (call : Call) (brought : Option (List ℕ)) → call_refusal no_limits kept call brought ≡ None
-call_free kept (Requests (request.Install app locale payload)) brought = change_free kept change.Install (place_of app locale) payload brought
-call_free kept (Requests (request.Replace app locale payload)) brought = change_free kept change.Replace (place_of app locale) payload brought
-call_free kept (Requests (request.Remove app locale)) brought = refl
-call_free kept (Requests (request.List app)) brought = refl
-call_free kept (LooksUp app locale path) brought = refl
+call_free : (kept : Kept) (call : Call) (incoming : Option (List ℕ)) → call_refusal no_limits kept call incoming ≡ None
+call_free kept (Requests (request.Install app locale payload)) incoming = change_free kept change.Install (place_of app locale) payload incoming
+call_free kept (Requests (request.Replace app locale payload)) incoming = change_free kept change.Replace (place_of app locale) payload incoming
+call_free kept (Requests (request.Remove app locale)) incoming = refl
+call_free kept (Requests (request.List app)) incoming = refl
+call_free kept (LooksUp app locale path) incoming = refl
 
-answered : (old new : Kept) (call : Call) (brought : Option (List ℕ)) (outcome : Outcome) → IsJudged no_limits old call brought outcome new
-    → IsAnswered no_limits old call brought outcome new
-answered old new call brought outcome h = elim h [
-  | inl refused ↦ absurd (false≢true (ap is_some (sym (call_free old call brought) ∙ refused.refused)))
+answered : (old new : Kept) (call : Call) (incoming : Option (List ℕ)) (outcome : Outcome) → IsJudged no_limits old call incoming outcome new
+    → IsAnswered no_limits old call incoming outcome new
+answered old new call incoming outcome h = elim h [
+  | inl refused ↦ absurd (false≢true (ap is_some (sym (call_free old call incoming) ∙ refused.refused)))
   | inr a ↦ a
 ]
 
@@ -62,8 +62,8 @@ plain_line response = rw (and-false (may_be_long response)) refl
 read_seen : (old new : Kept) (call : Option Call) (text : List ℕ) → AnswersRead no_limits old call None text new
     → (response : Option Response) × AnswersAsked (state_of old) call response (state_of new) × (text ≡ reply_line response)
 read_seen old new None text (told, same) = (None, ap state_of same, told)
-read_seen old new (Some call) text (outcome, (brought, brings, judged), told) =
-    let a = answered old new call brought outcome judged in
+read_seen old new (Some call) text (outcome, (incoming, brings, judged), told) =
+    let a = answered old new call incoming outcome judged in
     (Some a.response, a.answered, told ∙ (ap (outcome_line no_limits) a.answer ∙ plain_line a.response))
 
 pub line_seen : (old new : Kept) (line text : List ℕ) → IsShort 268435456 line → LineReplyWithin no_limits old line text new

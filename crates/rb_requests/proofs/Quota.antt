@@ -183,12 +183,12 @@ free_file true o h = cc
 free_file false o h = h
 
 -- a change that is done, of an application whose files are within the limit
-made_within : {E : Type 0} (limits : Limits) (most : ℕ) (k : Kept) (made : Change) (app : List ℕ) (payload : Payload) (brought : Option (List ℕ))
+made_within : {E : Type 0} (limits : Limits) (most : ℕ) (k : Kept) (made : Change) (app : List ℕ) (payload : Payload) (incoming : Option (List ℕ))
     (r : Result Place E) → ((p : Place) → r ≡ Ok p → p.app ≡ app) → limits.app_bytes ≡ Some most → most ≤ 2 ^ 64 - 1
-    → bytes_of (files_of app k.packages) ≤ most → change_refusal limits k made r payload brought ≡ None
+    → bytes_of (files_of app k.packages) ≤ most → change_refusal limits k made r payload incoming ≡ None
     → ((p : Place) → r ≡ Ok p → takes_place made (len_at p.name (files_of app k.packages)) (length (files_of app k.packages)) ≡ true)
-    → bytes_of (put_file made r brought (files_of app k.packages)) ≤ most
-made_within limits most k made app payload brought (Err e) is l m h f t = h
+    → bytes_of (put_file made r incoming (files_of app k.packages)) ≤ most
+made_within limits most k made app payload incoming (Err e) is l m h f t = h
 made_within limits most k made app payload None (Ok p) is l m h f t = h
 made_within limits most k made app payload (Some file) (Ok p) is l m h f t =
     let same : p.app ≡ app = is p refl in
@@ -203,47 +203,47 @@ taken_within most (Ok p) files h = omega (arith, bytes-remove files p.name)
 done_is : (a b : Reply) → Replies a ≡ Replies b → a ≡ b
 done_is a b h = cc
 
-done_within : (limits : Limits) (most : ℕ) (k k' : Kept) (call : Call) (brought : Option (List ℕ)) → limits.app_bytes ≡ Some most → most ≤ 2 ^ 64 - 1
-    → bytes_of (files_of (caller call) k.packages) ≤ most → call_refusal limits k call brought ≡ None
-    → Answered (state_of k) call (Replies reply.Done) (state_of k') → bytes_of (files_done call brought (files_of (caller call) k.packages)) ≤ most
-done_within limits most k k' (Requests (request.Install app locale payload)) brought l m h f a =
+done_within : (limits : Limits) (most : ℕ) (k k' : Kept) (call : Call) (incoming : Option (List ℕ)) → limits.app_bytes ≡ Some most → most ≤ 2 ^ 64 - 1
+    → bytes_of (files_of (caller call) k.packages) ≤ most → call_refusal limits k call incoming ≡ None
+    → Answered (state_of k) call (Replies reply.Done) (state_of k') → bytes_of (files_done call incoming (files_of (caller call) k.packages)) ≤ most
+done_within limits most k k' (Requests (request.Install app locale payload)) incoming l m h f a =
     let (content, x, is) = a.means in
     let answer = done_is _ _ (rw is at a.right) in
-    made_within limits most k change.Install app payload brought (place_of app locale) (app-place_of app locale) l m h f
+    made_within limits most k change.Install app payload incoming (place_of app locale) (app-place_of app locale) l m h f
     (λ p e. install_takes p content (files_of app k.packages) (rw e at answer))
-done_within limits most k k' (Requests (request.Replace app locale payload)) brought l m h f a =
+done_within limits most k k' (Requests (request.Replace app locale payload)) incoming l m h f a =
     let (content, x, is) = a.means in
     let answer = done_is _ _ (rw is at a.right) in
-    made_within limits most k change.Replace app payload brought (place_of app locale) (app-place_of app locale) l m h f
+    made_within limits most k change.Replace app payload incoming (place_of app locale) (app-place_of app locale) l m h f
     (λ p e. replace_takes p content (files_of app k.packages) (rw e at answer))
-done_within limits most k k' (Requests (request.Remove app locale)) brought l m h f a = taken_within most (place_of app locale) _ h
-done_within limits most k k' (Requests (request.List app)) brought l m h f a = h
-done_within limits most k k' (LooksUp app locale path) brought l m h f a = h
+done_within limits most k k' (Requests (request.Remove app locale)) incoming l m h f a = taken_within most (place_of app locale) _ h
+done_within limits most k k' (Requests (request.List app)) incoming l m h f a = h
+done_within limits most k k' (LooksUp app locale path) incoming l m h f a = h
 
 -- only what is done changes files
-not_done : (call : Call) (brought : Option (List ℕ)) (r : Response) (files : Files) → (r ≡ Replies reply.Done) ⊎ (files_then call brought r files ≡ files)
-not_done call brought (Replies reply.Done) files = inl refl
-not_done call brought (Replies (reply.Names names)) files = inr refl
-not_done call brought (Replies reply.BadApp) files = inr refl
-not_done call brought (Replies reply.Reserved) files = inr refl
-not_done call brought (Replies reply.BadLocale) files = inr refl
-not_done call brought (Replies reply.BadText) files = inr refl
-not_done call brought (Replies reply.BadFile) files = inr refl
-not_done call brought (Replies reply.Exists) files = inr refl
-not_done call brought (Replies reply.Absent) files = inr refl
-not_done call brought (Replies reply.Full) files = inr refl
-not_done call brought (Replies reply.Memory) files = inr refl
-not_done call brought (Finds hit valid) files = inr refl
-not_done call brought (NotFound e) files = inr refl
+not_done : (call : Call) (incoming : Option (List ℕ)) (r : Response) (files : Files) → (r ≡ Replies reply.Done) ⊎ (files_then call incoming r files ≡ files)
+not_done call incoming (Replies reply.Done) files = inl refl
+not_done call incoming (Replies (reply.Names names)) files = inr refl
+not_done call incoming (Replies reply.BadApp) files = inr refl
+not_done call incoming (Replies reply.Reserved) files = inr refl
+not_done call incoming (Replies reply.BadLocale) files = inr refl
+not_done call incoming (Replies reply.BadText) files = inr refl
+not_done call incoming (Replies reply.BadFile) files = inr refl
+not_done call incoming (Replies reply.Exists) files = inr refl
+not_done call incoming (Replies reply.Absent) files = inr refl
+not_done call incoming (Replies reply.Full) files = inr refl
+not_done call incoming (Replies reply.Memory) files = inr refl
+not_done call incoming (Finds hit valid) files = inr refl
+not_done call incoming (NotFound e) files = inr refl
 
 -- ---- a step, and a history
 
-answered_within : (limits : Limits) (most : ℕ) (k k' : Kept) (call : Call) (brought : Option (List ℕ)) (o : Outcome) → limits.app_bytes ≡ Some most
-    → most ≤ 2 ^ 64 - 1 → bytes_of (files_of (caller call) k.packages) ≤ most → IsAnswered limits k call brought o k'
+answered_within : (limits : Limits) (most : ℕ) (k k' : Kept) (call : Call) (incoming : Option (List ℕ)) (o : Outcome) → limits.app_bytes ≡ Some most
+    → most ≤ 2 ^ 64 - 1 → bytes_of (files_of (caller call) k.packages) ≤ most → IsAnswered limits k call incoming o k'
     → bytes_of (files_of (caller call) k'.packages) ≤ most
-answered_within limits most k k' call brought o l m h a =
-    rw a.own (elim (not_done call brought a.response (files_of (caller call) k.packages)) [
-      | inl done ↦ rw done (done_within limits most k k' call brought l m h a.free
+answered_within limits most k k' call incoming o l m h a =
+    rw a.own (elim (not_done call incoming a.response (files_of (caller call) k.packages)) [
+      | inl done ↦ rw done (done_within limits most k k' call incoming l m h a.free
           (subst (λ (r : Response). Answered (state_of k) call r (state_of k')) done a.answered))
       | inr same ↦ rw same h
     ])
@@ -252,13 +252,13 @@ step_within : (limits : Limits) (most : ℕ) (app : List ℕ) (k k' : Kept) (cal
     → CallComesTo limits k call o k' → bytes_of (files_of app k.packages) ≤ most → bytes_of (files_of app k'.packages) ≤ most
 step_within limits most app k k' call o l m (inl p) h = rw p.same h
 step_within limits most app k k' call o l m (inr (x, y, inl p)) h = rw p.same h
-step_within limits most app k k' call o l m (inr (brought, y, inr p)) h = by (bytes_eq (caller call) app) refl
+step_within limits most app k k' call o l m (inr (incoming, y, inr p)) h = by (bytes_eq (caller call) app) refl
   where
     by : (b : Bool) → bytes_eq (caller call) app ≡ b → bytes_of (files_of app k'.packages) ≤ most
     by true e =
         let own : caller call ≡ app = (bytes_eq-Decides (caller call) app).0 e in
         subst (λ (a : List ℕ). bytes_of (files_of a k'.packages) ≤ most) own
-        (answered_within limits most k k' call brought o l m (subst (λ (a : List ℕ). bytes_of (files_of a k.packages) ≤ most) (sym own) h) p)
+        (answered_within limits most k k' call incoming o l m (subst (λ (a : List ℕ). bytes_of (files_of a k.packages) ≤ most) (sym own) h) p)
     by false e =
         let other : app ≡ caller call → ⊥ = λ h. false≢true (sym e ∙ (bytes_eq-Decides (caller call) app).1 (sym h)) in
         rw (p.others app other) h

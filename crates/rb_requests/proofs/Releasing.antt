@@ -201,11 +201,11 @@ brings_read limits app locale payload p file reads is read =
     rw (reads.0, short) (reads.1, is)
 
 -- a bundle that was read
-pub put_drafts : (limits : Limits) (app locale : List ℕ) (payload : Payload) (brought : Place × List ℕ) (old new : Drafted)
-    (r : Result (Unit {0}) Unmade) → Reads app locale payload (Ok brought) → IsFileOf payload brought.1
+pub put_drafts : (limits : Limits) (app locale : List ℕ) (payload : Payload) (incoming : Place × List ℕ) (old new : Drafted)
+    (r : Result (Unit {0}) Unmade) → Reads app locale payload (Ok incoming) → IsFileOf payload incoming.1
     → is_read limits (place_of app locale) payload ≡ true
-    → OnOk r ((is_over limits.bundle_bytes (length brought.1) ≡ false) × (put_fault brought.0.name old ≡ None) × Adds old (brought.0.name, Some brought.1) new)
-    → IfErr r (λ unmade. IfRefused unmade (IsPutRefused limits old brought.0 brought.1))
+    → OnOk r ((is_over limits.bundle_bytes (length incoming.1) ≡ false) × (put_fault incoming.0.name old ≡ None) × Adds old (incoming.0.name, Some incoming.1) new)
+    → IfErr r (λ unmade. IfRefused unmade (IsPutRefused limits old incoming.0 incoming.1))
     → Drafts limits app (PutsAt locale payload) old r new
 put_drafts limits app locale payload (p, file) old new (Ok x) reads is read added refused =
     let brings = brings_read limits app locale payload p file reads is read in

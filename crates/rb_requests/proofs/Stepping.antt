@@ -54,7 +54,7 @@ pub nothing_changed : (limits : Limits) (old : Kept) (call : Call) (reply : Repl
     → CallComesTo limits old call (Answers (Replies reply)) new → new ≡ old
 nothing_changed limits old call reply new e h = elim h [
   | inl starved ↦ starved.same
-  | inr (brought, brings, judged) ↦ elim judged [
+  | inr (incoming, brings, judged) ↦ elim judged [
     | inl refused ↦ refused.same
     | inr answered ↦ absurd (false≢true (sym answered.told ∙ (sym (ap starved_by answered.answer) ∙ e)))
   ]
@@ -81,7 +81,7 @@ done_by other = false
 
 unchanged : (limits : Limits) (old : Kept) (call : Call) (outcome : Outcome) (new : Kept) → done_by outcome ≡ false
     → CallIsJudged limits old call outcome new → new ≡ old
-unchanged limits old call outcome new e (brought, brings, judged) = elim judged [
+unchanged limits old call outcome new e (incoming, brings, judged) = elim judged [
   | inl refused ↦ refused.same
   | inr answered ↦ answered.kept (λ d. false≢true (sym e ∙ ap done_by (answered.answer ∙ ap (λ (r : Response). Answers r) d)))
 ]

@@ -81,8 +81,8 @@ found_at start shelf app locale path hit valid =
 looked : (limits : Limits) (kept : Kept) (app locale path : List ℕ) (hit : Hit) (valid : List ℕ)
     → CallIsJudged limits kept (LooksUp app locale path) (Answers (Finds hit valid)) kept
     → Finds hit valid ≡ lookup_at (state_of kept).start (list_of app kept.packages) (place_of app locale) path
-looked limits kept app locale path hit valid (brought, brings, inl refused) = let word = refused.word in cc
-looked limits kept app locale path hit valid (brought, brings, inr answered) =
+looked limits kept app locale path hit valid (incoming, brings, inl refused) = let word = refused.word in cc
+looked limits kept app locale path hit valid (incoming, brings, inr answered) =
     let same : Finds hit valid ≡ answered.response = let answer = answered.answer in cc in
     same ∙ answered.answered.right
     ∙ ap (λ (ask : Ask). answer_over (state_of kept).start (list_of app kept.packages) ask) answered.answered.means

@@ -66,19 +66,19 @@ file_refusal limits change name files apps file =
     else if (length files == 0) && is_over limits.apps (apps + 1) then Some TooManyApps
     else None
 
-abbrev pub brought_refusal : Limits → Kept → Change → Place → Option (List ℕ) → Option Refusal
-brought_refusal limits kept change p None = None
-brought_refusal limits kept change p (Some file) =
+abbrev pub incoming_refusal : Limits → Kept → Change → Place → Option (List ℕ) → Option Refusal
+incoming_refusal limits kept change p None = None
+incoming_refusal limits kept change p (Some file) =
     file_refusal limits change p.name (files_of p.app kept.packages) (apps_of kept.packages) file
 
 -- a payload that is too long is rejected before it is read, else its bundle's file is checked; invalid names are left
 -- to the engine
 abbrev pub change_refusal : {E : Type 0} → Limits → Kept → Change → Result Place E → Payload → Option (List ℕ)
     → Option Refusal
-change_refusal limits kept change (Err e) payload brought = None
-change_refusal limits kept change (Ok p) payload brought =
+change_refusal limits kept change (Err e) payload incoming = None
+change_refusal limits kept change (Ok p) payload incoming =
     if is_over limits.bundle_bytes (payload_len payload) then Some BundleTooLong
-    else brought_refusal limits kept change p brought
+    else incoming_refusal limits kept change p incoming
 
 -- a lookup that takes too many steps is rejected, whatever it would find; invalid names and paths are left to the
 -- engine
@@ -89,11 +89,11 @@ steps_refusal (Some steps) start shelf app locale path =
 
 -- the limit that rejects a call with this file, if any
 abbrev pub call_refusal : Limits → Kept → Call → Option (List ℕ) → Option Refusal
-call_refusal limits kept (Requests (request.Install app locale payload)) brought =
-    change_refusal limits kept change.Install (place_of app locale) payload brought
-call_refusal limits kept (Requests (request.Replace app locale payload)) brought =
-    change_refusal limits kept change.Replace (place_of app locale) payload brought
-call_refusal limits kept (Requests (request.Remove app locale)) brought = None
-call_refusal limits kept (Requests (request.List app)) brought = None
-call_refusal limits kept (LooksUp app locale path) brought =
+call_refusal limits kept (Requests (request.Install app locale payload)) incoming =
+    change_refusal limits kept change.Install (place_of app locale) payload incoming
+call_refusal limits kept (Requests (request.Replace app locale payload)) incoming =
+    change_refusal limits kept change.Replace (place_of app locale) payload incoming
+call_refusal limits kept (Requests (request.Remove app locale)) incoming = None
+call_refusal limits kept (Requests (request.List app)) incoming = None
+call_refusal limits kept (LooksUp app locale path) incoming =
     steps_refusal limits.steps (state_of kept).start (list_of app kept.packages) app locale path

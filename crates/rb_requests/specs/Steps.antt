@@ -36,43 +36,43 @@ Brings payload (Some file) = HasBundle payload (source_tree_of file) × IsFileOf
 
 -- a payload is read only if the request's names are valid and it isn't too long
 abbrev pub BringsAt : {E : Type 0} → Limits → Result Place E → Payload → Option (List ℕ) → Type 0
-BringsAt limits (Err e) payload brought = brought ≡ None
-BringsAt limits (Ok p) payload brought =
-    MatchBool (is_over limits.bundle_bytes (payload_len payload)) (brought ≡ None) (Brings payload brought)
+BringsAt limits (Err e) payload incoming = incoming ≡ None
+BringsAt limits (Ok p) payload incoming =
+    MatchBool (is_over limits.bundle_bytes (payload_len payload)) (incoming ≡ None) (Brings payload incoming)
 
 -- the file of the bundle in a call's payload, if any
 abbrev pub CallBrings : Limits → Call → Option (List ℕ) → Type 0
-CallBrings limits (Requests (request.Install app locale payload)) brought =
-    BringsAt limits (place_of app locale) payload brought
-CallBrings limits (Requests (request.Replace app locale payload)) brought =
-    BringsAt limits (place_of app locale) payload brought
-CallBrings limits (Requests (request.Remove app locale)) brought = brought ≡ None
-CallBrings limits (Requests (request.List app)) brought = brought ≡ None
-CallBrings limits (LooksUp app locale path) brought = brought ≡ None
+CallBrings limits (Requests (request.Install app locale payload)) incoming =
+    BringsAt limits (place_of app locale) payload incoming
+CallBrings limits (Requests (request.Replace app locale payload)) incoming =
+    BringsAt limits (place_of app locale) payload incoming
+CallBrings limits (Requests (request.Remove app locale)) incoming = incoming ≡ None
+CallBrings limits (Requests (request.List app)) incoming = incoming ≡ None
+CallBrings limits (LooksUp app locale path) incoming = incoming ≡ None
 
 -- ---- the files of the caller's bundles after a call
 
 abbrev pub put_file : {E : Type 0} → Change → Result Place E → Option (List ℕ) → Files → Files
 put_file change (Ok p) (Some file) files = files_after change p.name file files
-put_file change r brought files = files
+put_file change r incoming files = files
 
 abbrev pub taken_out : {E : Type 0} → Result Place E → Files → Files
 taken_out (Ok p) files = remove_entry (bytes_eq p.name) files
 taken_out (Err e) files = files
 
 abbrev pub files_done : Call → Option (List ℕ) → Files → Files
-files_done (Requests (request.Install app locale payload)) brought files =
-    put_file change.Install (place_of app locale) brought files
-files_done (Requests (request.Replace app locale payload)) brought files =
-    put_file change.Replace (place_of app locale) brought files
-files_done (Requests (request.Remove app locale)) brought files = taken_out (place_of app locale) files
-files_done (Requests (request.List app)) brought files = files
-files_done (LooksUp app locale path) brought files = files
+files_done (Requests (request.Install app locale payload)) incoming files =
+    put_file change.Install (place_of app locale) incoming files
+files_done (Requests (request.Replace app locale payload)) incoming files =
+    put_file change.Replace (place_of app locale) incoming files
+files_done (Requests (request.Remove app locale)) incoming files = taken_out (place_of app locale) files
+files_done (Requests (request.List app)) incoming files = files
+files_done (LooksUp app locale path) incoming files = files
 
 -- a change that is done changes the files; nothing else does
 abbrev pub files_then : Call → Option (List ℕ) → Response → Files → Files
-files_then call brought (Replies Done) files = files_done call brought files
-files_then call brought response files = files
+files_then call incoming (Replies Done) files = files_done call incoming files
+files_then call incoming response files = files
 
 -- ---- a step
 
@@ -96,22 +96,22 @@ pub record Starves (limits : Limits) (old : Kept) (call : Call) (outcome : Outco
   pub same : new ≡ old
 
 -- a limit rejects the call, and nothing changes
-pub record IsRefused (limits : Limits) (old : Kept) (call : Call) (brought : Option (List ℕ)) (outcome : Outcome)
+pub record IsRefused (limits : Limits) (old : Kept) (call : Call) (incoming : Option (List ℕ)) (outcome : Outcome)
     (new : Kept) : Type 0 where
   pub refusal : Refusal
-  pub refused : call_refusal limits old call brought ≡ Some refusal
+  pub refused : call_refusal limits old call incoming ≡ Some refusal
   pub word : outcome ≡ Refuses refusal
   pub same : new ≡ old
 
 -- no limit rejects the call, and the engine answers it; only the caller's files change
-pub record IsAnswered (limits : Limits) (old : Kept) (call : Call) (brought : Option (List ℕ)) (outcome : Outcome)
+pub record IsAnswered (limits : Limits) (old : Kept) (call : Call) (incoming : Option (List ℕ)) (outcome : Outcome)
     (new : Kept) : Type 0 where
-  pub free : call_refusal limits old call brought ≡ None
+  pub free : call_refusal limits old call incoming ≡ None
   pub response : Response
   pub answer : outcome ≡ Answers response
   pub told : is_memory response ≡ false
   pub answered : Answered (state_of old) call response (state_of new)
-  pub own : files_of (caller call) new.packages ≡ files_then call brought response (files_of (caller call) old.packages)
+  pub own : files_of (caller call) new.packages ≡ files_then call incoming response (files_of (caller call) old.packages)
   pub others : (app : List ℕ) → app ≢ caller call → files_of app new.packages ≡ files_of app old.packages
   pub icudata : icudata_files new.packages ≡ icudata_files old.packages
   pub parents : new.parents ≡ old.parents
@@ -119,13 +119,13 @@ pub record IsAnswered (limits : Limits) (old : Kept) (call : Call) (brought : Op
 
 -- a limit rejects a call with this file, or the engine answers it
 abbrev pub IsJudged : Limits → Kept → Call → Option (List ℕ) → Outcome → Kept → Type 0
-IsJudged limits old call brought outcome new =
-    IsRefused limits old call brought outcome new ⊎ IsAnswered limits old call brought outcome new
+IsJudged limits old call incoming outcome new =
+    IsRefused limits old call incoming outcome new ⊎ IsAnswered limits old call incoming outcome new
 
 -- a call is judged with its one file, or with none
 abbrev pub CallIsJudged : Limits → Kept → Call → Outcome → Kept → Type 0
 CallIsJudged limits old call outcome new =
-    (brought : Option (List ℕ)) × CallBrings limits call brought × IsJudged limits old call brought outcome new
+    (incoming : Option (List ℕ)) × CallBrings limits call incoming × IsJudged limits old call incoming outcome new
 
 -- or memory runs out for it
 abbrev pub CallComesTo : Limits → Kept → Call → Outcome → Kept → Type 0

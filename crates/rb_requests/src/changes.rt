@@ -16,7 +16,7 @@ ghost use Rattle.rb_requests.specs.inner.LongPayload.{long_payload};
 
 use crate::ask::LineRequest;
 use crate::limits::{Limited, Limits, Refusal};
-use rb_engine::{App, Brought, BundleSource, Change, Engine, Reply};
+use rb_engine::{App, BundleSource, Change, Engine, IncomingBundle, Reply};
 use rb_locales::Name;
 use rb_packages::BUNDLE_LIMIT;
 use std::alloc::Global;
@@ -82,24 +82,29 @@ fn keeps_all(limits: &Limits) -> bool
 }
 
 /// Returns the limit that rejects an incoming bundle, if any.
-fn refused(engine: &Engine, limits: &Limits, change: Change, brought: &Brought) -> Option<Refusal>
-    ensures { result ≡ file_refusal limits.now change brought.now.0.name
-        (files_of brought.now.0.app engine.now.packages)
-        (apps_of engine.now.packages) brought.now.1 }
+fn refused(
+    engine: &Engine,
+    limits: &Limits,
+    change: Change,
+    incoming: &IncomingBundle,
+) -> Option<Refusal>
+    ensures { result ≡ file_refusal limits.now change incoming.now.0.name
+        (files_of incoming.now.0.app engine.now.packages)
+        (apps_of engine.now.packages) incoming.now.1 }
 {
     if keeps_all(limits) {
         return None;
     }
-    let held = engine.file_len(brought);
-    let usage = engine.usage(brought.app());
+    let held = engine.file_len(incoming);
+    let usage = engine.usage(incoming.app());
     if !takes_place(change, held, usage.bundles) {
         return None;
     }
-    if is_over(limits.bundle_bytes, brought.len()) {
+    if is_over(limits.bundle_bytes, incoming.len()) {
         return Some(Refusal::BundleTooLong);
     }
     let others = usage.bytes.saturating_sub(held.unwrap_or(0));
-    if is_sum_over(limits.app_bytes, others, brought.len()) {
+    if is_sum_over(limits.app_bytes, others, incoming.len()) {
         return Some(Refusal::OverQuota);
     }
     if usage.bundles == 0 && is_sum_over(limits.apps, engine.apps(), 1) {
@@ -111,21 +116,26 @@ fn refused(engine: &Engine, limits: &Limits, change: Change, brought: &Brought) 
 /// Stores an incoming bundle under limits: the part of `handle` after reading the payload. A bundle
 /// that a limit rejects changes nothing, and is never answered `Memory`: only an install that no
 /// limit rejects may run out of memory here.
-pub fn put(engine: &mut Engine, limits: &Limits, change: Change, brought: Brought) -> Limited<Reply>
+pub fn put(
+    engine: &mut Engine,
+    limits: &Limits,
+    change: Change,
+    incoming: IncomingBundle,
+) -> Limited<Reply>
     ensures step { (app locale : List ℕ) → (payload : Payload)
-        → Reads app locale payload (Ok brought)
-        → IsFileOf payload brought.1
+        → Reads app locale payload (Ok incoming)
+        → IsFileOf payload incoming.1
         → is_read limits.now (place_of app locale) payload ≡ true
         → CallComesTo limits.now engine.old
         (Requests (change_request change app locale payload)) (reply_outcome result) engine.new }
     ensures memory { reply_outcome result ≡ Answers (Replies Reply.Memory)
-        → (change ≡ Change.Install) × (file_refusal limits.now change brought.0.name
-        (files_of brought.0.app engine.old.packages)
-        (apps_of engine.old.packages) brought.1 ≡ None) }
+        → (change ≡ Change.Install) × (file_refusal limits.now change incoming.0.name
+        (files_of incoming.0.app engine.old.packages)
+        (apps_of engine.old.packages) incoming.1 ≡ None) }
 {
-    match refused(engine, limits, change, &brought) {
+    match refused(engine, limits, change, &incoming) {
         Some(refusal) => Limited::Refused(refusal),
-        None => Limited::Answer(engine.put(change, brought)),
+        None => Limited::Answer(engine.put(change, incoming)),
     }
 }
 
@@ -145,11 +155,11 @@ fn read_and_put(
     if is_too_long(limits, app, locale, &source) {
         return Limited::Refused(Refusal::BundleTooLong);
     }
-    let brought = match Brought::read(alloc, app, locale, source) {
-        Ok(brought) => brought,
+    let incoming = match IncomingBundle::read(alloc, app, locale, source) {
+        Ok(incoming) => incoming,
         Err(reply) => return Limited::Answer(reply),
     };
-    put(engine, limits, change, brought)
+    put(engine, limits, change, incoming)
 }
 
 /// Handles one request under limits. A rejected request changes nothing.

@@ -45,7 +45,7 @@ use crate::tree_reply::answer_tree;
 use crate::words::LineError;
 use bstr::ByteSlice;
 use json::Scratch;
-use rb_engine::{Brought, BundleSource, Change, Engine, Reply};
+use rb_engine::{BundleSource, Change, Engine, IncomingBundle, Reply};
 use rb_replies::ReplyLine;
 use std::alloc::{AllocError, Global};
 
@@ -73,21 +73,21 @@ fn store_read(
     limits: &Limits,
     change: Change,
     replaced: Option<bool>,
-    brought: Brought,
+    incoming: IncomingBundle,
     reply: &mut ReplyLine,
 ) -> Result<(), Starved>
     ensures reply { (app locale : List ℕ) (payload : Payload)
-        → Reads app locale payload (Ok brought)
-        → IsFileOf payload brought.1 → is_read limits.now (place_of app locale) payload ≡ true
+        → Reads app locale payload (Ok incoming)
+        → IsFileOf payload incoming.1 → is_read limits.now (place_of app locale) payload ≡ true
         → OnOk result (ChangeReply limits.now engine.old change app locale payload
         (change_line limits.now replaced) reply.new engine.new) }
     ensures fault { (app locale : List ℕ) (payload : Payload)
-        → Reads app locale payload (Ok brought)
-        → IsFileOf payload brought.1 → is_read limits.now (place_of app locale) payload ≡ true
+        → Reads app locale payload (Ok incoming)
+        → IsFileOf payload incoming.1 → is_read limits.now (place_of app locale) payload ≡ true
         → IfErr result (λ s. LeavesOf (ChangeReply limits.now engine.old change app locale payload
         (change_line limits.now replaced)) s engine.old engine.new) }
 {
-    let answer = match put(engine, limits, change, brought) {
+    let answer = match put(engine, limits, change, incoming) {
         Limited::Answer(answer) => answer,
         Limited::Refused(refusal) => return Ok(tell_word(alloc, refusal.word(), reply)?),
     };
@@ -128,7 +128,7 @@ fn answer_change(
         locale.now (payload_of source.entry) (outcome_line limits.now)) s engine.old engine.new) }
 {
     match judge(alloc, limits, app, locale, source) {
-        Ok(brought) => store_read(alloc, engine, limits, change, None, brought, reply),
+        Ok(incoming) => store_read(alloc, engine, limits, change, None, incoming, reply),
         Err(unmade) => tell_unmade(alloc, unmade, reply),
     }
 }
@@ -161,11 +161,11 @@ fn answer_put(
         (payload_of source.entry)
         (is_stored engine.old (place_of app.now locale.now))) s engine.old engine.new) }
 {
-    let brought = match judge(alloc, limits, app, locale, source) {
-        Ok(brought) => brought,
+    let incoming = match judge(alloc, limits, app, locale, source) {
+        Ok(incoming) => incoming,
         Err(unmade) => return tell_unmade(alloc, unmade, reply),
     };
-    let is_there = engine.file_len(&brought).is_some();
+    let is_there = engine.file_len(&incoming).is_some();
     let change = put_change(is_there);
     store_read(
         alloc,
@@ -173,7 +173,7 @@ fn answer_put(
         limits,
         change,
         Some(is_there),
-        brought,
+        incoming,
         reply,
     )
 }

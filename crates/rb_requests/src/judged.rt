@@ -13,7 +13,7 @@ ghost use Rattle.rb_requests.specs.inner.Judged.{names_error as error_of_names};
 
 use crate::changes::{is_over, source_len};
 use crate::limits::{Limits, Refusal};
-use rb_engine::{App, Brought, BundleSource, DraftFault, ReadFault, Reply};
+use rb_engine::{App, BundleSource, DraftFault, IncomingBundle, ReadFault, Reply};
 use rb_format::FileFault;
 use rb_lexer::{SourceFault, SourceKind};
 use rb_locales::Name;
@@ -128,7 +128,7 @@ pub(crate) fn judge(
     app: &[u8],
     locale: &[u8],
     source: BundleSource<'_>,
-) -> Result<Brought, Unmade>
+) -> Result<IncomingBundle, Unmade>
     ensures { Judges limits.now app.now locale.now (payload_of source.entry) result }
 {
     match names_error(app, locale) {
@@ -138,8 +138,8 @@ pub(crate) fn judge(
     if is_over(limits.bundle_bytes, source_len(&source)) {
         return Err(Unmade::plain(Refusal::BundleTooLong.word()));
     }
-    match Brought::judge(alloc, app, locale, source) {
-        Ok(brought) => Ok(brought),
+    match IncomingBundle::judge(alloc, app, locale, source) {
+        Ok(incoming) => Ok(incoming),
         Err(fault) => Err(unread(fault)),
     }
 }

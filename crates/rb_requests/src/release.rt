@@ -24,7 +24,7 @@ use crate::change_list::{ChangePayload, LineChange};
 use crate::changes::{is_over, is_sum_over};
 use crate::judged::{Unmade, judge, undrafted};
 use crate::limits::{Limits, Refusal};
-use rb_engine::{App, BUNDLE_LIMIT, Brought, BundleSource, Draft, Engine, Reply};
+use rb_engine::{App, BUNDLE_LIMIT, BundleSource, Draft, Engine, IncomingBundle, Reply};
 use rb_locales::Name;
 use std::alloc::Global;
 
@@ -43,16 +43,16 @@ fn file_source(alloc: Global, digits: &str) -> Result<BundleSource<'static>, Unm
 }
 
 /// Adds a bundle to a draft, unless its file is too long.
-fn add_brought(limits: &Limits, brought: Brought, draft: &mut Draft) -> Result<(), Unmade>
+fn add_incoming(limits: &Limits, incoming: IncomingBundle, draft: &mut Draft) -> Result<(), Unmade>
     ensures app { draft.new.app ≡ draft.old.app }
-    ensures added { OnOk result ((over limits.now.bundle_bytes (length brought.1) ≡ false)
-        × (put_fault brought.0.name draft.old ≡ None)
-        × Adds draft.old (brought.0.name, Some brought.1) draft.new) }
+    ensures added { OnOk result ((over limits.now.bundle_bytes (length incoming.1) ≡ false)
+        × (put_fault incoming.0.name draft.old ≡ None)
+        × Adds draft.old (incoming.0.name, Some incoming.1) draft.new) }
     ensures refused { IfErr result (λ unmade. IfRefused unmade
-        (IsPutRefused limits.now draft.old brought.0 brought.1)) }
+        (IsPutRefused limits.now draft.old incoming.0 incoming.1)) }
 {
-    let is_long = is_over(limits.bundle_bytes, brought.len());
-    match brought.add_to(draft) {
+    let is_long = is_over(limits.bundle_bytes, incoming.len());
+    match incoming.add_to(draft) {
         Ok(()) if is_long => Err(Unmade::plain(Refusal::BundleTooLong.word())),
         Ok(()) => Ok(()),
         Err(fault) => Err(undrafted(fault)),
@@ -73,7 +73,7 @@ fn draft_put(
         draft.old result draft.new }
 {
     match judge(alloc, limits, app, locale, source) {
-        Ok(brought) => add_brought(limits, brought, draft),
+        Ok(incoming) => add_incoming(limits, incoming, draft),
         Err(unmade) => Err(unmade),
     }
 }

@@ -46,8 +46,8 @@ names_error (Ok a) (Some n) = None
 -- a bundle under valid names, of a payload that isn't too long; or the reason why it isn't read, or memory ran out when
 -- it was
 abbrev pub Judges : Limits → (app locale : List ℕ) → Payload → Result (Place × List ℕ) Unmade → Type 0
-Judges limits app locale payload (Ok brought) =
-    Reads app locale payload (Ok brought) × IsFileOf payload brought.1
+Judges limits app locale payload (Ok incoming) =
+    Reads app locale payload (Ok incoming) × IsFileOf payload incoming.1
     × (is_read limits (place_of app locale) payload ≡ true)
 Judges limits app locale payload (Err (Refused word detail)) =
     IsUnread limits app locale payload (reason word.now detail)

@@ -6,13 +6,13 @@ use Rattle.rb_requests.proofs.changes.put.Goals as goal
 
 pub returns-in-Some-clause-step : goal.returns-in-Some-clause-step
 returns-in-Some-clause-step c app locale payload reads file read =
-    let b = c.args.brought in
+    let b = c.args.incoming in
     not_put c.args.limits.now c.args.engine.now c.args.change app locale payload b.0 b.1
     (short_read c.args.limits.now (place_of app locale) payload read) reads file c.in-Some.refusal (sym c.in-Some.is ∙ c.refused.ensures)
 
 pub returns-in-None-clause-step : goal.returns-in-None-clause-step
 returns-in-None-clause-step c app locale payload reads file read =
-    let b = c.args.brought in
+    let b = c.args.incoming in
     let p = c.put in
     put c.args.limits.now c.args.engine.now c.args.change app locale payload b.0 b.1
     (short_read c.args.limits.now (place_of app locale) payload read) reads file p.new.self p.result (sym c.in-None.is ∙ c.refused.ensures)

@@ -25,7 +25,7 @@ returns-clause-reply c =
     let payload = payload_of c.args.source in
     let read = c.in-Ok.ensures in
     let some = rw c.file_len.ensures at c.is_some-is_there.ensures in
-    let is = some ∙ stored_there old (place_of app locale) c.in-Ok.brought.0 read.0.0 in
+    let is = some ∙ stored_there old (place_of app locale) c.in-Ok.incoming.0 read.0.0 in
     put_as c.put_change-change.result c.is_some-is_there.result (is_stored old (place_of app locale))
     (λ (made : Change) (there : Bool). OnOk c.store_read.result (ChangeReply limits old made app locale payload (stored_line limits there)
     c.store_read.new.reply c.store_read.new.engine)) c.put_change-change.ensures is
@@ -40,7 +40,7 @@ returns-clause-fault c =
     let payload = payload_of c.args.source in
     let read = c.in-Ok.ensures in
     let some = rw c.file_len.ensures at c.is_some-is_there.ensures in
-    let is = some ∙ stored_there old (place_of app locale) c.in-Ok.brought.0 read.0.0 in
+    let is = some ∙ stored_there old (place_of app locale) c.in-Ok.incoming.0 read.0.0 in
     put_as c.put_change-change.result c.is_some-is_there.result (is_stored old (place_of app locale))
     (λ (made : Change) (there : Bool). IfErr c.store_read.result
     (λ s. LeavesOf (ChangeReply limits old made app locale payload (stored_line limits there)) s old c.store_read.new.engine))

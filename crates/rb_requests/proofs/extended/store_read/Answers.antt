@@ -29,7 +29,7 @@ returns-in-Ok c =
       reply = λ app locale payload reads file read.
           let came = judged limits old (Requests (change_request c.args.change app locale payload)) outcome new told
           (c.in-Answer.ensures.step app locale payload reads file read) in
-          change_told limits old new c.args.change app locale payload c.args.brought outcome (change_line limits c.args.replaced)
+          change_told limits old new c.args.change app locale payload c.args.incoming outcome (change_line limits c.args.replaced)
           c.tell_stored.new.reply reads read came c.in-Ok.ensures;
       fault = λ app locale payload reads file read. tt;
     }
@@ -39,7 +39,7 @@ returns-clause-fault c app locale payload reads file read =
     let answer = c.in-Answer.answer in
     let told : is_memory (Replies answer) ≡ false = sym c.is_memory.ensures ∙ c.if-is_memory.false in
     rw c.untold.ensures
-    (change_left c.args.limits.now c.args.engine.now c.put.new.engine c.args.change app locale payload c.args.brought
+    (change_left c.args.limits.now c.args.engine.now c.put.new.engine c.args.change app locale payload c.args.incoming
     (change_line c.args.limits.now c.args.replaced) answer reads read told (c.in-Answer.ensures.step app locale payload reads file read))
 
 pub returns-in-Refused-clause-reply : goal.returns-in-Refused-clause-reply
@@ -49,5 +49,5 @@ returns-in-Refused-clause-reply c app locale payload reads file read =
     let call = Requests (change_request c.args.change app locale payload) in
     let came = judged limits c.args.engine.now call outcome c.put.new.engine refl (c.in-Refused.ensures.step app locale payload reads file read) in
     let told = c.in_ok-tell_word-in-Refused.ensures ∙ (ap error_line c.word.ensures ∙ refused_line limits c.args.replaced c.in-Refused.refusal) in
-    change_told limits c.args.engine.now c.put.new.engine c.args.change app locale payload c.args.brought outcome
+    change_told limits c.args.engine.now c.put.new.engine c.args.change app locale payload c.args.incoming outcome
     (change_line limits c.args.replaced) c.tell_word.new.reply reads read came told

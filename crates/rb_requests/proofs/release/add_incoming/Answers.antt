@@ -1,6 +1,6 @@
 use Rattle.std.proofs.Common.{◌∙◌, sym}
 use Rattle.rb_packages.proofs.Drafts.{put_drafted}
-use Rattle.rb_requests.proofs.release.add_brought.Goals as goal
+use Rattle.rb_requests.proofs.release.add_incoming.Goals as goal
 
 pub returns-in-Ok-2-clause-added : goal.returns-in-Ok-2-clause-added
 returns-in-Ok-2-clause-added c =
@@ -12,6 +12,6 @@ returns-in-Ok-2-clause-added c =
       added.judged,
       record {
         edits = added.added;
-        counts = λ files is. put_drafted files old new c.args.brought.0.name c.args.brought.1 is added.added added.size;
+        counts = λ files is. put_drafted files old new c.args.incoming.0.name c.args.incoming.1 is added.added added.size;
       },
     )

@@ -17,12 +17,12 @@ use std::marker::Model;
 
 /// A bundle that was read from a request's payload, and the name under which to store it.
 #[derive(Drop)]
-pub struct Brought {
+pub struct IncomingBundle {
     place: Place,
     bundle: Bundle,
 }
 
-impl Model for Brought {
+impl Model for IncomingBundle {
     ghost use Rattle.std.specs.Prelude.{List, ℕ};
     ghost use Rattle.std.specs.Coded.{codes};
     ghost use Rattle.rb_engine.specs.declared.place.Place.{Place};
@@ -34,7 +34,7 @@ impl Model for Brought {
     ghost view = { λ b. (b.place, b.bundle) };
 }
 
-impl Brought {
+impl IncomingBundle {
     /// Reads an incoming bundle: checks its names, then parses and writes a text or accepts a file.
     /// Returns the first error: `BadApp`, `Reserved`, `BadLocale`, `BadText` or `BadFile`; or
     /// `Memory`. An error keeps nothing of the payload.
@@ -43,13 +43,13 @@ impl Brought {
         app: &[u8],
         locale: &[u8],
         source: BundleSource<'_>,
-    ) -> Result<Brought, Reply>
+    ) -> Result<IncomingBundle, Reply>
         ensures read { Reads app.now locale.now (payload_of source.entry) result }
-        ensures file { IfOk result (λ brought. IsFileOf (payload_of source.entry) brought.1) }
+        ensures file { IfOk result (λ incoming. IsFileOf (payload_of source.entry) incoming.1) }
     {
         let place = place_of(app, locale)?;
         let bundle = bundle_of(alloc, source)?;
-        Ok(Brought { place, bundle })
+        Ok(IncomingBundle { place, bundle })
     }
 
     /// Reads an incoming bundle like `read`, and reports what is wrong with a text or a file: the
@@ -59,10 +59,10 @@ impl Brought {
         app: &[u8],
         locale: &[u8],
         source: BundleSource<'_>,
-    ) -> Result<Brought, ReadFault>
+    ) -> Result<IncomingBundle, ReadFault>
         ensures read { IfOk result
-            (λ brought. Reads app.now locale.now (payload_of source.entry) (Ok brought)) }
-        ensures file { IfOk result (λ brought. IsFileOf (payload_of source.entry) brought.1) }
+            (λ incoming. Reads app.now locale.now (payload_of source.entry) (Ok incoming)) }
+        ensures file { IfOk result (λ incoming. IsFileOf (payload_of source.entry) incoming.1) }
         ensures first { IfErr result (IsFirstFault (payload_of source.entry)) }
     {
         let place = match place_of(app, locale) {
@@ -70,7 +70,7 @@ impl Brought {
             Err(fault) => return Err(ReadFault::Refused(Reply::from(fault))),
         };
         match judged_bundle(alloc, source) {
-            Ok(bundle) => Ok(Brought { place, bundle }),
+            Ok(bundle) => Ok(IncomingBundle { place, bundle }),
             Err(fault) => Err(fault),
         }
     }
@@ -94,12 +94,12 @@ impl Brought {
         app: &[u8],
         locale: &[u8],
         payload: Payload,
-    ) -> Result<Brought, Reply>
+    ) -> Result<IncomingBundle, Reply>
         ensures read { Reads app.now locale.now payload result }
     {
         let place = place_of(app, locale)?;
         let bundle = payload_bundle(alloc, payload)?;
-        Ok(Brought { place, bundle })
+        Ok(IncomingBundle { place, bundle })
     }
 
     pub fn app(&self) -> &App
