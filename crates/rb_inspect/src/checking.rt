@@ -40,7 +40,7 @@ fn checked<R: Print + Eprint>(
     ensures refused { IfErr accepted.entry (λ error. exit_status result ≡ 1) }
 {
     match accepted {
-        Err(error) => failed(rt, console, error),
+        Err(refusal) => failed(rt, console, refusal),
         Ok(_) if console.is_quiet => ExitCode::SUCCESS,
         Ok(bundle) => {
             let (name, visits) = (console.on_stdout(name), bundle.visits());
