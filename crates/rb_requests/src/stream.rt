@@ -14,6 +14,9 @@ use rb_replies::put_found_line;
 use rb_views::Item;
 use std::alloc::{AllocError, Global};
 
+/// The room for a reply that is made before it is written: more than most need, so it rarely grows.
+const FIRST: usize = 256;
+
 /// Writes bytes, unless a call of the sink has failed. Returns true if one has.
 fn pass<S: Sink>(sink: &mut S, failed: bool, bytes: &[u8]) -> bool
     ensures { Passes failed (writer (S.written sink.old) (S.faults sink.old) (S.settled sink.old))
@@ -145,7 +148,7 @@ pub(crate) fn put_found<S: Sink>(
         (reply_line (Some (Finds (hit_of tree_seen found.now) found.now.valid)))) }
     ensures none { IfErr result (λ _. sink.new ≡ sink.old) }
 {
-    let mut held = Vec::with_capacity(alloc, PIECE)?;
+    let mut held = Vec::with_capacity(alloc, FIRST)?;
     let mut stream = Stream {
         sink,
         held: &mut held,
