@@ -1,3 +1,4 @@
+pub mod TextsPut
 pub mod TextsRead
 pub mod Members
 pub mod MembersRead

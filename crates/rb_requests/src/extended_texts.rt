@@ -43,7 +43,7 @@ impl<'a> ExtendedTexts<'a> {
         ensures { (found : Members) (d : Data) → IsMember member.entry d
             → HoldsAll self.old found → HoldsAll self.new (put key.now d found) }
     {
-        self.texts = self.texts.with(key, member);
+        self.texts.put(key, member);
         self.form = after(key, "as", member, self.form);
         self.sizes = after(key, "sizes", member, self.sizes);
     }

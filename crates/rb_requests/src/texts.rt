@@ -38,17 +38,23 @@ impl<'a> Texts<'a> {
         }
     }
 
-    pub(crate) fn with(self, key: &str, member: Member<'a>) -> Self
-        ensures { (found : Members) (d : Data) → IsMember member.entry d → Holds self.entry found
-            → Holds result (put key.now d found) }
+    /// Stores a member that was read, if its name counts.
+    pub(crate) fn put(&mut self, key: &str, member: Member<'a>)
+        ensures { (found : Members) (d : Data) → IsMember member.entry d → Holds self.old found
+            → Holds self.new (put key.now d found) }
     {
-        Texts {
-            op: after(key, "op", member, self.op),
-            app: after(key, "app", member, self.app),
-            locale: after(key, "locale", member, self.locale),
-            path: after(key, "path", member, self.path),
-            text: after(key, "text", member, self.text),
-            file: after(key, "file", member, self.file),
+        if key == "op" {
+            self.op = Some(member);
+        } else if key == "app" {
+            self.app = Some(member);
+        } else if key == "locale" {
+            self.locale = Some(member);
+        } else if key == "path" {
+            self.path = Some(member);
+        } else if key == "text" {
+            self.text = Some(member);
+        } else if key == "file" {
+            self.file = Some(member);
         }
     }
 }
@@ -86,7 +92,7 @@ fn read_members<'a>(reader: &mut Reader<'a>, texts: &mut Texts<'a>) -> bool
     'members: loop {
         match reader.next_key() {
             Ok(Some(key)) => match read_value(reader, 126) {
-                Ok(member) => *texts = texts.with(key, member),
+                Ok(member) => texts.put(key, member),
                 Err(_) => return false,
             },
             Ok(None) => return true,

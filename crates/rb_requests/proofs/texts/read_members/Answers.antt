@@ -20,7 +20,7 @@ members-preserved c =
       found = put k d i.found;
       turns = i.turns - 1;
       enough = omega (arith, i.enough);
-      holds = c.with.ensures i.found d done.ok.1 i.holds;
+      holds = c.put.ensures i.found d done.ok.1 i.holds;
       read = i.read ∙ member_read (value 126) i.found i.turns k l.reader s r d (omega (arith, i.enough)) named done.ok.2;
     }
 
