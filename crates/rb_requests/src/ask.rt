@@ -140,7 +140,9 @@ pub(crate) fn line_of<'a>(alloc: Global, texts: &Texts<'a>) -> Result<Option<Lin
     let Some(Member::Text(op)) = texts.op else {
         return Ok(None);
     };
-    if op == "install" {
+    if op == "look" {
+        Ok(look_of(texts))
+    } else if op == "install" {
         change_of(alloc, texts, Change::Install)
     } else if op == "replace" {
         change_of(alloc, texts, Change::Replace)
@@ -148,8 +150,6 @@ pub(crate) fn line_of<'a>(alloc: Global, texts: &Texts<'a>) -> Result<Option<Lin
         Ok(remove_of(texts))
     } else if op == "list" {
         Ok(list_of(texts))
-    } else if op == "look" {
-        Ok(look_of(texts))
     } else {
         Ok(None)
     }
