@@ -14,7 +14,7 @@ use rb_replies::put_found_line;
 use rb_views::Item;
 use std::alloc::{AllocError, Global};
 
-/// The room for a reply that is made before it is written: more than most need, so it rarely grows.
+/// The initial capacity of a reply's buffer, in bytes: more than most need, so it rarely grows.
 const FIRST: usize = 256;
 
 /// Writes bytes, unless a call of the sink has failed. Returns true if one has.
