@@ -4,6 +4,7 @@ import (
 	"context"
 	"errors"
 	"fmt"
+	"math/rand"
 	"net"
 	"os"
 	"os/exec"
@@ -30,15 +31,26 @@ func natsServer(t *testing.T) string {
 	return ""
 }
 
+// freeAddress returns an address where nobody listens. Its port is below those that the system gives to connections, as a server that is
+// started again needs the same one.
+func freeAddress(t *testing.T) string {
+	t.Helper()
+	random := rand.New(rand.NewSource(time.Now().UnixNano()))
+	for end := time.Now().Add(generous); ; {
+		l, err := net.Listen("tcp", fmt.Sprintf("127.0.0.1:%d", 10000+random.Intn(20000)))
+		if err == nil {
+			defer l.Close()
+			return l.Addr().String()
+		} else if time.Now().After(end) {
+			t.Fatal(err)
+		}
+	}
+}
+
 // start runs a nats-server over a folder, and returns its address and its process.
 func start(t *testing.T, folder, settings string) (url string, process *os.Process) {
 	t.Helper()
-	l, err := net.Listen("tcp", "127.0.0.1:0")
-	if err != nil {
-		t.Fatal(err)
-	}
-	address := l.Addr().String()
-	l.Close()
+	address := freeAddress(t)
 	file := filepath.Join(folder, "nats.conf")
 	text := fmt.Sprintf("listen: %q\nmax_payload: 8MB\njetstream { store_dir: %q }\n%s", address, folder, settings)
 	if err := os.WriteFile(file, []byte(text), 0o600); err != nil {
