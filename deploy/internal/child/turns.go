@@ -244,6 +244,18 @@ func (t *Turns) turn(c *Child, burst []*Call) (took time.Duration, ok bool) {
 		took = after - before // the machine may be busy with something else
 	}
 	t.account(burst[0].of, len(burst), took, replies)
+	if len(replies) > 0 {
+		go pass(burst, replies) // the child has the next turn meanwhile
+	}
+	if err == nil {
+		return took, true
+	}
+	t.retry(burst[len(replies):])
+	return took, false
+}
+
+// pass passes the replies to the first calls on.
+func pass(burst []*Call, replies [][]byte) {
 	for i, reply := range replies {
 		call := burst[i]
 		if call.Reply = reply; reply == nil {
@@ -251,11 +263,6 @@ func (t *Turns) turn(c *Child, burst []*Call) (took time.Duration, ok bool) {
 		}
 		call.done(call)
 	}
-	if err == nil {
-		return took, true
-	}
-	t.retry(burst[len(replies):])
-	return took, false
 }
 
 // retry has lines whose child ended answered by another one, once.
