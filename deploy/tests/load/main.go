@@ -34,6 +34,7 @@ func main() {
 	}
 	watched, err := parseProcesses(*ids)
 	end(err)
+	watched = append(watched, process{"load", os.Getpid()})
 	for _, word := range strings.Split(*connections, ",") {
 		n, err := strconv.Atoi(word)
 		end(err)
