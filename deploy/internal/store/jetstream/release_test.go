@@ -122,7 +122,7 @@ func TestAnErasureInTheStream(t *testing.T) {
 			t.Errorf("%q", got)
 		}
 		if i == 0 {
-			_ = process.Kill()
+			kill(process)
 			restart(t, folder)
 			opened(t, url, 0).Close()
 			for !l.Reached() {

@@ -73,6 +73,12 @@ func restart(t *testing.T, folder string) *os.Process {
 	return command.Process
 }
 
+// kill ends a nats-server, and waits until it has given its port back: one that is started before can't listen.
+func kill(process *os.Process) {
+	_ = process.Kill()
+	_, _ = process.Wait()
+}
+
 // opened returns the log of a server, once it is there.
 func opened(t *testing.T, url string, bytes int64) *Log {
 	t.Helper()
@@ -151,7 +157,7 @@ func TestTheLogKeepsTheLastEntryOfEachBundle(t *testing.T) {
 	if err != nil || ends != 6 || !strings.HasPrefix(name, "RESB of 2") {
 		t.Error(name, ends, err)
 	}
-	_ = process.Kill()
+	kill(process)
 	for end := time.Now().Add(generous); l.Reached(); time.Sleep(time.Millisecond) {
 		if time.Now().After(end) {
 			t.Fatal("the connection is still there")
