@@ -210,12 +210,13 @@ func newLoopDisk(t *testing.T) loopDisk {
 // fail makes the disk read-only, as ext4 does after an error.
 func (d loopDisk) fail() { mustRun(d.T, "mount", "-o", "remount,abort", d.folder) }
 
-// again mends the disk and mounts it again: to read only, or to write too.
+// again mends the disk and mounts it again: to read only, or to write too. The system may still have the loop device of the last mount for
+// a moment.
 func (d loopDisk) again(options string) {
 	d.Helper()
 	mustRun(d.T, "umount", d.folder)
 	_ = exec.Command("e2fsck", "-fy", d.image).Run()
-	mustRun(d.T, "mount", "-o", options, d.image, d.folder)
+	eventually(d.T, "the disk is mounted", func() bool { return exec.Command("mount", "-o", options, d.image, d.folder).Run() == nil })
 }
 
 // TestAReadOnlyDisk makes the disk read-only under a gateway: lookups are answered, changes aren't made and say so. A gateway over a
