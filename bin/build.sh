@@ -79,8 +79,8 @@ crates_below() {
 # A whole build takes this many times as long as its beginning up to rb_tree (bench/notes/first_build.md).
 whole_by_tree=6
 
-# Prints how long the build will take, once rb_tree is proved: most crates stand on it, so it is one of the first. On a machine that kept
-# proofs it takes less.
+# Prints how long the build will take, once rb_tree is proved: most crates use it, so it is one of the first. With stored proofs a build
+# takes less.
 estimate() {
     say "a build from nothing takes about $(($1 * whole_by_tree / 60 + 1)) min on this machine"
     say 'bin/resb --unproved COMMAND answers in two minutes meanwhile; an interrupted build continues where it stopped'
