@@ -17,6 +17,10 @@ else
 fi
 libraries=/usr/share/gocode
 PATH=$PATH:/usr/sbin # where nats-server is
+# a Go of Debian's backports is installed beside /usr/bin/go, which is older; the newest of them is found first
+for newer in /usr/lib/go-1.2[1-9]/bin; do
+    [ ! -x "$newer/go" ] || PATH=$newer:$PATH
+done
 
 # prints the Debian packages that are missing for a gateway that runs its own server
 missing_for_gateway() {
