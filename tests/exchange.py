@@ -348,6 +348,21 @@ class Imports(Case):
         self.assertEqual((status, json.loads(self.tree("de.txt"))), (0, {"n": 5, "empty": {}}))
         self.assertIn("days: left away", said)
 
+    def test_inline_codes(self):
+        if "xliff2" not in FORMATS:
+            return
+        target = '<pc id="1" dispStart="&lt;b&gt;" dispEnd="&lt;/b&gt;">Na</pc>, <ph id="2" disp="{name}"/>'
+        unit = f'<unit id="u" name="hello"><segment><source>x</source><target>{target}</target></segment></unit>'
+        self.save("in.xlf", f'<xliff xmlns="urn:oasis:names:tc:xliff:document:2.0" version="2.0"><file id="f">{unit}</file></xliff>')
+        self.assertEqual(self.bring("xliff2", file="in.xlf")[0], 0)
+        self.assertEqual(json.loads(self.tree("de.txt")), {"hello": "<b>Na</b>, {name}", "n": 7})
+
+    def test_a_pipe_is_written_through(self):
+        os.mkfifo(self.path("pipe"))
+        reader = subprocess.Popen(["cat", self.path("pipe")], stdout=subprocess.PIPE)
+        self.assertEqual(self.run_tool("export", "--format", "json", "--source", "en.txt", "--target", "de.txt", "-o", "pipe")[0], 0)
+        self.assertEqual(len(json.loads(reader.communicate(timeout=50)[0])), 3)
+
 
 class Refusals(Case):
     def refused(self, kind, data, line, what, *more):
@@ -390,6 +405,17 @@ class Refusals(Case):
             self.refused("xliff1", "<a>\n<b></a>", 2, "")
             self.refused("xliff1", "<!DOCTYPE a []>\n<a/>", 1, "document type")
             self.refused("xliff2", "<a/>", 1, "no {urn:")
+
+    def test_texts_of_strangers(self):
+        """Controls aren't printed as they are, long patterns and lines don't take quadratic time, and each entry of a PO file counts."""
+        self.refused("json", '[{"id":"\\u001b[2J\\nforged"}]', 1, "\\u{1b}[2J\\u{a}forged: no string")
+        self.refused("json", '[{"id":' + "1" * 5000 + "}]", 1, "no object")
+        self.refused("json", json.dumps([{"id": "hello", "target": "{n,plural,offset:" + "1" * 100_000}]), 1, "isn't a message pattern")
+        if "properties" in FORMATS:
+            self.refused("properties", "hello=" + "a\\\n" * 100_000, 1, "lines")
+        if "po" in FORMATS:
+            self.refused("po", 'msgctxt "x"\nmsgid "a"\nmsgstr "b"\n#.\n', 1, "no string")
+            self.refused("po", 'msgctxt "hello"\nmsgid "a"\nmsgstr "cut of\n', 3, "Syntax error")
 
     def test_strings_that_a_format_cannot_have(self):
         for kind in REFUSED.keys() & set(FORMATS):
