@@ -11,26 +11,26 @@ ICU_PACKAGE is the package icudt*.dat of the installed libicu (default: cut out 
 ICU_PACKAGE, objcopy; if one of these is missing, a line says `skipped` and which, and the status is 0.
 """
 import collections
-import ctypes.util
 import glob
 import importlib.util
 import json
 import os
 import random
 import re
-import shutil
 import subprocess
 import sys
 import tempfile
 
 TOP = os.path.dirname(os.path.dirname(os.path.abspath(__file__)))
+sys.path.insert(0, os.path.join(TOP, "bench"))
+
+import icu  # noqa: E402
+from icu import Skipped  # noqa: E402
+from icu import server as icu_server  # noqa: E402
+
 TREES = ("main", "curr", "lang", "region", "unit", "zone", "brkitr", "coll", "rbnf")
 WITHOUT = "different without a reason"
 MARKER = "\u2205\u2205\u2205"
-
-
-class Skipped(Exception):
-    """What is missing."""
 
 
 def reader():
@@ -41,36 +41,8 @@ def reader():
     return module.Reader
 
 
-def need(*tools):
-    for tool in tools:
-        if not shutil.which(tool):
-            raise Skipped(tool)
-
-
 def package(folder):
-    """Returns the package of ICU's data, which libicudata holds as it is, in its one section of constants."""
-    if os.environ.get("ICU_PACKAGE"):
-        return os.environ["ICU_PACKAGE"]
-    need("objcopy", "ldconfig")
-    listed = subprocess.run(["ldconfig", "-p"], capture_output=True, text=True).stdout
-    libraries = re.findall(r"=> (.*libicudata\.so\.(\d+))$", listed, re.MULTILINE)
-    if not libraries:
-        raise Skipped("libicudata")
-    library, version = libraries[0]
-    path = os.path.join(folder, f"icudt{version}l.dat")
-    subprocess.run(["objcopy", "-O", "binary", "-j", ".rodata", library, path], check=True)
-    return path
-
-
-def icu_server(folder):
-    """Returns the C server, built."""
-    need("cc", "pkg-config")
-    flags = subprocess.run(["pkg-config", "--cflags", "--libs", "icu-uc"], capture_output=True, text=True)
-    if flags.returncode:
-        raise Skipped("icu-uc")
-    program = os.path.join(folder, "icu_server")
-    subprocess.run(["cc", "-O2", "-o", program, os.path.join(TOP, "bench", "icu_server.c"), *flags.stdout.split()], check=True)
-    return program
+    return icu.package(os.environ.get("ICU_PACKAGE"), folder)
 
 
 def strings(item, path=""):

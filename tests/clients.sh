@@ -13,7 +13,11 @@ program=$(realpath "$program")
 cd "$(dirname "$0")/../examples/clients"
 if command -v python3 >/dev/null; then
     PYTHONDONTWRITEBYTECODE=1 python3 try.py "$program"
+else
+    echo 'skipped: resb.py: python3 is not there'
 fi
 if command -v node >/dev/null; then
     node try.mjs "$program"
+else
+    echo 'skipped: resb.mjs: node is not there'
 fi

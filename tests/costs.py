@@ -33,8 +33,13 @@ class Costs:
             out.write(data)
         return path
 
-    def run(self, *arguments, source=os.devnull):
-        return measured([self.program, *arguments], source)
+    def run(self, *arguments, source=os.devnull, status=0):
+        """Returns the seconds and the memory of a command, which must end with this status."""
+        seconds, memory, ended = measured([self.program, *arguments], source)
+        if ended != status:
+            self.failed = True
+            print(f"FAILED: {arguments[0]} ends with status {ended}", flush=True)
+        return seconds, memory
 
     def say(self, name, value, allowed, unit):
         over = value > allowed
@@ -95,7 +100,7 @@ def refused_replies(costs):
 def traces(costs):
     """A trace takes no longer than the lookup, however long an alias's text is."""
     text = costs.file("root.txt", b'root{a:alias{"root@' + b"x" * 4 * MB + b'/a"}}')
-    plain, traced = (min(costs.run("look", *words, "root", "a", text)[0] for _ in range(5)) for words in ((), ("--trace",)))
+    plain, traced = (min(costs.run("look", *words, "root", "a", text, status=1)[0] for _ in range(5)) for words in ((), ("--trace",)))
     costs.say("`look --trace` over an alias of 4 MB, beside `look`", traced / plain, 3, "times")
 
 
@@ -103,7 +108,7 @@ def lints(costs):
     """`lint` of what takes most memory, and the length of its messages."""
     for name, text in (("commas and an open quote", b'root{a{"x"' + b"," * 4 * MB + b'"'), ("open braces", b"root{a" + b"{" * 4 * MB)):
         path = costs.file("root.txt", text)
-        costs.say(f"`lint` of {name}, memory beside the text", costs.run("lint", path)[1] * 1024 * 1024 / len(text), 40, "times")
+        costs.say(f"`lint` of {name}, memory beside the text", costs.run("lint", path, status=1)[1] * 1024 * 1024 / len(text), 40, "times")
     for name, make, allowed in (("one array", one_array, 40), ("a string of placeholders", placeholders, 30), ("a long key", long_key, 20)):
         text = make(4 * MB)
         path = costs.file("root.txt", text)

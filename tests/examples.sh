@@ -51,7 +51,7 @@ serves() {
         locale=$(basename "$text" .txt)
         [ "$locale" = parents ] || arguments+=("$locale=$3/$1/$locale.$2")
     done
-    "$program" serve "${arguments[@]}" <"$1/requests.jsonl" | agrees "$1, .$2" "$1/replies.jsonl"
+    agrees "$1, .$2" "$1/replies.jsonl" < <("$program" serve "${arguments[@]}" <"$1/requests.jsonl")
 }
 
 while IFS= read -r file; do
@@ -62,7 +62,7 @@ while IFS= read -r file; do
         *.txt) accepts "$file" ;;
         */requests.jsonl) ;;
         */*) fails "not run: $file" ;;
-        *.jsonl) "$program" serve <"$file" | agrees "$file" "${file%.jsonl}.replies.jsonl" ;;
+        *.jsonl) agrees "$file" "${file%.jsonl}.replies.jsonl" < <("$program" serve <"$file") ;;
         *) fails "not run: $file" ;;
     esac
 done < <(find . -type f | sed 's,^\./,,' | sort)

@@ -227,11 +227,13 @@ def check_files(program, folder):
 
 
 def check_race(program, folder):
-    """Changes a text while it is formatted: it must have the changed text or the formatted one."""
+    """Changes a text while it is formatted: it must have the changed text, or that text formatted. A change between the last look of the
+    program and its renaming is lost, which happens in about one of a hundred turns."""
     path = folder / "race.txt"
     big = b"de{" + b"".join(b"k%d{\"x\"}" % i for i in range(40000)) + b"}"
     changed = b"de{changed{\"y\"}}"
-    results = set()
+    formatted = run(program, "fmt", "-", stdin=changed).stdout
+    results, lost = set(), 0
     for turn in range(12):
         path.write_bytes(big)
         other = folder / "other"
@@ -240,11 +242,12 @@ def check_race(program, folder):
         timer.start()
         done = run(program, "fmt", "race.txt", folder=folder)
         timer.join()
-        expect(path.read_bytes() == changed or done.returncode == 0, "a changed text is lost")
+        lost += path.read_bytes() not in (changed, formatted)
         if done.returncode == 1:
             expect(done.stderr == b"resb: the text changed while it was formatted: race.txt\n", f"the message is {done.stderr}")
         results.add(done.returncode)
-    print(f"statuses of texts that change: {sorted(results)}")
+    expect(lost <= 2, f"{lost} changed texts are lost")
+    print(f"statuses of texts that change: {sorted(results)}; {lost} changes are lost")
 
 
 def main():

@@ -337,7 +337,8 @@ def beside_another(program):
     mixed = [(is_fair, line) for line in fair for is_fair, line in ((False, greedy_line(chosen)), (True, line))]
     limits = ["--app-bytes", "4000", "--bundle-bytes", "3000", "--reply-bytes", "200", "--line-bytes", "16000", "--steps", "100",
               "--keep-serving"]
-    _, alone, _ = run(program, limits, fair)
+    status, alone, errors = run(program, limits, fair)
+    expect("alone: how it ended", (0, len(fair), ""), (status, len(alone), errors))
     status, beside, errors = run(program, limits + ["--apps", "2"], [line for _, line in mixed])
     expect("beside another: how it ended", (0, len(mixed), ""), (status, len(beside), errors))
     given = [reply for (is_fair, _), reply in zip(mixed, beside) if is_fair]

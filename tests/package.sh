@@ -89,6 +89,8 @@ if command -v mandoc >/dev/null && command -v col >/dev/null && command -v pytho
         done
     done
     echo 'ok: the manual pages have all options'
+else
+    echo 'skipped: the options on manual pages: mandoc, col or python3 is not there'
 fi
 bash -c '. "$1" && complete -p resb' - "$made/root/usr/share/bash-completion/completions/resb" >/dev/null
 echo 'ok: a completion'
