@@ -533,9 +533,12 @@ class Packages(Case):
             self.assertIn(what, printed)
 
     def test_no_name_leads_out_of_the_folder(self):
-        items = {name: everything((2, 0), "<") for name in ("../../out.res", "curr/../../out.res", "/out.res", "..res", "a b.res", "de.res")}
-        status, printed, texts = self.run_tool("--package", self.save("icudt.dat", package(items)))
-        self.assertEqual((status, printed, list(texts)), (0, "", ["de.txt"]))
+        items = {name: everything((2, 0), "<") for name in ("../out.res", "curr/../../out.res", "/out.res", "..res", "a b.res", "de.res")}
+        path = self.save("icudt.dat", package(items))
+        for args in (), ("--all",):
+            status, printed, texts = self.run_tool("--package", path, *args)
+            self.assertEqual((status, printed, list(texts)), (0, "", ["de.txt"]))
+            self.assertEqual(sorted(os.listdir(self.folder.name)), ["icudt.dat", "texts"])
 
 
 class Runs(Case):
@@ -580,8 +583,10 @@ class Runs(Case):
         self.assertEqual(os.listdir(self.path("texts")), ["de.txt"])
         if os.path.exists("/dev/full"):
             with open("/dev/full", "wb") as full:
-                run = subprocess.run([sys.executable, TOOL, path], stdout=full, stderr=subprocess.PIPE)
+                self.save("None.part", b"")
+                run = subprocess.run([sys.executable, TOOL, path], stdout=full, stderr=subprocess.PIPE, cwd=self.folder.name)
             self.assertEqual((run.returncode, run.stderr), (2, b"cannot write stdout\n"))
+            self.assertTrue(os.path.exists(self.path("None.part")))
 
 
 class Damage(Case):
