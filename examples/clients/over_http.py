@@ -114,7 +114,7 @@ class Bundles:
             except (OSError, HTTPException):
                 # A change may have been done, though its answer was lost: a PUT may be asked again, others are left to the caller.
                 self.connection = None
-                if method in ("POST", "DELETE") and not address.endswith("/look") or time.monotonic() > end:
+                if method not in ("GET", "PUT") and not address.endswith("/look") or time.monotonic() > end:
                     raise
                 time.sleep(0.1)
                 continue
