@@ -710,7 +710,7 @@ def measure(report, is_large):
     report.lookup("a trail of 32 names, 256 levels", deep_trail, sizes, 100, 20)
     longer = "a trail of 32 names, 256 levels, random keys"
     report.lookup(longer, deep_random_trail, [MB, 19 * MB, 60 * MB], 1500, 3)
-    report.lookup("that trail within 100,000 steps", deep_random_trail, [60 * MB], 60, 20, ["--steps", "100000"])
+    report.lookup("that trail within 10,000 steps", deep_random_trail, [19 * MB, 60 * MB], 10, 40, ["--steps", "10000"])
     report.reply("a reply whose keys share their bytes", [MB // 20, MB // 10, MB * 3 // 10])
     report.line("members that nobody asked for", [MB, 8 * MB, 48 * MB])
     report.applications("applications of one small bundle", [1_000, 10_000, 100_000])

@@ -35,6 +35,6 @@ func Limits(memory int64, apps int, reply int64) []string {
 	}
 	return []string{
 		"--app-bytes", fmt.Sprint(quota), "--bundle-bytes", fmt.Sprint(bundle), "--reply-bytes", fmt.Sprint(reply),
-		"--line-bytes", fmt.Sprint(line + 4096), "--apps", fmt.Sprint(apps), "--steps", "100000", "--keep-serving",
+		"--line-bytes", fmt.Sprint(line + 4096), "--apps", fmt.Sprint(apps), "--steps", "10000", "--keep-serving",
 	}
 }
