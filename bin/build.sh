@@ -77,10 +77,9 @@ crates_below() {
 }
 
 # A whole build takes this many times as long as its beginning up to rb_tree (bench/notes/first_build.md).
-whole_by_tree=6
+whole_by_tree=9
 
-# Prints how long the build will take, once rb_tree is proved: most crates use it, so it is one of the first. With stored proofs a build
-# takes less.
+# Prints how long the build will take, once rb_tree is proved: most crates use it, so it is one of the first.
 estimate() {
     say "a build from nothing takes about $(($1 * whole_by_tree / 60 + 1)) min on this machine"
     say 'bin/resb --unproved COMMAND answers in two minutes meanwhile; an interrupted build continues where it stopped'
@@ -90,12 +89,14 @@ estimate() {
 progress() {
     left=$(crates_below rb_tool | wc -l)
     began=$(date +%s)
+    first=1
+    [ ! -e "$top/crates/rb_tree/out/rlib" ] || first= # stored proofs say nothing of the time of a first build
     while IFS= read -r line; do
         case $line in
             '== summary') ;;
             '== '*)
                 seconds=$(($(date +%s) - began))
-                [ "$line" != '== rb_tree' ] || estimate "$seconds"
+                [ "$first$line" != '1== rb_tree' ] || estimate "$seconds"
                 left=$((left - 1))
                 time=$(printf '%d:%02d' $((seconds / 60)) $((seconds % 60)))
                 if [ -t 2 ]; then

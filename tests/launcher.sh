@@ -103,6 +103,11 @@ resb: bin/resb --unproved COMMAND answers in two minutes meanwhile; an interrupt
 resb: 0:00: rb_tree is checked, 2 to go
 resb: 0:00: rb_requests is checked, 1 to go
 resb: 0:00: rb_tool is checked, 0 to go; 0" sed -E 's/0:[0-9]+:/0:00:/' "$made/said"
+cp "$second/crates/rb_tool/out/rb_tool" "$made/rb_tool"
+touch -d '1 hour' "$second/crates/rb_tool/src/main.rt"
+mkdir -p "$second/crates/rb_tree/out/rlib"
+trial 'a build over stored proofs says no time of a first one' '0; 0' \
+    env RESB_JOBS=3 PATH="$tools" /bin/sh -c '"$0" check a 2>&1 | grep -c "from nothing" || :' "$second/bin/resb"
 touch -d '1 hour ago' "$second/crates/rb_tool/src/main.rt"
 trial 'a program that was just built' 'ran: check a; 0' without check a
 
