@@ -136,7 +136,7 @@ func Revoke(path, token string) (removed int, err error) {
 		hashes := map[digest]bool{}
 		for _, text := range strings.Split(string(content), "\n") {
 			l, is, err := parseLine(text)
-			isIt := l.name == token || byHash && strings.HasPrefix(hex.EncodeToString(l.digest[:]), strings.ToLower(token))
+			isIt := token != "" && l.name == token || byHash && strings.HasPrefix(hex.EncodeToString(l.digest[:]), strings.ToLower(token))
 			if is && err == nil && isIt {
 				hashes[l.digest] = true
 			}

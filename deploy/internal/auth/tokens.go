@@ -163,7 +163,7 @@ func (t *Tokens) Reload(atOnce bool) {
 	content, err := readFile(t.path)
 	before := t.last
 	t.last = content
-	if err == nil && (bytes.Equal(content, t.seen) || !atOnce && !bytes.Equal(content, before)) {
+	if err == nil && (t.seen != nil && bytes.Equal(content, t.seen) || !atOnce && !bytes.Equal(content, before)) {
 		return
 	}
 	var g *grants
