@@ -50,6 +50,7 @@ func Start(program string, arguments []string, memory int64) (*Child, error) {
 	}
 	out, theirOut, err := os.Pipe()
 	if err != nil {
+		_, _ = theirIn.Close(), in.Close()
 		return nil, err
 	}
 	enlarge(theirOut)

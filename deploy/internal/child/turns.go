@@ -279,7 +279,10 @@ func (t *Turns) retry(left []*Call) {
 		again = append(again, call)
 	}
 	if len(again) > 0 {
-		q := again[0].of
+		q := t.queueOf(again[0].of.app, time.Now()) // theirs may have been forgotten meanwhile
+		for _, call := range again {
+			call.of = q
+		}
 		q.calls = append(again, q.calls...)
 		q.lane.more.Signal()
 	}
@@ -391,7 +394,7 @@ func (t *Turns) first(l *lane) (next *queue) {
 	for app, q := range t.queues {
 		switch {
 		case len(q.calls) == 0:
-			if len(t.queues) > 1024 && q.bytes == 0 {
+			if len(t.queues) > 1024 && q.bytes == 0 && q.owes(time.Now()) == 0 {
 				delete(t.queues, app)
 			}
 		case q.lane != l:

@@ -105,6 +105,7 @@ func (r *Replica) use(f *filling, outdated map[*child.Child]bool) {
 	go func() {
 		<-f.to.Ended()
 		r.lost(f.to)
+		_ = f.to.Finish(0) // closes its pipes
 	}()
 	var other, ends *child.Child
 	r.withhold()
