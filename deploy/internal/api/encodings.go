@@ -5,6 +5,7 @@ import (
 	"compress/gzip"
 	"io"
 	"net/http"
+	"runtime"
 	"strconv"
 	"strings"
 	"sync"
@@ -69,7 +70,14 @@ func (c *call) encoded(status int, body []byte) []byte {
 	w := zippers.Get().(*gzip.Writer)
 	defer zippers.Put(w)
 	w.Reset(&out)
-	_, _ = w.Write(body)
+	for left := body; len(left) > 0; runtime.Gosched() {
+		n := len(left)
+		if n > slice {
+			n = slice
+		}
+		_, _ = w.Write(left[:n])
+		left = left[n:]
+	}
 	_ = w.Close()
 	if out.Len() >= len(body) {
 		return body

@@ -3,14 +3,12 @@ package api
 
 import (
 	"context"
-	"crypto/sha256"
 	"encoding/base64"
 	"encoding/json"
 	"log"
 	"net"
 	"net/http"
 	"net/url"
-	"runtime"
 	"strconv"
 	"strings"
 	"time"
@@ -224,6 +222,11 @@ func (c *call) limited(do func()) {
 
 // after waits for the revision that the address names, if it does.
 func (c *call) after() *problem {
+	if c.r.URL.RawQuery != "" {
+		if _, err := url.ParseQuery(c.r.URL.RawQuery); err != nil {
+			return &badQuery // Query would leave out what is malformed, such as ?after=%zz
+		}
+	}
 	given, asks := c.query("after")
 	if !asks {
 		return nil
@@ -370,26 +373,13 @@ func (c *call) answer(status int, reply []byte, tagOf func(reply []byte) string)
 	c.write(status, "application/json", append(reply, '\n')) // a reply of the server has space for it
 }
 
-// slice is how much of a long reply is hashed before other goroutines run; without this one that computes keeps a processor for 10 ms.
-const slice = 32 << 10
+// slice is how much of a long reply is compressed before other goroutines run.
+const slice = store.Slice
 
 // tagOf returns the tag of a reply, equal only for equal replies.
 func tagOf(reply []byte) string {
-	if len(reply) <= slice {
-		sum := sha256.Sum256(reply)
-		return tagFrom(sum[:])
-	}
-	sum := sha256.New()
-	for len(reply) > slice {
-		_, _ = sum.Write(reply[:slice])
-		reply = reply[slice:]
-		runtime.Gosched()
-	}
-	_, _ = sum.Write(reply)
-	return tagFrom(sum.Sum(nil))
+	return `"` + base64.RawURLEncoding.EncodeToString(store.Digest(reply)[:16]) + `"`
 }
-
-func tagFrom(sum []byte) string { return `"` + base64.RawURLEncoding.EncodeToString(sum[:16]) + `"` }
 
 // has sets the tag of a reply, and returns true if the caller has what it names, perhaps compressed.
 func (c *call) has(tag string) bool {
@@ -441,6 +431,9 @@ func (c *call) write(status int, kind string, body []byte) {
 		h.Set("Content-Type", kind)
 	}
 	body = c.encoded(status, body)
+	if status == http.StatusNotModified { // as the reply of 1 KB or more that it stands for (RFC 9110, 15.4.5)
+		h.Add("Vary", "Accept-Encoding")
+	}
 	if status != http.StatusNotModified && status != http.StatusNoContent {
 		h.Set("Content-Length", strconv.Itoa(len(body)))
 	}

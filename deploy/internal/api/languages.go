@@ -39,13 +39,20 @@ func ranges(headers []string) (names []string) {
 // 3.4), or root.
 func chosen(languages []string, has func(locale string) bool) string {
 	for _, language := range languages {
-		for parts := strings.Split(language, "-"); len(parts) > 0 && language != "*"; {
-			if name := strings.Join(parts, "_"); len(name) <= 64 && isTag(parts) && has(name) {
-				return name
+		parts, length := strings.Split(language, "-"), len(language)
+		cut := func() {
+			last := len(parts) - 1
+			parts, length = parts[:last], length-len(parts[last])-1
+		}
+		for len(parts) > 0 && language != "*" {
+			if length <= 64 && isTag(parts) { // a long one isn't joined for each of its parts
+				if name := strings.Join(parts, "_"); has(name) {
+					return name
+				}
 			}
-			parts = parts[:len(parts)-1]
+			cut()
 			if n := len(parts); n > 0 && len(parts[n-1]) == 1 {
-				parts = parts[:n-1] // a single letter begins an extension
+				cut() // a single letter begins an extension
 			}
 		}
 	}

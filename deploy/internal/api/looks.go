@@ -6,6 +6,7 @@ import (
 	"context"
 	"io"
 	"net/http"
+	"runtime"
 	"time"
 
 	"luvdregan.example/resb/deploy/internal/child"
@@ -56,6 +57,7 @@ func (c *call) stream(lines []byte, to io.Writer) {
 			var some [][]byte
 			some, lines = take(lines, together)
 			waiting = append(waiting, c.askSome(ctx, some)...)
+			runtime.Gosched() // lines that the gateway answers itself take no turns, and others wait for the processor
 			continue
 		}
 		next := waiting[0]

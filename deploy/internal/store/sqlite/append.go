@@ -99,6 +99,9 @@ func (s *Store) appendUpTo(entries []store.Entry, whole store.Revision) (store.R
 	if errors.Is(err, store.ErrNoSpace) && onlyRemovals(entries) {
 		s.withReserve(func() { err = s.commit(entries, whole) })
 	}
+	if s.unwiped {
+		s.wipe()
+	}
 	s.mu.Lock()
 	defer s.mu.Unlock()
 	s.failed = err != nil

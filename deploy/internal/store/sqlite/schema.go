@@ -130,7 +130,7 @@ func (s *Store) body(b store.Bundle) (body []byte, err error) {
 	if err != nil {
 		return nil, fmt.Errorf("the bundle of %s, %s: %w", b.App, b.Locale, damaged(err))
 	}
-	if sum := sha256.Sum256(body); string(sum[:]) != string(b.Digest) || len(body) != b.Bytes {
+	if string(store.Digest(body)) != string(b.Digest) || len(body) != b.Bytes {
 		return nil, fmt.Errorf("the bundle of %s, %s: %w", b.App, b.Locale, damaged(fmt.Errorf("it isn't what was stored")))
 	}
 	return body, nil

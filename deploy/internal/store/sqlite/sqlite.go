@@ -41,6 +41,7 @@ type Store struct {
 
 	writing   sync.Mutex // held during a transaction
 	droppable bool       // there may be earlier versions; the mutex above is held
+	unwiped   bool       // the WAL has what was erased; the same
 	mu        sync.Mutex
 	bundles   map[key]store.Bundle
 	last      store.Revision
@@ -179,6 +180,9 @@ func (s *Store) create(fill func(made *Store) error) error {
 	if err == nil {
 		err = fill(made)
 	}
+	if err == nil {
+		err = made.checkpoint() // closing does it too, but doesn't say if it fails
+	}
 	made.release()
 	if err != nil {
 		return err
@@ -212,6 +216,16 @@ func (s *Store) connect(path string) error {
 		return fmt.Errorf("%w: %v", store.ErrDamaged, err)
 	}
 	_, err = s.writer.ExecContext(ctx, "pragma wal_autocheckpoint = 256; pragma journal_size_limit = 4194304")
+	return err
+}
+
+// checkpoint moves the changes from the WAL into the database, and empties the WAL.
+func (s *Store) checkpoint() error {
+	var busy, pages, moved int
+	err := s.writer.QueryRowContext(context.Background(), "pragma wal_checkpoint(truncate)").Scan(&busy, &pages, &moved)
+	if err == nil && busy != 0 {
+		err = errors.New("somebody reads what is in the WAL")
+	}
 	return err
 }
 

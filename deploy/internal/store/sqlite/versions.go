@@ -2,7 +2,6 @@ package sqlite
 
 import (
 	"context"
-	"crypto/sha256"
 	"database/sql"
 	"errors"
 	"fmt"
@@ -24,11 +23,20 @@ const byDigest = "create index if not exists history_by_digest on history (diges
 // unused is true of a body that neither a bundle nor the history has.
 const unused = "not exists (select 1 from bundles where digest = ?1) and not exists (select 1 from history where digest = ?1)"
 
+// ownVersions has the earlier versions of the application ?1, with the bytes of each and the later ones. Those over mostVersions aren't kept
+// for it, also if the body is still there as that of another application, of which it must not learn.
+const ownVersions = "with own as (select digest, sum(bytes) over (order by last desc) as total from " +
+	"(select digest, max(revision) as last, bytes from history as h where application = ?1 and digest is not null " +
+	"and not exists (select 1 from bundles where application = ?1 and digest = h.digest) group by digest)) "
+
+// isKept is true of a change of the history whose body is there.
+var isKept = fmt.Sprintf("(digest is null or exists (select 1 from bodies where digest = history.digest) "+
+	"and coalesce((select total from own where own.digest = history.digest), 0) <= %d)", mostVersions)
+
 // History returns the last changes of an application before a revision, or the last of all if it is 0; with a locale only those
 // of its bundle. The newest comes first.
 func (s *Store) History(app, locale string, before store.Revision, most int) (all []store.Version, err error) {
-	const query = "select revision, at, who, operation, locale, bytes, digest, digest is null or " +
-		"exists (select 1 from bodies where digest = history.digest) from history " +
+	query := ownVersions + "select revision, at, who, operation, locale, bytes, digest, " + isKept + " from history " +
 		"where application = ?1 and (?2 = '' or locale = ?2) and (?3 = 0 or revision < ?3) order by revision desc limit ?4"
 	if locale != "" {
 		locale = store.Canonical(locale)
@@ -59,17 +67,17 @@ func scanVersion(scan func(to ...any) error) (v store.Version, err error) {
 // Version returns a change of an application with what was submitted, which a removal lacks. The error wraps store.ErrNoVersion if
 // that isn't kept.
 func (s *Store) Version(app string, r store.Revision) (v store.Version, body []byte, err error) {
-	const query = "select revision, at, who, operation, locale, history.bytes, history.digest, 1, body from history left join bodies " +
-		"on bodies.digest = history.digest where application = ? and revision = ?"
+	query := ownVersions + "select revision, at, who, operation, locale, bytes, digest, " + isKept + ", " +
+		"(select body from bodies where digest = history.digest) from history where application = ?1 and revision = ?2"
 	row := s.db.QueryRow(query, app, r)
 	v, err = scanVersion(func(to ...any) error { return row.Scan(append(to, &body)...) })
 	switch {
-	case errors.Is(err, sql.ErrNoRows), err == nil && v.Digest != nil && body == nil:
+	case errors.Is(err, sql.ErrNoRows), err == nil && v.Digest != nil && (body == nil || !v.Kept):
 		return v, nil, store.ErrNoVersion
 	case err != nil || v.Digest == nil:
 		return v, nil, err
 	}
-	if sum := sha256.Sum256(body); string(sum[:]) != string(v.Digest) {
+	if string(store.Digest(body)) != string(v.Digest) {
 		return v, nil, damaged(fmt.Errorf("change %d isn't what was stored", r))
 	}
 	return v, body, nil
@@ -196,8 +204,16 @@ func (s *Store) overwriting(write func() error) error {
 	if err := write(); err != nil {
 		return err
 	}
-	_, _ = s.writer.ExecContext(ctx, "pragma wal_checkpoint(truncate)")
+	s.unwiped = s.checkpoint() != nil // while a backup reads; then the next change tries again
 	return nil
+}
+
+// wipe removes what was erased from the WAL, if nobody reads there.
+func (s *Store) wipe() {
+	ctx := context.Background()
+	_, _ = s.writer.ExecContext(ctx, "pragma busy_timeout = 0")
+	s.unwiped = s.checkpoint() != nil
+	_, _ = s.writer.ExecContext(ctx, "pragma busy_timeout = 5000")
 }
 
 // erase removes all of an application.
