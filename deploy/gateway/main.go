@@ -3,6 +3,7 @@
 package main
 
 import (
+	"bytes"
 	"context"
 	_ "embed" // for the description
 	"errors"
@@ -246,10 +247,15 @@ func (g *gateway) server(handler http.Handler) *http.Server {
 	}
 }
 
-// Quiet leaves out what net/http says of each bad connection.
+// Quiet leaves out what net/http says of each bad connection, but not that it can't accept any.
 type quiet struct{}
 
-func (quiet) Write(b []byte) (int, error) { return len(b), nil }
+func (quiet) Write(b []byte) (int, error) {
+	if bytes.HasPrefix(b, []byte("http: Accept error")) {
+		log.Printf("gateway: %s", bytes.TrimSpace(b))
+	}
+	return len(b), nil
+}
 
 // listenOn answers until the gateway is to end; then what is on its way is answered, and no more taken.
 func (g *gateway) listenOn(outer net.Listener, p *pair) error {

@@ -75,7 +75,7 @@ func isHTTP(err error) bool {
 		return false
 	}
 	switch string(wrong.RecordHeader[:]) {
-	case "GET /", "HEAD ", "POST ", "PUT /", "OPTIO", "DELET":
+	case "GET /", "HEAD ", "POST ", "PUT /", "PATCH", "OPTIO", "DELET":
 		return true
 	}
 	return false

@@ -47,7 +47,7 @@ func (c *call) body(limit int64) (body []byte, p *problem) {
 	}
 	rate := c.newRate()
 	body, err := c.readAll(&pacedReader{http.MaxBytesReader(c.w, c.r.Body, limit), rate})
-	rate.stop()
+	rate.stop(err == nil)
 	c.got = len(body)
 	if err == nil {
 		c.whole = true
@@ -131,11 +131,14 @@ func (r *rate) next() {
 	}
 }
 
-// stop restores the deadline of the request.
-func (r *rate) stop() {
+// stop restores the deadline of the request. After a whole body there is none: net/http reads on, and would take a caller whose request
+// came just before the deadline for one that has gone.
+func (r *rate) stop(whole bool) {
 	switch {
 	case r.timer != nil:
 		r.late = !r.timer.Stop()
+	case r.conn != nil && whole:
+		_ = r.conn.SetReadDeadline(time.Time{})
 	case r.conn != nil:
 		_ = r.conn.SetReadDeadline(r.end)
 	}

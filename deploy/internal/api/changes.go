@@ -95,9 +95,7 @@ func (c *call) refuseFor(p problem, reason string) {
 
 // make has a change made if its condition holds, as an installation or a replacement if it puts a bundle, and answers.
 func (c *call) make(asked store.Change, puts bool, holds store.Condition) {
-	if c.isOld() {
-		c.w.Header().Set("Connection", "close")
-		c.refuse(busy)
+	if c.refusesOld() {
 		return
 	}
 	ctx, cancel := c.patiently()

@@ -95,13 +95,19 @@ func (c *call) version(name string) {
 	c.render(b, of, func() (store.Bundle, []byte, error) { return b, body, nil })
 }
 
-// versionOf returns a change with what was submitted, whose memory counts as that of the request.
-func (c *call) versionOf(id int64) (store.Version, []byte, error) {
-	v, body, err := c.Backend.Version(c.app, store.Revision(id))
-	if err == nil {
-		err = c.hold(int64(len(body)))
+// versionOf returns a change with what was submitted, whose memory counts as that of the request before it is read.
+func (c *call) versionOf(id int64) (v store.Version, body []byte, err error) {
+	found, err := c.Backend.History(c.app, "", store.Revision(id)+1, 1)
+	switch {
+	case err != nil:
+		return v, nil, err
+	case len(found) == 0 || found[0].Revision != store.Revision(id):
+		return v, nil, store.ErrNoVersion
 	}
-	return v, body, err
+	if err := c.hold(int64(found[0].Bytes)); err != nil {
+		return v, nil, err
+	}
+	return c.Backend.Version(c.app, store.Revision(id))
 }
 
 // mostDifferences is the most bytes of the items that differ between two versions.

@@ -15,11 +15,7 @@ func (c *call) page(name string) {
 	var do func()
 	switch name {
 	case "":
-		do = func() {
-			c.w.Header().Set("Content-Security-Policy", page.Policy)
-			c.w.Header().Set("Referrer-Policy", "no-referrer")
-			c.part("index.html")
-		}
+		do = func() { c.part("index.html") }
 	case "openapi.json":
 		do = func() { c.fixed("application/json", c.options.OpenAPI) }
 	case "healthz":
@@ -50,6 +46,10 @@ func (c *call) page(name string) {
 // part writes a part of the page.
 func (c *call) part(name string) {
 	if content, kind, there := page.Find(name); there {
+		if strings.HasPrefix(kind, "text/html") { // at whichever of its two addresses
+			c.w.Header().Set("Content-Security-Policy", page.Policy)
+			c.w.Header().Set("Referrer-Policy", "no-referrer")
+		}
 		c.fixed(kind, content)
 	} else {
 		c.refuse(noPage)

@@ -162,8 +162,11 @@ func (r *reader) file(name string, size int64, content io.Reader) error {
 	if _, err := io.ReadFull(content, body); err != nil {
 		return &badEntry{name, "it can't be read: " + err.Error()}
 	}
-	if n, _ := content.Read(make([]byte, 1)); n > 0 {
+	switch _, err := io.ReadFull(content, make([]byte, 1)); {
+	case err == nil:
 		return &badEntry{name, "it is longer than the archive says"}
+	case !errors.Is(err, io.EOF): // only here a zip says that it is longer, or has another checksum
+		return &badEntry{name, "it can't be read: " + err.Error()}
 	}
 	return r.add(name, store.Change{Op: store.Install, Locale: locale, Form: of.form, Body: body})
 }
