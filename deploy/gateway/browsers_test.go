@@ -27,6 +27,9 @@ func TestOtherOrigins(t *testing.T) {
 		if got.Header.Get("Access-Control-Allow-Credentials") != "" {
 			t.Error("credentials")
 		}
+		if reads := strings.Contains(got.Header.Get("Access-Control-Expose-Headers"), "Resb-Revision"); reads != (want != "") {
+			t.Errorf("%q: the revision for ?after= can be read: %v", origin, reads)
+		}
 	}
 	if got := s.ask("GET", "/v1/shop", "", "", "Origin", "https://shop.example"); got.StatusCode != 401 || got.Header.Get("Access-Control-Allow-Origin") == "" {
 		t.Errorf("%d %v", got.StatusCode, got.Header)

@@ -9,7 +9,7 @@ import (
 const (
 	corsMethods = "GET, HEAD, PUT, POST, PATCH, DELETE"
 	corsHeaders = "Authorization, Content-Type, If-Match, If-None-Match, If-Unmodified-Since, Accept-Language"
-	corsReads   = "ETag, Last-Modified, Location, Retry-After, Content-Language"
+	corsReads   = "ETag, Last-Modified, Location, Retry-After, Content-Language, Resb-Revision"
 )
 
 // cors lets scripts of the allowed origins ask, and returns true if it has answered a browser that asks whether one may. That
