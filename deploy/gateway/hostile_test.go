@@ -13,7 +13,7 @@ import (
 	"testing"
 	"time"
 
-	"luvdregan.example/resb/deploy/internal/prom"
+	"luvdregan.example/resb/deploy/internal/proc"
 )
 
 // head begins a request with a token for `shop`.
@@ -441,7 +441,7 @@ func TestManyIdleConnections(t *testing.T) {
 	defer g.kill()
 	g.put("shop", "de", `de{a{"A"}}`)
 	const many = 10000
-	before := prom.Memory(g.command.Process.Pid)
+	before := proc.Memory(g.command.Process.Pid)
 	var idle []net.Conn
 	for i := 0; i < many; i++ {
 		c, err := net.Dial("tcp", g.address)
@@ -457,7 +457,7 @@ func TestManyIdleConnections(t *testing.T) {
 	if status, body := g.get("/v1/shop/de/a"); status != 200 || !strings.Contains(body, `"A"`) {
 		t.Errorf("%d %s", status, body)
 	}
-	t.Logf("%d idle connections take %d KB each", many, (prom.Memory(g.command.Process.Pid)-before)/many/1024)
+	t.Logf("%d idle connections take %d KB each", many, (proc.Memory(g.command.Process.Pid)-before)/many/1024)
 	fmt.Fprint(idle[many-1], begins("GET", "/v1/shop/de/a", "Connection: close\r\n\r\n"))
 	if got, _ := io.ReadAll(idle[many-1]); statusOfText(string(got)) != "200" {
 		t.Errorf("the last one: %q", got)

@@ -27,6 +27,7 @@ missing_for_gateway() {
     command -v go >/dev/null || printf ' golang-go'
     command -v gcc >/dev/null || printf ' gcc'
     [ -d "$libraries/src/github.com/mattn/go-sqlite3" ] || printf ' golang-github-mattn-go-sqlite3-dev'
+    [ -d "$libraries/src/github.com/prometheus/client_golang" ] || printf ' golang-github-prometheus-client-golang-dev'
 }
 
 # prints the Debian packages that are missing for gateways that share a log
@@ -44,13 +45,13 @@ need_program() {
 }
 
 # prints the go.mod FILE with each library that it requires found in Debian's packages, without those that aren't installed: the
-# gateway that runs its own server needs SQLite alone. nuid has no go.mod there.
+# gateway that runs its own server needs none for NATS
 debian_module() {
     replaced=
     left_out=//
-    for library in github.com/mattn/go-sqlite3 github.com/nats-io/nats.go github.com/nats-io/nkeys github.com/nats-io/nuid golang.org/x/crypto golang.org/x/sys; do
-        from=$libraries/src/$library
-        [ "$library" != github.com/nats-io/nuid ] || from=$out/nuid
+    for library in $(sed -n 's/^	\([a-z][^ ]*\) v.*/\1/p' "$1"); do
+        from=$libraries/src/${library%/v2}
+        [ ! -d "$out/modules/$library" ] || from=$out/modules/$library
         if [ -f "$from/go.mod" ]; then
             replaced="$replaced	$library => $from
 "
@@ -62,13 +63,19 @@ debian_module() {
     printf 'replace (\n%s)\n' "$replaced"
 }
 
+# copies a part of a library that has no go.mod in Debian's package, and gives it one: make_module LIBRARY PART
+make_module() {
+    [ -e "$libraries/src/$1/$2" ] || return 0
+    mkdir -p "$out/modules/$1"
+    cp -Ru "$libraries/src/$1/$2" "$out/modules/$1/"
+    [ -f "$out/modules/$1/go.mod" ] || printf 'module %s\n' "$1" >"$out/modules/$1/go.mod"
+}
+
 # writes the file of modules over Debian's libraries for a folder: write_module FOLDER
 write_module() {
-    mkdir -p "$out/nuid"
-    if [ -f "$libraries/src/github.com/nats-io/nuid/nuid.go" ]; then
-        cp "$libraries/src/github.com/nats-io/nuid/nuid.go" "$out/nuid/nuid.go"
-        printf 'module github.com/nats-io/nuid\n' >"$out/nuid/go.mod"
-    fi
+    mkdir -p "$out"
+    make_module github.com/nats-io/nuid nuid.go
+    make_module github.com/matttproud/golang_protobuf_extensions pbutil
     debian_module "$1/go.mod" >"$out/debian.mod.$$"
     mv "$out/debian.mod.$$" "$out/debian.mod"
 }

@@ -56,10 +56,22 @@ type Handler struct {
 
 // New returns a handler.
 func New(backend *replica.Replica, tokens *auth.Tokens, options Options) *Handler {
-	return &Handler{Backend: backend, Tokens: tokens, Metrics: newMetrics(), options: options,
+	h := &Handler{Backend: backend, Tokens: tokens, Metrics: newMetrics(backend), options: options,
 		Limits: newLimits(options.Each, options.All, options.BodyBytes), convert: convert.New(backend.Runs, conversions),
 		trees: convert.New(backend.Runs, treeBounds),
 		audit: auditor{options.Audit}, rates: newRates(options.Rate, options.DayBytes)}
+	h.Metrics.gauge("requests_now", "Requests of applications on their way.", func() float64 {
+		requests, _ := h.Limits.Now()
+		return float64(requests)
+	})
+	h.Metrics.gauge("body_bytes_now", "Bytes of bodies on their way.", func() float64 {
+		_, held := h.Limits.Now()
+		return float64(held)
+	})
+	h.Metrics.gauge("tokens_file_bad", "Whether the file of tokens could not be read again: 1 or 0.", func() float64 {
+		return float64(tokens.Bad())
+	})
+	return h
 }
 
 // A call is one request on its way.

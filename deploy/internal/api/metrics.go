@@ -1,110 +1,89 @@
 package api
 
 import (
-	"fmt"
-	"io"
+	"bytes"
+	"net/http"
 	"os"
-	"sort"
-	"sync"
+	"strconv"
 	"sync/atomic"
 	"time"
 
-	"luvdregan.example/resb/deploy/internal/prom"
+	"github.com/prometheus/client_golang/prometheus"
+	"github.com/prometheus/common/expfmt"
+
+	"luvdregan.example/resb/deploy/internal/proc"
 )
 
-// bounds are the upper bounds of the histograms' buckets.
-var bounds = [...]time.Duration{
-	50 * time.Microsecond, 100 * time.Microsecond, 250 * time.Microsecond, 500 * time.Microsecond, time.Millisecond,
-	2500 * time.Microsecond, 5 * time.Millisecond, 10 * time.Millisecond, 25 * time.Millisecond, 50 * time.Millisecond,
-	100 * time.Millisecond, 250 * time.Millisecond, 500 * time.Millisecond, time.Second, 2500 * time.Millisecond, 10 * time.Second,
-}
+// bounds are the upper bounds of the histograms' buckets, in seconds.
+var bounds = []float64{50e-6, 100e-6, 250e-6, 500e-6, 1e-3, 2.5e-3, 5e-3, 10e-3, 25e-3, 50e-3, 0.1, 0.25, 0.5, 1, 2.5, 10}
 
 // kinds are what a request is counted as.
 var kinds = []string{"look", "looks", "list", "change", "fetch", "history", "check", "other"}
 
 // Metrics count requests by kind and status, and their times.
 type Metrics struct {
-	requests    sync.Map // of a label to *uint64
-	times       map[string]*histogram
+	registry    *prometheus.Registry
+	requests    *prometheus.CounterVec
+	times       *prometheus.HistogramVec
+	refused     prometheus.Counter
+	panics      prometheus.Counter
 	connections int64
-	refused     uint64
-	panics      uint64
 }
 
-// A histogram counts times by bucket; the last is for those past all bounds.
-type histogram struct {
-	buckets [len(bounds) + 1]uint64
-	sum     int64
-}
-
-func newMetrics() *Metrics {
-	m := &Metrics{times: map[string]*histogram{}}
-	for _, kind := range kinds {
-		m.times[kind] = &histogram{}
+// newMetrics returns metrics with those of a replica.
+func newMetrics(backend prometheus.Collector) *Metrics {
+	counter := func(name, help string) prometheus.CounterOpts {
+		return prometheus.CounterOpts{Name: "resb_gateway_" + name, Help: help}
 	}
+	m := &Metrics{
+		registry: prometheus.NewRegistry(),
+		requests: prometheus.NewCounterVec(counter("requests_total", "Requests by kind and status."), []string{"kind", "status"}),
+		times: prometheus.NewHistogramVec(prometheus.HistogramOpts{Name: "resb_gateway_request_seconds", Buckets: bounds,
+			Help: "Times from a request's header to the end of its response."}, []string{"kind"}),
+		refused: prometheus.NewCounter(counter("connections_refused_total", "Connections past the limit.")),
+		panics:  prometheus.NewCounter(counter("panics_total", "Requests that met a fault of the gateway.")),
+	}
+	for _, kind := range kinds {
+		m.times.WithLabelValues(kind)
+	}
+	m.registry.MustRegister(m.requests, m.times, m.refused, m.panics, backend)
+	m.gauge("connections", "Connections of callers.", func() float64 { return float64(atomic.LoadInt64(&m.connections)) })
+	m.gauge("memory_bytes", "Memory of the gateway.", func() float64 { return float64(proc.Memory(os.Getpid())) })
 	return m
+}
+
+// gauge adds a metric whose value is asked for when it is read.
+func (m *Metrics) gauge(name, help string, value func() float64) {
+	m.registry.MustRegister(prometheus.NewGaugeFunc(prometheus.GaugeOpts{Name: "resb_gateway_" + name, Help: help}, value))
 }
 
 // Connect counts a connection that was opened or closed, and returns how many there are.
 func (m *Metrics) Connect(more int64) int64 { return atomic.AddInt64(&m.connections, more) }
 
 // Refuse counts a connection past the limit.
-func (m *Metrics) Refuse() { atomic.AddUint64(&m.refused, 1) }
+func (m *Metrics) Refuse() { m.refused.Inc() }
 
-func (m *Metrics) panicked() { atomic.AddUint64(&m.panics, 1) }
-
-// A label is by what requests are counted.
-type label struct {
-	kind   string
-	status int
-}
+func (m *Metrics) panicked() { m.panics.Inc() }
 
 func (m *Metrics) count(kind string, status int, took time.Duration) {
-	at := label{kind, status}
-	counter, ok := m.requests.Load(at)
-	if !ok {
-		counter, _ = m.requests.LoadOrStore(at, new(uint64))
-	}
-	atomic.AddUint64(counter.(*uint64), 1)
-	h := m.times[kind]
-	bucket := sort.Search(len(bounds), func(i int) bool { return took <= bounds[i] })
-	atomic.AddUint64(&h.buckets[bucket], 1)
-	atomic.AddInt64(&h.sum, int64(took))
+	m.requests.WithLabelValues(kind, strconv.Itoa(status)).Inc()
+	m.times.WithLabelValues(kind).Observe(took.Seconds())
 }
 
-// write writes all of it in Prometheus' text form.
-func (m *Metrics) write(to io.Writer) {
-	var lines []string
-	m.requests.Range(func(at, counter interface{}) bool {
-		by := at.(label)
-		lines = append(lines, fmt.Sprintf("resb_gateway_requests_total{kind=%q,status=\"%d\"} %d\n", by.kind, by.status, atomic.LoadUint64(counter.(*uint64))))
-		return true
-	})
-	sort.Strings(lines)
-	prom.Head(to, "resb_gateway_requests_total", "Requests by kind and status.", "counter")
-	for _, line := range lines {
-		_, _ = io.WriteString(to, line)
+// measured writes the metrics in Prometheus' text form.
+func (c *call) measured() {
+	families, err := c.Metrics.registry.Gather()
+	if err != nil {
+		c.fail(err)
+		return
 	}
-	prom.Head(to, "resb_gateway_request_seconds", "Times from a request's header to the end of its response.", "histogram")
-	for _, kind := range kinds {
-		m.times[kind].write(to, kind)
+	var text bytes.Buffer
+	for _, family := range families {
+		if _, err := expfmt.MetricFamilyToText(&text, family); err != nil {
+			c.fail(err)
+			return
+		}
 	}
-	prom.Value(to, "resb_gateway_connections", "Connections of callers.", "gauge", "", float64(atomic.LoadInt64(&m.connections)))
-	prom.Value(to, "resb_gateway_connections_refused_total", "Connections past the limit.", "counter", "", float64(atomic.LoadUint64(&m.refused)))
-	prom.Value(to, "resb_gateway_panics_total", "Requests that met a fault of the gateway.", "counter", "",
-		float64(atomic.LoadUint64(&m.panics)))
-	prom.Value(to, "resb_gateway_memory_bytes", "Memory of the gateway.", "gauge", "", float64(prom.Memory(os.Getpid())))
-}
-
-func (h *histogram) write(to io.Writer, kind string) {
-	const name = "resb_gateway_request_seconds"
-	all := uint64(0)
-	for i, bound := range bounds {
-		all += atomic.LoadUint64(&h.buckets[i])
-		fmt.Fprintf(to, "%s_bucket{kind=%q,le=\"%v\"} %d\n", name, kind, bound.Seconds(), all)
-	}
-	all += atomic.LoadUint64(&h.buckets[len(bounds)])
-	fmt.Fprintf(to, "%s_bucket{kind=%q,le=\"+Inf\"} %d\n", name, kind, all)
-	fmt.Fprintf(to, "%s_sum{kind=%q} %v\n", name, kind, time.Duration(atomic.LoadInt64(&h.sum)).Seconds())
-	fmt.Fprintf(to, "%s_count{kind=%q} %d\n", name, kind, all)
+	c.w.Header().Set("Cache-Control", "no-store")
+	c.write(http.StatusOK, string(expfmt.FmtText), text.Bytes())
 }

@@ -1,13 +1,11 @@
 package api
 
 import (
-	"bytes"
 	"encoding/json"
 	"net/http"
 	"strings"
 
 	"luvdregan.example/resb/deploy/internal/page"
-	"luvdregan.example/resb/deploy/internal/prom"
 )
 
 // page answers what is no application's.
@@ -110,20 +108,4 @@ func (c *call) writez() {
 	} else {
 		c.now(http.StatusOK, "ready\n")
 	}
-}
-
-// measured writes the metrics.
-func (c *call) measured() {
-	var text bytes.Buffer
-	c.Metrics.write(&text)
-	requests, held := c.Limits.Now()
-	value := func(name, help string, value float64) {
-		prom.Value(&text, "resb_gateway_"+name, help, "gauge", "", value)
-	}
-	value("requests_now", "Requests of applications on their way.", float64(requests))
-	value("body_bytes_now", "Bytes of bodies on their way.", float64(held))
-	value("tokens_file_bad", "Whether the file of tokens could not be read again: 1 or 0.", float64(c.Tokens.Bad()))
-	c.Backend.Measures(&text)
-	c.w.Header().Set("Cache-Control", "no-store")
-	c.write(http.StatusOK, "text/plain; version=0.0.4; charset=utf-8", text.Bytes())
 }

@@ -10,13 +10,14 @@ import (
 	"context"
 	"errors"
 	"fmt"
-	"io"
 	"log"
 	"sync"
 	"time"
 
+	"github.com/prometheus/client_golang/prometheus"
+
 	"luvdregan.example/resb/deploy/internal/child"
-	"luvdregan.example/resb/deploy/internal/prom"
+	"luvdregan.example/resb/deploy/internal/proc"
 	"luvdregan.example/resb/deploy/internal/store"
 	"luvdregan.example/resb/deploy/internal/store/sqlite"
 )
@@ -316,14 +317,46 @@ func (r *Replica) Close() {
 	r.store.Close()
 }
 
-// Measures writes the metrics.
-func (r *Replica) Measures(to io.Writer) {
+// A measure is a metric of a replica.
+type measure struct {
+	desc *prometheus.Desc
+	kind prometheus.ValueType
+}
+
+func newMeasure(kind prometheus.ValueType, name, help string) measure {
+	return measure{prometheus.NewDesc("resb_shard_"+name, help, nil, prometheus.Labels{"shard": "0"}), kind}
+}
+
+var (
+	servesNow    = newMeasure(prometheus.GaugeValue, "serves", "Whether lookups are answered: 1 or 0.")
+	writesNow    = newMeasure(prometheus.GaugeValue, "writes", "Whether the last change could be stored: 1 or 0.")
+	linesTotal   = newMeasure(prometheus.CounterValue, "lines_total", "Lines of callers that were answered.")
+	replaysTotal = newMeasure(prometheus.CounterValue, "replays_total", "How often a server was filled with the bundles.")
+	leftOut      = newMeasure(prometheus.GaugeValue, "left_out", "Bundles that are stored, and that the servers don't have.")
+	memoryBytes  = newMeasure(prometheus.GaugeValue, "memory_bytes", "Memory of the servers.")
+	streamBytes  = newMeasure(prometheus.GaugeValue, "stream_bytes", "Length of the database and its WAL.")
+	bundlesBytes = newMeasure(prometheus.GaugeValue, "bundles_bytes", "Length of the stored bundles.")
+	bundlesNow   = newMeasure(prometheus.GaugeValue, "bundles", "Stored bundles.")
+	revisionNow  = newMeasure(prometheus.CounterValue, "revision", "The last change with which lookups are answered.")
+)
+
+// Describe names the metrics of a replica.
+func (r *Replica) Describe(to chan<- *prometheus.Desc) {
+	for _, m := range []measure{
+		servesNow, writesNow, linesTotal, replaysTotal, leftOut, memoryBytes, streamBytes, bundlesBytes, bundlesNow, revisionNow,
+	} {
+		to <- m.desc
+	}
+}
+
+// Collect measures a replica.
+func (r *Replica) Collect(to chan<- prometheus.Metric) {
 	r.mu.Lock()
 	fills, left, serves := r.fills, len(r.left), 0
 	memory := int64(0)
 	for _, c := range []*child.Child{r.serves, r.judges} {
 		if c != nil {
-			memory += prom.Memory(c.PID())
+			memory += proc.Memory(c.PID())
 		}
 	}
 	if r.serves != nil {
@@ -334,19 +367,13 @@ func (r *Replica) Measures(to io.Writer) {
 	if stats.Writes && (r.log == nil || r.Writable() == nil) {
 		writes = 1
 	}
-	value := func(name, help, kind string, value float64) {
-		prom.Value(to, "resb_shard_"+name, help, kind, `shard="0"`, value)
+	for m, value := range map[measure]float64{
+		servesNow: float64(serves), writesNow: float64(writes), linesTotal: float64(r.turns.Asked() + r.changes.answered()),
+		replaysTotal: float64(fills), leftOut: float64(left), memoryBytes: float64(memory), streamBytes: float64(stats.Files),
+		bundlesBytes: float64(stats.Bytes), bundlesNow: float64(stats.Bundles), revisionNow: float64(r.Revision()),
+	} {
+		to <- prometheus.MustNewConstMetric(m.desc, m.kind, value)
 	}
-	value("serves", "Whether lookups are answered: 1 or 0.", "gauge", float64(serves))
-	value("writes", "Whether the last change could be stored: 1 or 0.", "gauge", float64(writes))
-	value("lines_total", "Lines of callers that were answered.", "counter", float64(r.turns.Asked()+r.changes.answered()))
-	value("replays_total", "How often a server was filled with the bundles.", "counter", float64(fills))
-	value("left_out", "Bundles that are stored, and that the servers don't have.", "gauge", float64(left))
-	value("memory_bytes", "Memory of the servers.", "gauge", float64(memory))
-	value("stream_bytes", "Length of the database and its WAL.", "gauge", float64(stats.Files))
-	value("bundles_bytes", "Length of the stored bundles.", "gauge", float64(stats.Bytes))
-	value("bundles", "Stored bundles.", "gauge", float64(stats.Bundles))
-	value("revision", "The last change with which lookups are answered.", "counter", float64(r.Revision()))
 }
 
 // PIDs returns the processes of the server that answers lookups and of the one that judges changes, 0 for one that is missing.
