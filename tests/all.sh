@@ -80,6 +80,12 @@ lanes() {
     echo "$memory"
 }
 
+# gateways: tries the gateways, one after the other as both build in deploy/out. They wait most of the time.
+gateways() {
+    part gateways deploy/test "$program"
+    part gateway deploy/gateway/test "$program"
+}
+
 summary() {
     wait
     cat "$logs"/*.skipped 2>/dev/null >"$logs/all"
@@ -111,6 +117,7 @@ if [ -z "$quick" ]; then
         exit 1
     fi
     grep -h 'passed, .* failed' "$logs/gate.log"
+    gateways &
     # `rt ci` proves the library and builds no archive: this one is built over the libraries that it left
     start_if gcc library tests/library.sh --bare
     if command -v python3 >/dev/null; then
@@ -118,6 +125,7 @@ if [ -z "$quick" ]; then
         tail -n 1 "$logs/mutants.log"
     fi
 fi
+[ -z "$quick" ] || gateways &
 for script in examples replies stdout files clients project package; do
     start "$script" "tests/$script.sh" "$program"
 done
@@ -137,11 +145,9 @@ if [ -n "$quick" ]; then
     fi
 fi
 wait
-# what measures memory or time, or starts many processes, has the machine to itself
+# what measures memory or time has the machine to itself
 if command -v python3 >/dev/null; then
     part limits tests/limits.py "$program"
     part costs tests/costs.py "$program"
 fi
-part gateways deploy/test "$program"
-part gateway deploy/gateway/test "$program"
 summary

@@ -45,24 +45,29 @@ try_cases() {
     grep -q "^cases=$runs ended=$runs fault=0 differs=0 no-answer=0" "$said" || fails 'a run stopped'
     [ "$(grep -c '^kept$' "$said")" = "$runs" ] || fails "not kept: $(first_not_kept)"
 }
-# refuse PROGRAM REFUSED FEWEST FURTHER LIBRARY..: runs a program with the allocation REFUSED refused, behind REFUSED - 1 down to FEWEST
-# blocks, and once more with the input FURTHER if it isn't empty. The variable `mark` is what each input begins with.
-mark=
+# refuse PROGRAM REFUSED INPUTS FURTHER LIBRARY..: runs a program with the allocation REFUSED refused, and once more with the input FURTHER
+# if it isn't empty. INPUTS are words MARK:FEWEST: inputs that begin with MARK, behind REFUSED - 1 down to FEWEST blocks. One run has the
+# inputs of all marks, as reading and building the program takes longer than they do.
 refuse() {
-    local name=$1 refused=$2 fewest=$3 further=$4 count
+    local name=$1 refused=$2 inputs=$3 further=$4 input fewest count
     shift 4
     said=$made/$name/said
     rm -rf "${made:?}/$name"
     mkdir "$made/$name"
     (cd "$tests" && repository "$made/$name" "$name" "$@")
     mkdir "$made/$name/cases"
-    for ((count = fewest; count < refused; count++)); do
-        echo "$mark$count" >"$made/$name/cases/$count"
+    for input in $inputs; do
+        for ((count = ${input#*:}; count < refused; count++)); do
+            echo "${input%:*}$count" >"$made/$name/cases/${input%:*}$count"
+        done
     done
     [ -z "$further" ] || echo "$further" >"$made/$name/cases/$further"
     try_cases "$name" "$refused"
-    [ -n "$(left "$fewest")" ] || fails 'not every allocation was refused in some run'
-    echo "ok: each of $((refused - fewest - 1 - $(left "$fewest"))) allocations refused in turn"
+    for input in $inputs; do
+        fewest=${input#*:}
+        [ -n "$(left "${input%:*}$fewest")" ] || fails 'not every allocation was refused in some run'
+        echo "ok: each of $((refused - fewest - 1 - $(left "${input%:*}$fewest"))) allocations refused in turn"
+    done
 }
 # Writes the files that are expensive to check, each after its number of blocks, as cases NUMBER-BLOCKS; prints the fewest blocks of each.
 dear_files() {
@@ -102,11 +107,9 @@ refuse_files() {
     echo "ok: each of $sum allocations refused in turn over $number files that are dear to check"
 }
 
-refuse memory 900 20 20q rb_engine rb_packages rb_validator rb_format rb_locales rb_parents rb_views rb_tree
-[ "$(left 20q)" = "$(left 20)" ] || fails 'lookups, replacements or removals take memory'
+# each FEWEST leaves about 30 blocks more than the calls allocate
+refuse memory 900 :88 88q rb_engine rb_packages rb_validator rb_format rb_locales rb_parents rb_views rb_tree
+[ "$(left 88q)" = "$(left 88)" ] || fails 'lookups, replacements or removals take memory'
 echo 'ok: lookups, replacements and removals take none'
-refuse lines 200 20 '' rb_requests rb_engine rb_parents
-for mark in x k; do
-    refuse lines 600 20 '' rb_requests rb_engine rb_parents
-done
+refuse lines 600 ':442 x:186 k:186' '' rb_requests rb_engine rb_parents
 refuse_files 220
