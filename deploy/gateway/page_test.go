@@ -143,6 +143,7 @@ func TestBrowserEdit(t *testing.T) {
 	b.picture("question")
 	b.activate("yes")
 	b.until(message, "de is as it was in version 2.")
+	b.until(focused, "history-title") // as the button that had the focus is gone
 	if got := s.ask("GET", "/v1/shop/de/a", shopReads, ""); !strings.Contains(got.body, `"their A"`) {
 		t.Error(got.body)
 	}
@@ -180,6 +181,81 @@ func TestBrowserFocus(t *testing.T) {
 		if got := b.run(`JSON.stringify(` + usable + `.filter(e => !window.reached.has(e)).map(e => e.outerHTML))`); got != "[]" {
 			t.Errorf("%s: Tab backwards doesn't reach %s", view, got)
 		}
+	}
+	b.fine()
+}
+
+// holding has requests of the page wait whose method and address have the part `hold`, until `letGo` is called.
+const holding = `{ const ask = fetch; let held = []; window.hold = '';
+	window.fetch = async (address, given) => {
+		if (window.hold && (given.method + ' ' + address).includes(window.hold)) await new Promise(wake => held.push(wake));
+		return ask(address, given);
+	};
+	window.letGo = () => { window.hold = ''; held.forEach(wake => wake()); held = []; return ''; };
+	window.waiting = () => String(held.length);
+	window.type = text => { const e = document.getElementById('text'); if (!e.readOnly) { e.value = text; e.dispatchEvent(new Event('input')); } return ''; };
+	window.open_ = locale => { document.getElementById('locale').value = locale; document.getElementById('who').requestSubmit(); return ''; };
+} ''`
+
+// TestBrowserLateAnswers types, opens and forgets while answers are on their way: no text is lost or taken for another one, and a token
+// that is forgotten is used no more.
+func TestBrowserLateAnswers(t *testing.T) {
+	const opened, asks = "document.getElementById('opened').textContent", "String(document.getElementById('ask').open)"
+	b := openBrowser(t)
+	s := open(t)
+	s.ask("PUT", "/v1/shop/de.txt", shopWrites, `de{a{"A"}}`)
+	s.ask("PUT", "/v1/shop/fr.txt", shopWrites, `fr{a{"F"}}`)
+	b.visit(s)
+	b.run(holding)
+	b.sign(shopWrites, "de")
+	b.until(message, "2 bundles.")
+	b.run("window.hold = 'PUT'; type('de{a{\"B\"}}')") // typed while the text before is installed
+	b.click("#install")
+	b.until("waiting()", "1")
+	b.run("type('de{a{\"C\"}}'); letGo()")
+	b.until(message, "de is installed.")
+	b.until(opened, "with changes")
+	b.run("open_('fr')")
+	b.until(asks, "true")
+	b.click("#no")
+	if got := b.run(theText); got != `de{a{"C"}}` {
+		t.Errorf("what was typed is lost: %s", got)
+	}
+	b.click("#install")
+	b.until(opened, "de as it is installed.")
+	if got := s.ask("GET", "/v1/shop/de.txt", shopReads, ""); got.body != `de{a{"C"}}` {
+		t.Error(got.body)
+	}
+	b.run("window.hold = 'GET v1/shop'; open_('fr')") // typed while another one is opened
+	b.until("waiting()", "1")
+	b.run("type('de{a{\"D\"}}'); letGo()")
+	b.until(asks, "true")
+	b.click("#yes")
+	b.until(opened, "fr as it is installed.")
+	b.run("window.hold = 'de.txt'; open_('de')") // the answer about the first of two comes last
+	b.until("waiting()", "1")
+	b.run("open_('fr')")
+	b.until("String(document.getElementById('text').readOnly)", "false")
+	b.run("type('fr{a{\"G\"}}'); letGo()")
+	b.run("new Promise(wake => setTimeout(wake, 500))")
+	if got := b.run(theText + " + " + opened); got != `fr{a{"G"}}fr, with changes that aren't installed.` {
+		t.Errorf("an answer that came late replaces what was typed: %s", got)
+	}
+	b.run("{ const d = new DataTransfer(); d.items.add(new File(['fr{}'], 'fr.txt')); document.getElementById('text').dispatchEvent(new DragEvent('drop', { dataTransfer: d, bubbles: true, cancelable: true })); } ''")
+	b.until(asks, "true") // a file that is dropped
+	b.click("#no")
+	b.run("location.hash = '#history'; document.getElementById('past').requestSubmit(); ''")
+	b.until("document.querySelectorAll('#changes tbody tr').length", "1")
+	b.click("#forget")
+	b.until(asks, "true")
+	b.click("#yes")
+	b.until(message, "The token is forgotten.")
+	b.click("#changes button")
+	b.until(message, "Unauthorized")
+	b.click("#install")
+	b.until(message, "Open a bundle first")
+	if got := b.run(theText); got != "" {
+		t.Errorf("a text that was discarded is there: %s", got)
 	}
 	b.fine()
 }
@@ -314,6 +390,9 @@ func TestBrowserTranslate(t *testing.T) {
 	b.until("document.getElementById('items').textContent", "ok")
 	b.activate("list")
 	b.until("document.getElementById('value').textContent", "3 bundles")
+	b.activate("hi")
+	b.until("document.getElementById('items').textContent", "menu")
+	b.until(focused, "value") // the button that had the focus is gone
 	b.fine()
 }
 

@@ -7,36 +7,51 @@ import { showDifference } from "./difference.mjs";
 const PAUSE = 400; // milliseconds without typing until a text is checked
 const MOST_BYTES = 8 << 20;
 const text = at("text");
+const NOTHING = at("opened").textContent;
 
 // What is edited: the gateway, the locale, what was installed when it was opened, and the line ends that the text had.
 let gateway = null, locale = "", opened = { text: null, tag: null }, ends = "\n", dirty = false;
 let waiting = 0, checking = null, acts = false;
+let opens = 0; // how often one was opened: an answer about an earlier one may come late
 
 /** Returns the text with the line ends that it had when it was opened. */
 const textNow = () => (ends === "\n" ? text.value : text.value.replaceAll("\n", ends));
 
 /** Returns false if there are changes that their author wants to keep. */
-export const mayLeave = async () => !dirty || confirmed(`Your text of ${locale} isn't installed. Discard it?`, "Discard it");
+export const mayLeave = async () => !dirty || confirmed(`Your text${locale && " of " + locale} isn't installed. Discard it?`, "Discard it");
 
-/** Opens the bundle of a locale. */
+/** Opens the bundle of a locale. Returns false if another one is opened meanwhile. */
 export const open = async (of, name) => {
+  const mine = ++opens;
   text.readOnly = true; // what is typed until the text comes would be lost
   try {
     const found = await of.text(name);
+    if (mine !== opens) return false;
     gateway = of;
     locale = name;
     show(found);
   } finally {
-    text.readOnly = false;
+    if (mine === opens) text.readOnly = false;
   }
   at("opened").textContent = opened.text === null ? `${name} isn't installed yet.` : `${name} as it is installed.`;
+  return true;
+};
+
+/** Closes what is open, with its text. */
+export const close = () => {
+  opens++;
+  gateway = null;
+  locale = "";
+  text.readOnly = false;
+  show({ text: null, tag: null });
+  at("opened").textContent = NOTHING;
 };
 
 /** Opens a bundle unless it is open, and returns what puts the cursor at an item, or null if the text that is there is to stay. */
 export const toItem = async (of, name, keys) => {
   const isOpen = gateway !== null && gateway.app === of.app && locale === name;
   if (!isOpen && !(await mayLeave())) return null;
-  if (!isOpen) await open(of, name);
+  if (!isOpen && !(await open(of, name))) return null;
   return () => goToOffset(placeOf(text.value, keys));
 };
 
@@ -85,31 +100,42 @@ const check = async () => {
   }
 };
 
-/** Compares the text with the bundle as it is installed now. */
+/** Compares the text with the bundle as it is installed now. Returns null if another one is opened meanwhile. */
 const compare = async () => {
+  const mine = opens;
   const now = await gateway.text(locale);
+  if (mine !== opens) return null;
   const n = showDifference(at("edit-diff"), `From what is installed as ${locale} to your text`, now.text ?? "", textNow());
   return { now, n };
 };
 
 const install = async () => {
+  const mine = opens, name = locale, sent = textNow();
   try {
-    const { tag, warning } = await gateway.put(locale, textNow(), opened.tag);
-    opened = { text: textNow(), tag };
-    dirty = false;
-    at("edit-diff").replaceChildren();
-    at("opened").textContent = `${locale} as it is installed.`;
-    say(at("message"), warning ? "warn" : "good", `${locale} is installed.${warning ? " " + warning : ""}`);
+    const { tag, warning } = await gateway.put(name, sent, opened.tag);
+    if (mine === opens) {
+      opened = { text: sent, tag };
+      dirty = textNow() !== sent; // something was typed meanwhile
+      at("edit-diff").replaceChildren();
+      at("opened").textContent = dirty ? withChanges() : `${name} as it is installed.`;
+    }
+    say(at("message"), warning ? "warn" : "good", `${name} is installed.${warning ? " " + warning : ""}`);
   } catch (error) {
-    if (error.status !== 412) throw error;
+    if (error.status !== 412 || mine !== opens) throw error;
     await explainConflict();
   }
 };
 
+const withChanges = () => `${locale}, with changes that aren't installed.`;
+
 // Shows another's change. Installing once more replaces it.
 const explainConflict = async () => {
+  const mine = opens;
   const [last] = await gateway.history({ locale, last: 1 });
-  const { now, n } = await compare();
+  if (mine !== opens) return;
+  const compared = await compare();
+  if (compared === null) return;
+  const { now, n } = compared;
   opened = now;
   if (n === 0) { // its answer was lost, or another sent the same text
     dirty = false;
@@ -126,6 +152,8 @@ const openFile = async (file) => {
   if (file.size > MOST_BYTES) return say(at("message"), "bad", `${file.name} is longer than 8 MB.`);
   try {
     const value = new TextDecoder("utf-8", { fatal: true, ignoreBOM: true }).decode(await file.arrayBuffer());
+    if (!(await mayLeave())) return;
+    if (text.readOnly) return say(at("message"), "bad", `${file.name} isn't opened, because a bundle is being opened. Try again.`);
     take(value);
     at("opened").textContent = `${file.name}, not installed.`;
     text.focus();
@@ -149,7 +177,7 @@ const act = (what) => async () => {
 };
 
 text.addEventListener("input", () => {
-  if (!dirty && gateway !== null) at("opened").textContent = `${locale}, with changes that aren't installed.`;
+  if (!dirty && gateway !== null) at("opened").textContent = withChanges();
   dirty = true;
   soon();
 });
@@ -171,5 +199,7 @@ addEventListener("drop", (event) => {
   openFile(event.dataTransfer.files[0]);
 });
 addEventListener("beforeunload", (event) => {
-  if (dirty) event.preventDefault();
+  if (!dirty) return;
+  event.preventDefault();
+  event.returnValue = true; // for Chrome before 119
 });

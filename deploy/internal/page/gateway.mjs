@@ -15,6 +15,12 @@ const MEANINGS = {
   Replaying: "the server starts; try again",
   Busy: "the server is busy; try again",
   NotKept: "the change couldn't be stored",
+  Unreached: "the gateway doesn't reach its log; try again later",
+  ShardEnded: "the server ended meanwhile; try again",
+  Memory: "the server is out of memory; try again later",
+  Failed: "the gateway failed; its log says why",
+  BundleTooLong: "the bundle is longer than the server allows",
+  ReplyTooLong: "the answer is longer than the server allows",
   NoRoom: "the server's disk is full",
   OverQuota: "the application has no more space",
   Timeout: "no answer in time; look whether the change was made",
@@ -36,11 +42,16 @@ export class Refused extends Error {
   }
 }
 
+let tokens = new WeakMap(); // of the requests
+
+/** Forgets the tokens of all requests that were made before. */
+export const forgetTokens = () => { tokens = new WeakMap(); };
+
 /** The requests for one application. */
 export class Gateway {
   constructor(app, token) {
     this.app = app;
-    this.token = token;
+    tokens.set(this, token);
   }
 
   address(...parts) {
@@ -64,7 +75,7 @@ export class Gateway {
     try {
       response = await fetch(address, {
         method, body, signal, cache: "no-store", credentials: "omit",
-        headers: { Authorization: "Bearer " + this.token, ...headers },
+        headers: { Authorization: "Bearer " + (tokens.get(this) ?? ""), ...headers },
       });
     } catch (error) {
       if (error.name === "AbortError") throw error;

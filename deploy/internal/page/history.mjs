@@ -3,24 +3,28 @@ import { at, confirmed, make, say, visible } from "./show.mjs";
 import { showDifference } from "./difference.mjs";
 
 const LAST = 50;
+let asked = 0;
 const DONE = { install: "installed", replace: "replaced", remove: "removed" };
 
 /** Shows the last changes of a bundle, or of all. */
 export const history = async (gateway, locale) => {
-  const of = at("every").checked ? "" : locale;
+  const mine = ++asked, of = at("every").checked ? "" : locale;
   const body = make("tbody"), button = make("button", { type: "button", textContent: "Show earlier changes" });
   const titles = ["When", "Who", "Bundle", "Change", "Bytes", "Version"];
   const head = make("tr", {}, ...titles.map((title) => make("th", { scope: "col", textContent: title })));
-  const next = async (before) => {
-    const all = await gateway.history({ locale: of, before, last: LAST });
+  let earliest = 0;
+  const next = async () => {
+    const before = earliest, all = await gateway.history({ locale: of, before, last: LAST });
+    if (before !== earliest) return; // the button was pressed twice
     body.append(...all.map((one) => rowOf(gateway, one)));
     button.hidden = all.length < LAST;
-    button.onclick = acting(() => next(all.at(-1).id));
-    return all.length;
+    earliest = all.at(-1)?.id ?? 0;
   };
-  const n = await next(0);
+  button.onclick = acting(next);
+  await next();
+  if (mine !== asked) return;
   at("history-diff").replaceChildren();
-  at("changes").replaceChildren(n === 0 ? make("p", { textContent: "There are no changes." }) : make("table", {}, make("thead", {}, head), body), button);
+  at("changes").replaceChildren(earliest === 0 ? make("p", { textContent: "There are no changes." }) : make("table", {}, make("thead", {}, head), body), button);
 };
 
 const rowOf = (gateway, change) => {
@@ -46,6 +50,7 @@ const restoreTo = async (gateway, { id, locale, op }) => {
   if (!(await confirmed(question, op === "remove" ? "Remove" : "Restore"))) return;
   await gateway.restore(id, tag);
   await history(gateway, locale);
+  at("history-title").focus(); // the button is gone
   say(at("message"), "good", op === "remove" ? `${locale} is removed.` : `${locale} is as it was in version ${id}.`);
 };
 

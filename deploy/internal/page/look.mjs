@@ -25,10 +25,12 @@ const ask = async (gateway, address, show) => {
   if (mine !== asked) return;
   const status = failure === null ? `200 ${(performance.now() - began).toFixed(1)} ms` : failure.status || "no answer";
   say(at("status"), failure === null ? "good" : "bad", `GET /${address} → ${status}`);
+  const chosen = at("items").contains(document.activeElement);
   at("items").replaceChildren();
   putValue(at("reply"), reply === null ? "" : JSON.stringify(reply, null, 2));
-  putValue(at("value"), failure === null ? "" : failure.message);
+  putValue(at("value"), failure === null ? "" : failure.message, "en");
   if (failure === null) show(reply);
+  if (chosen) at("value").focus(); // the button is gone
 };
 
 // Shows a button for each item that can be opened.
@@ -45,7 +47,7 @@ export const look = (gateway, locale) => {
     putValue(at("value"), SHOWN[item.type]?.(item) ?? "", locale);
     const names = { table: item.keys, array: Array.from({ length: Math.min(item.len ?? 0, MOST_ITEMS) }, (_, i) => String(i)) };
     choose(names[item.type] ?? [], (name) => {
-      at("path").value += (path === "" ? "" : "/") + name;
+      at("path").value = (path === "" ? "" : path + "/") + name;
       return look(gateway, locale);
     });
   });

@@ -1,6 +1,6 @@
 // The page on which bundles are edited, compared, translated and installed.
 import { at, counted, make, say } from "./show.mjs";
-import { Gateway } from "./gateway.mjs";
+import { Gateway, forgetTokens } from "./gateway.mjs";
 import * as edit from "./edit.mjs";
 import { translate } from "./translate.mjs";
 import { history } from "./history.mjs";
@@ -35,12 +35,12 @@ const acting = (what) => async (event) => {
 };
 
 const openBundle = async (gateway) => {
-  if (!(await edit.mayLeave())) return;
+  const name = locale();
   const names = await gateway.names();
   at("names").replaceChildren(...names.map((value) => make("option", { value })));
-  await edit.open(gateway, locale());
-  at("target").value = locale();
-  at("source").value ||= ["en", "root", ...names].find((name) => names.includes(name) && name !== locale()) ?? "root";
+  if (!(await edit.mayLeave()) || !(await edit.open(gateway, name))) return;
+  at("target").value = name;
+  at("source").value ||= ["en", "root", ...names].find((other) => names.includes(other) && other !== name) ?? "root";
   say(at("message"), "good", `${gateway.app} has ${counted(names.length, "bundle")}.`);
 };
 
@@ -62,6 +62,8 @@ const forget = async () => {
   if (!(await edit.mayLeave())) return;
   FIELDS.forEach((id) => sessionStorage.removeItem(id));
   at("token").value = "";
+  forgetTokens(); // what is shown can ask no more
+  edit.close();
   say(at("message"), "good", "The token is forgotten.");
   at("token").focus();
 };

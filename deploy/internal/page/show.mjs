@@ -73,9 +73,10 @@ export const say = (element, kind, text) => {
   element.replaceChildren(...visible(beginning(text, 10 * MOST_SHOWN)));
 };
 
-/** Asks a question in a dialog, and returns true if the answer is yes. */
+/** Asks a question in a dialog, and returns true if the answer is yes. While another one is asked the answer is no. */
 export const confirmed = (question, yes) => new Promise((answer) => {
   const dialog = at("ask");
+  if (dialog.open) return answer(false);
   at("question").replaceChildren(...visible(question));
   at("yes").textContent = yes;
   at("yes").onclick = () => dialog.close("yes");

@@ -46,11 +46,10 @@ const draw = () => {
 /** Shows two bundles side by side. A function is called with the locale and the keys of an item that is to be edited. */
 export const translate = async (gateway, editItem) => {
   const mine = ++asked;
-  edit = editItem;
   const [from, to] = [at("source").value.trim(), at("target").value.trim()];
   const [a, b] = [await gateway.tree(from), await gateway.tree(to)];
   if (mine !== asked) return;
-  [source, target, rows] = [from, to, sideBySide(a, b)];
+  [source, target, rows, edit] = [from, to, sideBySide(a, b), editItem];
   const count = (state) => rows.filter((row) => row.state === state).length;
   const absent = [[from, a], [to, b]].filter(([, tree]) => tree === null).map(([name]) => `${name} isn't installed. `).join("");
   const all = rows.length - count("extra");
