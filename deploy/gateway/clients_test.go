@@ -2,6 +2,8 @@ package main
 
 import (
 	"context"
+	"net/http"
+	"net/http/httptest"
 	"os"
 	"os/exec"
 	"strings"
@@ -99,5 +101,36 @@ await b.patch("de", { a: "E" }, '"other"').catch((refused) => console.log(refuse
 				t.Errorf("%v\n%s", err, text)
 			}
 		})
+	}
+}
+
+// TestTheClientsWaitNotForHours has the clients refused for the rest of the day: they say so at once.
+func TestTheClientsWaitNotForHours(t *testing.T) {
+	s := httptest.NewServer(http.HandlerFunc(func(w http.ResponseWriter, r *http.Request) {
+		w.Header().Set("Retry-After", "40000")
+		w.WriteHeader(http.StatusTooManyRequests)
+		_, _ = w.Write([]byte("{\"error\":\"OverRate\"}\n"))
+	}))
+	defer s.Close()
+	folder := t.TempDir()
+	if err := os.WriteFile(folder+"/de.txt", []byte("de{}"), 0o600); err != nil {
+		t.Fatal(err)
+	}
+	for client, arguments := range map[string][]string{
+		"over_http.py": {"python3", s.URL, "shop", shopWrites}, "over_http.mjs": {"node", s.URL, "shop", shopWrites}, "resb-put": {"python3", folder, s.URL + "/v1/shop"},
+	} {
+		path, err := exec.LookPath(arguments[0])
+		if err != nil {
+			t.Logf("skipped: %s is not there", arguments[0])
+			continue
+		}
+		ctx, cancel := context.WithTimeout(context.Background(), generous)
+		command := exec.CommandContext(ctx, path, append([]string{"../../examples/clients/" + client}, arguments[1:]...)...)
+		command.Env = append(os.Environ(), "PYTHONDONTWRITEBYTECODE=1", "RESB_TOKEN="+shopWrites)
+		text, err := command.CombinedOutput()
+		cancel()
+		if err == nil || !strings.Contains(string(text), "429") {
+			t.Errorf("%s: %v\n%s", client, err, text)
+		}
 	}
 }

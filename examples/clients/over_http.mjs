@@ -135,8 +135,9 @@ export class Bundles {
       }
       if (response.ok || response.status === 304) return response;
       const reply = JSON.parse(await response.text());
-      if (![429, 503].includes(response.status) || Date.now() > end) throw new Refused(response.status, reply);
-      await new Promise((wake) => setTimeout(wake, 1000 * Number(response.headers.get("Retry-After") ?? 1)));
+      const wait = 1000 * Number(response.headers.get("Retry-After") ?? 1);
+      if (![429, 503].includes(response.status) || Date.now() + wait > end) throw new Refused(response.status, reply);
+      await new Promise((wake) => setTimeout(wake, wait));
     }
   }
 }

@@ -120,9 +120,10 @@ class Bundles:
                 continue
             if status < 400:
                 return status, got, reply
-            if status not in (429, 503) or time.monotonic() > end:
+            wait = float(got.get("Retry-After", "1"))
+            if status not in (429, 503) or time.monotonic() + wait > end:
                 raise Refused(status, json.loads(reply))
-            time.sleep(float(got.get("Retry-After", "1")))
+            time.sleep(wait)
 
     def _once(self, method, address, body, headers):
         if self.connection is None:
