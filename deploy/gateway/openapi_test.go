@@ -59,6 +59,44 @@ func TestTheDescriptionHasTheRoutes(t *testing.T) {
 	}
 }
 
+// TestTheDescriptionHasTheErrors compares the error codes that openapi.json names with those of the gateway and its servers, and with
+// those that are explained. NotAllowed has no address of its own.
+func TestTheDescriptionHasTheErrors(t *testing.T) {
+	words, err := os.ReadFile("../internal/api/words.go")
+	if err != nil {
+		t.Fatal(err)
+	}
+	explained, err := os.ReadFile("../../docs/TROUBLESHOOTING.md")
+	if err != nil {
+		t.Fatal(err)
+	}
+	found := regexp.MustCompile(`(?:http\.Status\w+, |[\t ])"([A-Z]\w+)"(?:\}|: +http)`).FindAllSubmatch(words, -1)
+	for _, one := range found {
+		if word := string(one[1]); word != "NotAllowed" && !bytes.Contains(openAPI, []byte("`"+word+"`")) {
+			t.Errorf("%s isn't described", word)
+		}
+	}
+	if len(found) < 35 {
+		t.Errorf("only %d error codes are found", len(found))
+	}
+	var description struct {
+		Components struct {
+			Responses map[string]struct{ Description string }
+		}
+	}
+	if err := json.Unmarshal(openAPI, &description); err != nil {
+		t.Fatal(err)
+	}
+	for name, response := range description.Components.Responses {
+		_, named, _ := strings.Cut(response.Description, "Words: ")
+		for _, one := range regexp.MustCompile("`[A-Z]\\w+`").FindAllString(named, -1) {
+			if !bytes.Contains(explained, []byte(one)) {
+				t.Errorf("%s has %s, which isn't explained", name, one)
+			}
+		}
+	}
+}
+
 // TestTheTableOfTests looks for each test that README.md names.
 func TestTheTableOfTests(t *testing.T) {
 	page, err := os.ReadFile("README.md")
