@@ -53,7 +53,7 @@ debian_module() {
         from=$libraries/src/${library%/v2}
         [ ! -d "$out/modules/$library" ] || from=$out/modules/$library
         if [ -f "$from/go.mod" ]; then
-            replaced="$replaced	$library => $from
+            replaced="$replaced	$library => \"$from\"
 "
         else
             left_out="$left_out\\|$library "
@@ -83,9 +83,12 @@ write_module() {
 # runs Go in the folder, only over Debian's libraries: in_go FOLDER ARGUMENTS..
 in_go() {
     go_folder=$1
-    shift
+    go_command=$2
+    shift 2
     write_module "$go_folder"
-    (cd "$go_folder" && GO111MODULE=on GOFLAGS="-modfile=$out/debian.mod -tags=${go_tags:-libsqlite3}" GOCACHE="$out/go" GOPROXY=off go "$@")
+    # flags and not GOFLAGS, where Go 1.19 takes no path with a space
+    (cd "$go_folder" && GO111MODULE=on GOFLAGS='' GOCACHE="$out/go" GOPROXY=off \
+        go "$go_command" "-modfile=$out/debian.mod" "-tags=${go_tags:-libsqlite3}" "$@")
 }
 
 run_go() { in_go "$here" "$@"; }
