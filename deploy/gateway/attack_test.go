@@ -4,6 +4,7 @@ import (
 	"bytes"
 	"fmt"
 	"io"
+	"math/rand"
 	"net"
 	"net/http"
 	"os"
@@ -16,6 +17,9 @@ import (
 	"time"
 )
 
+// zipped is a header of a caller that takes compressed replies.
+const zipped = "Accept-Encoding: gzip\r\n"
+
 // An attack is what an application does to harm others, until the channel is closed.
 type attack func(s *site, stop <-chan struct{})
 
@@ -23,15 +27,16 @@ type attack func(s *site, stop <-chan struct{})
 // and with RESB_JUDGE_TIMES the 99th percentile is at most 50 ms. Without it times are only logged, as the machine may be busy.
 func TestAnotherApplicationsLookups(t *testing.T) {
 	s := open(t, "-read-time", "30s")
-	long := strings.Repeat("x", 7<<20)
+	long := digits(7 << 20)
 	for _, put := range [][3]string{
-		{"/v1/bank/de.txt", bankWrites, `de{a{"B"}}`}, {"/v1/shop/de.txt", shopWrites, `de{a{"A"} long{"` + long + `"}}`},
-		{"/v1/shop/fr.txt", shopWrites, expensive()},
+		{"/v1/bank/de.txt", bankWrites, `de{a{"B"}}`}, {"/v1/shop/de.txt", shopWrites, `de{long{"` + long + `"}}`},
+		{"/v1/shop/de.txt", shopWrites, `de{a{"A"} long{"` + long + `"}}`}, {"/v1/shop/fr.txt", shopWrites, expensive()},
 	} {
-		if got := s.ask("PUT", put[0], put[1], put[2]); got.StatusCode != 201 {
+		if got := s.ask("PUT", put[0], put[1], put[2]); got.StatusCode > 201 {
 			t.Fatalf("%s: %d %s", put[0], got.StatusCode, got.body)
 		}
 	}
+	earlier := fmt.Sprintf("/v1/shop/_history/%d.txt", s.past("")[2].ID)
 	alone := s.victim(t, nil)
 	t.Logf("alone: %v", alone)
 	const most = 50 * time.Millisecond
@@ -48,6 +53,16 @@ func TestAnotherApplicationsLookups(t *testing.T) {
 		"bodies that never come":           many(16, halfABody),
 		"one lookup after the other":       many(64, single("GET", "/v1/shop/de/a", "")),
 		"connections that ask for nothing": many(200, nothing),
+		"empty lines":                      many(32, lines("\n", 4<<20)),
+		"lines of an empty object":         many(32, lines("{}\n", 1<<20)),
+		"a long list of languages":         many(32, asks("GET", "/v1/shop/-/a", "Accept-Language: "+strings.Repeat("aa-", 5000)+"aa\r\n", "")),
+		"compressed replies":               many(4, asks("GET", "/v1/shop/de/long", zipped, "")),
+		"long bundles":                     many(32, asks("GET", "/v1/shop/de.txt", "", "")),
+		"compressed bundles":               many(32, asks("GET", "/v1/shop/de.txt", zipped, "")),
+		"lengths of compressed bundles":    many(32, asks("HEAD", "/v1/shop/de.txt", zipped, "")),
+		"long versions of the history":     many(32, asks("GET", earlier, "", "")),
+		"long patches":                     many(4, sends("PATCH", "/v1/shop/it", "application/merge-patch+json", "{"+strings.Repeat(`"a":1,`, 1<<20)+`"b":1}`)),
+		"releases that can't be read":      many(4, sends("POST", "/v1/shop/_releases", asZip, zipOf(t, namedText{"it.txt", long}, namedText{"nl.txt", long}, namedText{"x", ""}))),
 	} {
 		t.Run(name, func(t *testing.T) {
 			p99 := s.victim(t, a)
@@ -59,6 +74,15 @@ func TestAnotherApplicationsLookups(t *testing.T) {
 		})
 	}
 	s.awaitBoth()
+}
+
+// digits returns a text that compresses badly, and that has no word of the stand-in's.
+func digits(length int) string {
+	random, text := rand.New(rand.NewSource(1)), make([]byte, length)
+	for i := range text {
+		text[i] = byte('0' + random.Intn(10))
+	}
+	return string(text)
 }
 
 // expensive returns a bundle that the server or its stand-in takes long to look up in.
@@ -172,8 +196,23 @@ func (s *site) send(stop <-chan struct{}, request string, reads bool) {
 }
 
 func single(method, path, body string) attack {
-	request := begins(method, path, fmt.Sprintf("Connection: close\r\nContent-Length: %d\r\n\r\n%s", len(body), body))
+	return asks(method, path, fmt.Sprintf("Content-Length: %d\r\n", len(body)), body)
+}
+
+// asks makes a request with further headers and a body.
+func asks(method, path, headers, body string) attack {
+	request := begins(method, path, headers+"Connection: close\r\n\r\n"+body)
 	return func(s *site, stop <-chan struct{}) { s.send(stop, request, true) }
+}
+
+// sends makes a request with a body of a type.
+func sends(method, path, kind, body string) attack {
+	return asks(method, path, fmt.Sprintf("Content-Type: %s\r\nContent-Length: %d\r\n", kind, len(body)), body)
+}
+
+// lines asks for many lookups by the same line, with its end.
+func lines(line string, count int) attack {
+	return single("POST", "/v1/shop/look", strings.Repeat(line, count))
 }
 
 func manyLooks(locale, path string, lines int, reads bool) attack {

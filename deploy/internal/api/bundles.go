@@ -44,7 +44,7 @@ func (c *call) fetch(locale string, of rendering) {
 		return
 	}
 	c.render(b, of, func() (store.Bundle, []byte, error) {
-		now, body, there, err := c.Backend.Kept(c.app, locale)
+		now, body, there, err := c.kept(locale, b.Bytes)
 		if err == nil && !there {
 			err = errAbsent // it was removed meanwhile
 		}

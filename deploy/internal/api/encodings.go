@@ -67,19 +67,21 @@ func (c *call) encoded(status int, body []byte) []byte {
 		return body
 	}
 	var out bytes.Buffer
-	w := zippers.Get().(*gzip.Writer)
-	defer zippers.Put(w)
-	w.Reset(&out)
-	for left := body; len(left) > 0; runtime.Gosched() {
-		n := len(left)
-		if n > slice {
-			n = slice
+	gone := c.long(len(body), func() error {
+		w := zippers.Get().(*gzip.Writer)
+		defer zippers.Put(w)
+		w.Reset(&out)
+		for left := body; len(left) > 0; runtime.Gosched() {
+			n := len(left)
+			if n > slice {
+				n = slice
+			}
+			_, _ = w.Write(left[:n])
+			left = left[n:]
 		}
-		_, _ = w.Write(left[:n])
-		left = left[n:]
-	}
-	_ = w.Close()
-	if out.Len() >= len(body) {
+		return w.Close()
+	})
+	if gone != nil || out.Len() >= len(body) {
 		return body
 	}
 	h.Set("Content-Encoding", "gzip")
@@ -110,10 +112,41 @@ func (c *call) streamed() (to io.Writer, end func()) {
 		return to, func() {}
 	}
 	c.w.Header().Set("Content-Encoding", "gzip")
-	w := zippers.Get().(*gzip.Writer)
-	w.Reset(to)
-	return w, func() {
-		_ = w.Close()
-		zippers.Put(w)
+	z := &zipper{call: c, to: to, w: zippers.Get().(*gzip.Writer)}
+	z.w.Reset(&z.made)
+	return z, z.end
+}
+
+// A zipper compresses what is written to it. It waits for its turn, but not while the caller reads.
+type zipper struct {
+	call *call
+	to   io.Writer
+	w    *gzip.Writer
+	made bytes.Buffer
+}
+
+// end writes what is left.
+func (z *zipper) end() {
+	_ = z.w.Close()
+	_, _ = z.made.WriteTo(z.to)
+	zippers.Put(z.w)
+}
+
+// Write compresses and writes the next bytes.
+func (z *zipper) Write(b []byte) (written int, err error) {
+	for written < len(b) && err == nil {
+		part := b[written:]
+		if len(part) > slice {
+			part = part[:slice]
+		}
+		err = z.call.long(len(b), func() error {
+			_, err := z.w.Write(part)
+			return err
+		})
+		if err == nil {
+			_, err = z.made.WriteTo(z.to)
+			written += len(part)
+		}
 	}
+	return written, err
 }

@@ -50,6 +50,7 @@ type Handler struct {
 	options Options
 	convert *convert.Runner
 	trees   *convert.Runner
+	works   *convert.Slots
 	audit   auditor
 	rates   *Rates
 }
@@ -58,7 +59,7 @@ type Handler struct {
 func New(backend *replica.Replica, tokens *auth.Tokens, options Options) *Handler {
 	h := &Handler{Backend: backend, Tokens: tokens, Metrics: newMetrics(backend), options: options,
 		Limits: newLimits(options.Each, options.All, options.BodyBytes), convert: convert.New(backend.Runs, conversions),
-		trees: convert.New(backend.Runs, treeBounds),
+		trees: convert.New(backend.Runs, treeBounds), works: convert.NewSlots(longAtOnce()),
 		audit: auditor{options.Audit}, rates: newRates(options.Rate, options.DayBytes)}
 	h.Metrics.gauge("requests_now", "Requests of applications on their way.", func() float64 {
 		requests, _ := h.Limits.Now()
@@ -375,18 +376,22 @@ func (c *call) answer(status int, reply []byte, tagOf func(reply []byte) string)
 	h := c.w.Header()
 	h["Cache-Control"] = privately
 	h.Add("Vary", "Authorization")
-	if status == http.StatusOK && c.has(tagOf(reply)) {
-		c.write(http.StatusNotModified, "", nil)
-		return
+	if status == http.StatusOK {
+		tag := ""
+		gone := c.long(len(reply), func() error {
+			tag = tagOf(reply)
+			return nil
+		})
+		if gone == nil && c.has(tag) {
+			c.write(http.StatusNotModified, "", nil)
+			return
+		}
 	}
 	if status == http.StatusServiceUnavailable {
 		h.Set("Retry-After", "1")
 	}
 	c.write(status, "application/json", append(reply, '\n')) // a reply of the server has space for it
 }
-
-// slice is how much of a long reply is compressed before other goroutines run.
-const slice = store.Slice
 
 // tagOf returns the tag of a reply, equal only for equal replies.
 func tagOf(reply []byte) string {

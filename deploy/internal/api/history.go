@@ -107,7 +107,11 @@ func (c *call) versionOf(id int64) (v store.Version, body []byte, err error) {
 	if err := c.hold(int64(found[0].Bytes)); err != nil {
 		return v, nil, err
 	}
-	return c.Backend.Version(c.app, store.Revision(id))
+	err = c.long(found[0].Bytes, func() (err error) {
+		v, body, err = c.Backend.Version(c.app, store.Revision(id))
+		return err
+	})
+	return v, body, err
 }
 
 // mostDifferences is the most bytes of the items that differ between two versions.
@@ -133,7 +137,10 @@ func (c *call) difference(digits string) {
 	if err == nil {
 		var new []byte
 		if new, err = c.treeOf(ctx, to); err == nil {
-			found, err = convert.Differences(ctx, old, new, mostDifferences)
+			err = c.long(len(old)+len(new), func() (err error) {
+				found, err = convert.Differences(ctx, old, new, mostDifferences)
+				return err
+			})
 		}
 	}
 	if err != nil {

@@ -6,7 +6,6 @@ import (
 	"context"
 	"io"
 	"net/http"
-	"runtime"
 	"time"
 
 	"luvdregan.example/resb/deploy/internal/child"
@@ -17,6 +16,9 @@ const (
 	together = 64
 	ahead    = 128
 )
+
+// costOfLine is how many bytes of a line take as long as it takes to begin one.
+const costOfLine = 32
 
 // looks answers many lookups: a line each, and a line of the reply each, in order.
 func (c *call) looks() {
@@ -44,20 +46,32 @@ func (c *call) looks() {
 	end()
 }
 
+// An answer to a line is the gateway's own, or that of the server, once it is there.
+type answer struct {
+	own   string
+	reply <-chan *child.Call
+}
+
 // stream asks the lines, some ahead, and writes the replies.
 func (c *call) stream(lines []byte, to io.Writer) {
+	work := len(lines) + costOfLine*bytes.Count(lines, []byte("\n"))
 	out := bufio.NewWriterSize(to, 1<<15)
 	defer out.Flush()
 	ctx, cancel := context.WithCancel(c.r.Context())
 	defer cancel()
-	var waiting []<-chan *child.Call
+	var waiting []answer
 	defer func() { freeAll(waiting) }()
 	for len(lines) > 0 || len(waiting) > 0 {
 		if len(lines) > 0 && len(waiting) < ahead {
 			var some [][]byte
 			some, lines = take(lines, together)
-			waiting = append(waiting, c.askSome(ctx, some)...)
-			runtime.Gosched() // lines that the gateway answers itself take no turns, and others wait for the processor
+			gone := c.long(work, func() error { // the lines that the gateway answers itself take no turns at the server
+				waiting = append(waiting, c.askSome(ctx, some)...)
+				return nil
+			})
+			if gone != nil {
+				return
+			}
 			continue
 		}
 		next := waiting[0]
@@ -69,13 +83,15 @@ func (c *call) stream(lines []byte, to io.Writer) {
 }
 
 // freeAll frees replies that nobody reads any more, as they come.
-func freeAll(waiting []<-chan *child.Call) {
+func freeAll(waiting []answer) {
 	if len(waiting) == 0 {
 		return
 	}
 	go func() {
-		for _, reply := range waiting {
-			(<-reply).Free()
+		for _, one := range waiting {
+			if one.own == "" {
+				(<-one.reply).Free()
+			}
 		}
 	}()
 }
@@ -89,33 +105,37 @@ func take(from []byte, most int) (lines [][]byte, rest []byte) {
 	return lines, from
 }
 
-// askSome asks some lines, and returns where the reply to each will be.
-func (c *call) askSome(ctx context.Context, given [][]byte) (replies []<-chan *child.Call) {
+// askSome asks some lines, and returns where the reply to each is, or will be.
+func (c *call) askSome(ctx context.Context, given [][]byte) (answers []answer) {
 	var asked [][]byte
-	var answers []chan<- *child.Call
+	var replies []chan<- *child.Call
 	for _, one := range given {
-		reply := make(chan *child.Call, 1)
-		replies = append(replies, reply)
 		line, own := child.JudgeLook(c.app, one)
 		if own != "" {
-			reply <- &child.Call{Reply: []byte(own)}
+			answers = append(answers, answer{own: own})
 			continue
 		}
-		asked, answers = append(asked, line), append(answers, reply)
+		reply := make(chan *child.Call, 1)
+		answers = append(answers, answer{reply: reply})
+		asked, replies = append(asked, line), append(replies, reply)
 	}
-	c.Backend.AskMany(ctx, c.app, asked, func(index int, reply *child.Call) { answers[index] <- reply })
-	return replies
+	c.Backend.AskMany(ctx, c.app, asked, func(index int, reply *child.Call) { replies[index] <- reply })
+	return answers
 }
 
 // first writes the next reply, and returns false if the caller no longer reads.
-func (c *call) first(waiting <-chan *child.Call, out *bufio.Writer) bool {
+func (c *call) first(waiting answer, out *bufio.Writer) bool {
+	if waiting.own != "" {
+		_, err := out.WriteString(waiting.own + "\n")
+		return err == nil
+	}
 	late := time.NewTimer(c.options.Patience)
 	defer late.Stop()
 	reply := &child.Call{Err: child.ErrTimeout}
 	select {
-	case reply = <-waiting:
+	case reply = <-waiting.reply:
 	case <-late.C:
-		freeAll([]<-chan *child.Call{waiting})
+		freeAll([]answer{waiting})
 	}
 	line := reply.Reply
 	if reply.Err != nil {

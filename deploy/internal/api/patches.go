@@ -41,7 +41,11 @@ func (c *call) patch(name string) {
 	ctx, cancel := c.patiently()
 	defer cancel()
 	asked := store.Change{App: c.app, Locale: locale, Op: store.Replace, Who: c.who}
-	patch, err := convert.ParsePatch(body, c.hold)
+	var patch *convert.MergePatch
+	err := c.long(len(body), func() (err error) {
+		patch, err = convert.ParsePatch(body, c.hold)
+		return err
+	})
 	if err == nil {
 		err = c.Backend.Catch(ctx, c.app, c.who)
 	}
@@ -97,12 +101,13 @@ func (c *call) patchOnce(ctx context.Context, asked store.Change, patch *convert
 // patched sets the body of a change to the present bundle with a patch, or to that of the bundle if it has the same items.
 func (c *call) patched(ctx context.Context, asked *store.Change, patch *convert.MergePatch, given store.Condition) (
 	now store.Bundle, same bool, err error) {
-	if b, there := c.Backend.Bundle(c.app, asked.Locale); there {
+	b, there := c.Backend.Bundle(c.app, asked.Locale)
+	if there {
 		if err := c.hold(int64(b.Bytes)); err != nil { // before it is read
 			return b, false, err
 		}
 	}
-	now, body, there, err := c.Backend.Kept(c.app, asked.Locale)
+	now, body, there, err := c.kept(asked.Locale, b.Bytes)
 	switch {
 	case err != nil:
 		return now, false, err

@@ -59,7 +59,7 @@ func (c *call) release() {
 		return
 	}
 	from := &reader{c: c, left: c.options.ReleaseBytes, locales: map[string]bool{}}
-	if err := read(from, body); err != nil {
+	if err := c.long(short+1, func() error { return read(from, body) }); err != nil { // also if it is short: it may be compressed
 		c.refuseEntry(err)
 		return
 	}

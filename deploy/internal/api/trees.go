@@ -133,7 +133,7 @@ func (c *call) layOne(b store.Bundle, name string) (same bool, err error) {
 		return false, err
 	}
 	defer c.free(before)
-	now, body, there, err := c.Backend.Kept(c.app, b.Locale)
+	now, body, there, err := c.kept(b.Locale, b.Bytes)
 	if err != nil || !there || now.Form != b.Form || !bytes.Equal(now.Digest, b.Digest) {
 		return false, err
 	}

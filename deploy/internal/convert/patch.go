@@ -330,7 +330,12 @@ func (r *Runner) Patched(ctx context.Context, app string, form store.Form, body 
 	if err := hold(int64(len(old) + len(p.text))); err != nil {
 		return nil, false, err
 	}
+	end, err := r.Begin(ctx, app)
+	if err != nil {
+		return nil, false, err
+	}
 	merged, err := p.merge(ctx, old)
+	end()
 	if err != nil {
 		return nil, false, err
 	}

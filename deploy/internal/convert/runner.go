@@ -27,88 +27,30 @@ type Bounds struct {
 	AtOnce int
 }
 
-// A Runner runs commands of the program: one of an application at a time, and a fixed number at once. So an application waits
-// for at most one run of each other one.
+// A Runner runs commands of the program: one of an application at a time, and a fixed number at once.
 type Runner struct {
+	*Slots
 	program func() string
 	bounds  Bounds
-	slots   chan struct{}
 
 	mu       sync.Mutex
-	apps     map[string]*turns
 	meanings map[string]string
-}
-
-// Turns let the runs of one application follow each other.
-type turns struct {
-	one   chan struct{}
-	users int
 }
 
 // New returns a runner of the program that a function names.
 func New(program func() string, bounds Bounds) *Runner {
-	return &Runner{program: program, bounds: bounds, slots: make(chan struct{}, bounds.AtOnce), apps: map[string]*turns{}, meanings: map[string]string{}}
-}
-
-// join returns the turns of an application, which leave must be called for.
-func (r *Runner) join(app string) *turns {
-	r.mu.Lock()
-	defer r.mu.Unlock()
-	t := r.apps[app]
-	if t == nil {
-		t = &turns{one: make(chan struct{}, 1)}
-		r.apps[app] = t
-	}
-	t.users++
-	return t
-}
-
-func (r *Runner) leave(app string, t *turns) {
-	r.mu.Lock()
-	defer r.mu.Unlock()
-	if t.users--; t.users == 0 {
-		delete(r.apps, app)
-	}
-}
-
-// take waits until a slot is free.
-func take(ctx context.Context, slot chan struct{}) error {
-	select {
-	case slot <- struct{}{}:
-		return nil
-	case <-ctx.Done():
-		return ErrTime
-	}
+	return &Runner{Slots: NewSlots(bounds.AtOnce), program: program, bounds: bounds, meanings: map[string]string{}}
 }
 
 // Run runs a command with the body as its standard input, and returns what it prints to standard output and standard error. Failed
 // says that it ended with another status than 0.
 func (r *Runner) Run(ctx context.Context, app string, body []byte, arguments ...string) (out, said []byte, failed bool, err error) {
-	end, err := r.begin(ctx, app)
+	end, err := r.Begin(ctx, app)
 	if err != nil {
 		return nil, nil, false, err
 	}
 	defer end()
 	return r.run(ctx, body, arguments)
-}
-
-// begin waits for the turn of an application, which lasts until the function that it returns is called.
-func (r *Runner) begin(ctx context.Context, app string) (end func(), err error) {
-	own := r.join(app)
-	if err := take(ctx, own.one); err != nil {
-		r.leave(app, own)
-		return nil, err
-	}
-	if err := take(ctx, r.slots); err != nil {
-		<-own.one
-		r.leave(app, own)
-		return nil, err
-	}
-	return func() {
-		<-r.slots
-		<-own.one
-		r.leave(app, own)
-	}, nil
 }
 
 // run runs a command under limits of the system.

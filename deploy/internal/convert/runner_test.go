@@ -95,7 +95,7 @@ func TestRunsAtOnce(t *testing.T) {
 		t.Error(err)
 	}
 	all.Wait()
-	if len(r.apps) != 0 || len(r.slots) != 0 {
-		t.Errorf("%d applications, %d slots", len(r.apps), len(r.slots))
+	if len(r.apps) != 0 || len(r.all) != 0 {
+		t.Errorf("%d applications, %d slots", len(r.apps), len(r.all))
 	}
 }

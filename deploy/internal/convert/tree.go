@@ -16,7 +16,7 @@ var treeFault = regexp.MustCompile(`^(?:([^\n]*): )?([A-Z][A-Za-z]*)\n`)
 // Parents is the file of explicit parents, or "". The folder's name begins with scratch.
 func (r *Runner) Tree(ctx context.Context, app, locale, path, parents, scratch string, lay func(folder string) (files []string, err error)) (
 	tree []byte, code string, err error) {
-	end, err := r.begin(ctx, app)
+	end, err := r.Begin(ctx, app)
 	if err != nil {
 		return nil, "", err
 	}
