@@ -4,11 +4,18 @@ import (
 	"bytes"
 	"encoding/json"
 	"fmt"
+	"io"
+	"net/http"
 	"os"
 	"path/filepath"
+	"runtime"
+	"runtime/debug"
 	"strings"
+	"sync"
 	"testing"
 	"time"
+
+	"luvdregan.example/resb/deploy/internal/proc"
 )
 
 // A past is a change in the reply to a request for the history.
@@ -104,6 +111,53 @@ func TestTheHistoryIsBounded(t *testing.T) {
 			t.Errorf("%v, and %v after it", one.At, later)
 		}
 		later = one.At
+	}
+}
+
+// TestVersionsAreCountedBeforeTheyAreRead asks for one long version many times at once: those over the limit of bodies take no memory.
+func TestVersionsAreCountedBeforeTheyAreRead(t *testing.T) {
+	s := open(t, "-body-bytes", "33554432")
+	s.ask("PUT", "/v1/shop/de.txt", shopWrites, `de{a{"`+strings.Repeat("x", 4<<20)+`"}}`)
+	s.ask("PUT", "/v1/shop/de.txt", shopWrites, `de{a{"now"}}`)
+	path := fmt.Sprintf("/v1/shop/_history/%d.txt", s.past("")[1].ID)
+	runtime.GC()
+	debug.FreeOSMemory()
+	before, most := proc.Memory(os.Getpid()), int64(0)
+	var callers sync.WaitGroup
+	for i := 0; i < 150; i++ {
+		callers.Add(1)
+		go func() {
+			defer callers.Done()
+			r, _ := http.NewRequest("GET", s.url+path, nil)
+			r.Header.Set("Authorization", "Bearer "+shopWrites)
+			got, err := http.DefaultClient.Do(r)
+			if err != nil {
+				t.Error(err)
+				return
+			}
+			defer got.Body.Close()
+			if n, err := io.Copy(io.Discard, got.Body); err != nil || got.StatusCode != 429 && (got.StatusCode != 200 || n < 4<<20) {
+				t.Errorf("%d, %d bytes: %v", got.StatusCode, n, err)
+			}
+		}()
+	}
+	ended := make(chan struct{})
+	go func() {
+		defer close(ended)
+		callers.Wait()
+	}()
+	for over := false; !over; {
+		select {
+		case <-ended:
+			over = true
+		case <-time.After(2 * time.Millisecond):
+		}
+		if now := proc.Memory(os.Getpid()); now > most {
+			most = now
+		}
+	}
+	if more := (most - before) >> 20; more > 400 {
+		t.Errorf("%d MB more", more)
 	}
 }
 

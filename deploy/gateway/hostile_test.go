@@ -378,6 +378,19 @@ func TestSlowSenders(t *testing.T) {
 	s.settled()
 }
 
+// TestASlowBodyLeavesTime: the time in which a request must come isn't that for its answer.
+func TestASlowBodyLeavesTime(t *testing.T) {
+	if isReal() {
+		t.Skip("only the stand-in takes for ever")
+	}
+	s := open(t, "-read-time", "1s", "-patience", "3s")
+	began := time.Now()
+	got := s.ask("POST", "/v1/shop/_check/de.txt", shopWrites, `de{a{"eternal"}}`)
+	if took := time.Since(began); took < 3*time.Second || got.StatusCode != 504 {
+		t.Errorf("%d %s after %v", got.StatusCode, got.body, took)
+	}
+}
+
 // TestARefusalDoesntWaitForTheBody sends only the beginning of a body: a request that is forbidden or fails is answered at once.
 func TestARefusalDoesntWaitForTheBody(t *testing.T) {
 	s := withBundle(t)

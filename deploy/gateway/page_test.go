@@ -43,12 +43,15 @@ func TestThePageByItsRequests(t *testing.T) {
 		t.Errorf("%v", got.Header)
 	}
 	for part, kind := range map[string]string{
-		"": "text/html; charset=utf-8", "page/page.css": "text/css; charset=utf-8", "page/main.mjs": "text/javascript; charset=utf-8", "page/lines.mjs": "text/javascript; charset=utf-8",
+		"": "text/html; charset=utf-8", "page/index.html": "text/html; charset=utf-8", "page/page.css": "text/css; charset=utf-8", "page/main.mjs": "text/javascript; charset=utf-8", "page/lines.mjs": "text/javascript; charset=utf-8",
 	} {
 		got := s.ask("GET", "/"+part, "", "")
 		tag := got.Header.Get("ETag")
 		if got.StatusCode != 200 || got.Header.Get("Content-Type") != kind || !strings.HasPrefix(tag, `"`) || got.Header.Get("Cache-Control") != "no-cache" {
 			t.Errorf("%s: %d %v", part, got.StatusCode, got.Header)
+		}
+		if isPage := kind == "text/html; charset=utf-8"; isPage != (got.Header.Get("Content-Security-Policy") == page.Policy) {
+			t.Errorf("%s: %v", part, got.Header)
 		}
 		if again := s.ask("GET", "/"+part, "", "", "If-None-Match", tag); again.StatusCode != http.StatusNotModified || again.body != "" {
 			t.Errorf("%s: %d", part, again.StatusCode)

@@ -4,6 +4,7 @@ import (
 	"archive/tar"
 	"archive/zip"
 	"bytes"
+	"encoding/binary"
 	"encoding/json"
 	"fmt"
 	"io"
@@ -152,6 +153,39 @@ func TestReleasesThatCantBeRead(t *testing.T) {
 		t.Error(got.body)
 	}
 	s.onTheirWay(0)
+}
+
+// TestADamagedZipIsRefused has a byte changed in a file that isn't compressed, or files that are longer than the directory says.
+func TestADamagedZipIsRefused(t *testing.T) {
+	s := open(t)
+	text := `de{a{"Alpha"} b{"` + strings.Repeat("x", 10000) + `"}}`
+	zipped := func(method uint16) []byte {
+		var out bytes.Buffer
+		to := zip.NewWriter(&out)
+		w, err := to.CreateHeader(&zip.FileHeader{Name: "de.txt", Method: method})
+		if err != nil {
+			t.Fatal(err)
+		}
+		_, _ = io.WriteString(w, text)
+		_ = to.Close()
+		return out.Bytes()
+	}
+	shorter := func(archive []byte) string {
+		size := archive[bytes.LastIndex(archive, []byte("PK\x01\x02"))+24:] // of the file, in the directory
+		binary.LittleEndian.PutUint32(size, uint32(len(text)-3))
+		return string(archive)
+	}
+	for name, damaged := range map[string]string{
+		"another byte": strings.Replace(string(zipped(zip.Store)), "Alpha", "Alphb", 1), "longer": shorter(zipped(zip.Deflate)), "longer, plain": shorter(zipped(zip.Store)),
+	} {
+		got := s.ask("POST", "/v1/shop/_releases", shopWrites, damaged, "Content-Type", asZip)
+		if got.StatusCode != 400 || errorOf(got.body) != "BadRelease" {
+			t.Errorf("%s: %d %s", name, got.StatusCode, got.body)
+		}
+	}
+	if got := s.ask("GET", "/v1/shop", shopReads, ""); got.body != "{\"names\":[]}\n" {
+		t.Error(got.body)
+	}
 }
 
 // TestAReleaseIsSeenWhole releases 900 bundles again and again while 8 readers look: each reader sees a whole release, and none an

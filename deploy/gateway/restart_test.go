@@ -6,6 +6,7 @@ import (
 	"os"
 	"os/exec"
 	"path/filepath"
+	"runtime/debug"
 	"strings"
 	"testing"
 )
@@ -210,4 +211,30 @@ func TestAStateOfVersion110(t *testing.T) {
 		t.Fatal(text)
 	}
 	found(again)
+}
+
+// TestEndedServersLeaveNoPipes open, although the memory of the gateway isn't cleaned.
+func TestEndedServersLeaveNoPipes(t *testing.T) {
+	s := open(t)
+	s.awaitBoth()
+	defer debug.SetGCPercent(debug.SetGCPercent(-1))
+	pipes := func() (n int) {
+		files, _ := filepath.Glob("/proc/self/fd/*")
+		for _, file := range files {
+			if to, _ := os.Readlink(file); strings.HasPrefix(to, "pipe:") {
+				n++
+			}
+		}
+		return n
+	}
+	before := pipes()
+	for i := 0; i < 8; i++ {
+		ends, _ := s.servers()
+		s.killServer()
+		eventually(t, "another server answers", func() bool {
+			serves, judges := s.servers()
+			return serves != ends && serves != 0 && judges != 0
+		})
+	}
+	eventually(t, "the pipes of the ended ones are closed", func() bool { return pipes() <= before })
 }

@@ -5,6 +5,7 @@ import (
 	"os"
 	"path/filepath"
 	"strconv"
+	"strings"
 	"syscall"
 	"testing"
 	"time"
@@ -50,6 +51,19 @@ func TestRevisions(t *testing.T) {
 	}
 	if got := s.ask("PUT", "/v1/shop/de.txt", shopWrites, `de{bad`); got.StatusCode != 400 || got.Header.Get("Resb-Revision") != "" {
 		t.Errorf("%d %v", got.StatusCode, got.Header)
+	}
+}
+
+// TestAMalformedQueryIsRefused, as its parts would be left out.
+func TestAMalformedQueryIsRefused(t *testing.T) {
+	s := open(t)
+	s.ask("PUT", "/v1/shop/de.txt", shopWrites, `de{a{"A"}}`)
+	for _, request := range []string{"GET /v1/shop/de/a?after=9999%zz", "GET /v1/shop/de/a?after=9999;a", "PUT /v1/shop/de.txt?strict;"} {
+		method, path, _ := strings.Cut(request, " ")
+		body := map[string]string{"PUT": `fr{a{"F"}}`}[method]
+		if got := s.ask(method, path, shopWrites, body); got.StatusCode != 400 || errorOf(got.body) != "BadQuery" {
+			t.Errorf("%s: %d %s", request, got.StatusCode, got.body)
+		}
 	}
 }
 

@@ -2,6 +2,7 @@ package api
 
 import (
 	"fmt"
+	"runtime"
 	"strings"
 	"testing"
 
@@ -29,6 +30,18 @@ func TestLanguages(t *testing.T) {
 		if got := chosen(strings.Fields(c.languages), has); got != c.want {
 			t.Errorf("%s of %s: %s", c.languages, c.installed, got)
 		}
+	}
+}
+
+// TestALongLanguage takes no memory that grows with the square of its length.
+func TestALongLanguage(t *testing.T) {
+	header := strings.Repeat("aa-", 16000/3) + "aa"
+	var before, after runtime.MemStats
+	runtime.ReadMemStats(&before)
+	got := chosen(ranges([]string{header}), func(string) bool { return false })
+	runtime.ReadMemStats(&after)
+	if took := after.TotalAlloc - before.TotalAlloc; got != "root" || took > 1<<20 {
+		t.Errorf("%s, %d bytes", got, took)
 	}
 }
 

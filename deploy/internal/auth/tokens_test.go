@@ -124,6 +124,26 @@ func TestATypingErrorKeepsNothingAlive(t *testing.T) {
 	}
 }
 
+// TestAnEmptyFileRevokesAll, also one that was missing for a moment.
+func TestAnEmptyFileRevokesAll(t *testing.T) {
+	path := file(t, "shop write "+hashOf(one))
+	tokens := open(t, path)
+	if err := os.Remove(path); err != nil {
+		t.Fatal(err)
+	}
+	tokens.Reload(false)
+	if may(tokens, one, "shop") != Write {
+		t.Error("a missing file took tokens away")
+	}
+	write(t, path)
+	for i := 0; i < 4; i++ {
+		tokens.Reload(i == 3)
+	}
+	if may(tokens, one, "shop") != 0 || tokens.Bad() != 0 {
+		t.Error("the token is still valid", tokens.Bad())
+	}
+}
+
 // TestAFIFODoesntHang, at the start or later; nor does a device without an end.
 func TestAFIFODoesntHang(t *testing.T) {
 	path := file(t, "shop write "+hashOf(one))
@@ -195,6 +215,9 @@ func TestAddedTokens(t *testing.T) {
 
 func TestRevoke(t *testing.T) {
 	path := file(t, "# first", "shop read "+hashOf(one)+" name=ci", "bank read "+hashOf(one), "", "wrong", "shop write "+hashOf(two))
+	if n, err := Revoke(path, ""); n != 0 || err != ErrUnknown {
+		t.Error(n, err)
+	}
 	if n, err := Revoke(path, "ci"); n != 2 || err != nil {
 		t.Error(n, err)
 	}

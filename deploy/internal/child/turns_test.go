@@ -265,6 +265,32 @@ func TestManyApplications(t *testing.T) {
 	}
 }
 
+// TestQueuesThatAreForgotten where there are many: none whose calls are asked, and none that owes time.
+func TestQueuesThatAreForgotten(t *testing.T) {
+	turns := NewTurns(time.Minute)
+	turns.Go(context.Background(), "shop", []byte("{}"), func(*Call) {})
+	burst := turns.next(&turns.quick, false)
+	if len(burst) != 1 {
+		t.Fatal(burst)
+	}
+	turns.mu.Lock()
+	now := time.Now()
+	for i := 0; i < 1030; i++ {
+		turns.queueOf(fmt.Sprint("other", i), now).bytes = 1 // its caller has a reply
+	}
+	owing := turns.queueOf("slow", now)
+	owing.debt, owing.debtAt = mostDebt, now.Add(time.Hour)
+	turns.first(&turns.slow)
+	if turns.queues["slow"] != owing {
+		t.Error("what an application owes is forgotten")
+	}
+	turns.mu.Unlock()
+	turns.retry(burst) // its server ended
+	if again := turns.next(&turns.quick, false); len(again) != 1 || again[0] != burst[0] {
+		t.Error("the call is lost", again)
+	}
+}
+
 // TestLongReplies asks for replies around the length of the reader's buffer, and for others in between: each is whole, and stays so.
 func TestLongReplies(t *testing.T) {
 	_, c := begin(t)

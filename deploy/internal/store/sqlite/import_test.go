@@ -5,7 +5,10 @@ import (
 	"path/filepath"
 	"reflect"
 	"strings"
+	"syscall"
 	"testing"
+
+	"luvdregan.example/resb/deploy/internal/store"
 )
 
 // journalOf copies the journal that version 1.1.0 wrote into a temporary folder, and returns its bytes.
@@ -105,5 +108,25 @@ func TestMarksInAJournalDontDelayTheStart(t *testing.T) {
 	defer s.Close()
 	if got := s.texts(t); !reflect.DeepEqual(got, inJournal) {
 		t.Errorf("%q", got)
+	}
+}
+
+// TestAnImportOntoAFullDisk makes no database if the last changes don't fit: their WAL does, and the database can't grow.
+func TestAnImportOntoAFullDisk(t *testing.T) {
+	folder := t.TempDir()
+	if err := syscall.Mount("tmpfs", folder, "tmpfs", 0, "size=8m"); err != nil {
+		t.Skipf("skipped: no disk can be mounted: %v", err)
+	}
+	t.Cleanup(func() { _ = syscall.Unmount(folder, syscall.MNT_DETACH) })
+	err := (&Store{folder: folder}).create(func(made *Store) error {
+		made.add(t, text(store.Install, "shop", "de", "small"))
+		if err := made.checkpoint(); err != nil {
+			return err
+		}
+		made.add(t, text(store.Install, "shop", "fr", strings.Repeat("y", 5<<20)))
+		return nil
+	})
+	if there, _ := exists(filepath.Join(folder, database)); err == nil || there {
+		t.Errorf("a database is there: %v: %v", there, err)
 	}
 }

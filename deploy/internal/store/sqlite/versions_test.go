@@ -2,6 +2,7 @@ package sqlite
 
 import (
 	"bytes"
+	"context"
 	"errors"
 	"fmt"
 	"os"
@@ -77,6 +78,34 @@ func TestVersionsAreBounded(t *testing.T) {
 	}
 }
 
+// TestVersionsTellNothingOfOthers: whether a version is kept doesn't depend on what another application has.
+func TestVersionsTellNothingOfOthers(t *testing.T) {
+	for _, other := range []bool{false, true} {
+		s := opened(t, t.TempDir())
+		if other {
+			s.add(t, text(store.Install, "bank", "de", "a guess at 7"))
+		}
+		s.add(t, text(store.Install, "shop", "de", "a guess at 0"))
+		for i := 1; i < 20; i++ {
+			s.add(t, text(store.Replace, "shop", "de", fmt.Sprint("a guess at ", i)))
+		}
+		for i := 0; i < 12; i++ {
+			s.add(t, text(store.Replace, "shop", "de", fmt.Sprint(i)+strings.Repeat("x", 8<<20)))
+		}
+		all, err := s.History("shop", "", 0, 1000)
+		if err != nil || len(all) != 32 {
+			t.Fatal(len(all), err)
+		}
+		for _, v := range all {
+			_, _, err := s.Version("shop", v.Revision)
+			if v.Kept != (err == nil) || v.Bytes < 100 && (v.Kept || !errors.Is(err, store.ErrNoVersion)) {
+				t.Errorf("another application has it: %v: %+v: %v", other, v, err)
+			}
+		}
+		s.Close()
+	}
+}
+
 // TestEraseLeavesNothing of an application in the files, and all of another one.
 func TestEraseLeavesNothing(t *testing.T) {
 	folder := t.TempDir()
@@ -105,5 +134,39 @@ func TestEraseLeavesNothing(t *testing.T) {
 	defer s.Close()
 	if got := fmt.Sprint(s.texts(t)); got != "[bank/en 1 shared shop/de 1 of a new owner]" {
 		t.Error(got)
+	}
+}
+
+// TestEraseWhileSomebodyReads leaves nothing after the next change, once nobody reads what there was.
+func TestEraseWhileSomebodyReads(t *testing.T) {
+	folder := t.TempDir()
+	s := opened(t, folder)
+	defer s.Close()
+	s.add(t, text(store.Install, "shop", "de", strings.Repeat("a-secret ", 10000)))
+	ctx := context.Background()
+	reader, err := s.db.Conn(ctx)
+	if err != nil {
+		t.Fatal(err)
+	}
+	defer reader.Close()
+	if _, err := reader.ExecContext(ctx, "begin"); err != nil {
+		t.Fatal(err)
+	}
+	var n int
+	if err := reader.QueryRowContext(ctx, "select count(*) from bodies").Scan(&n); err != nil {
+		t.Fatal(err)
+	}
+	if _, err := s.Erase("shop"); err != nil {
+		t.Fatal(err)
+	}
+	if _, err := reader.ExecContext(ctx, "rollback"); err != nil {
+		t.Fatal(err)
+	}
+	s.add(t, text(store.Install, "shop", "de", "of a new owner"))
+	files, _ := filepath.Glob(filepath.Join(folder, "*"))
+	for _, path := range files {
+		if content, err := os.ReadFile(path); err == nil && bytes.Contains(content, []byte("a-secret")) {
+			t.Errorf("%s has a part of it", path)
+		}
 	}
 }
