@@ -6,6 +6,7 @@ import (
 	"net/http/httptest"
 	"os"
 	"os/exec"
+	"strconv"
 	"strings"
 	"testing"
 )
@@ -104,12 +105,18 @@ await b.patch("de", { a: "E" }, '"other"').catch((refused) => console.log(refuse
 	}
 }
 
-// TestTheClientsWaitNotForHours has the clients refused for the rest of the day: they say so at once.
-func TestTheClientsWaitNotForHours(t *testing.T) {
+// TestTheClientsGiveUp has the clients refused for the rest of the day, and by a proxy, which sends no JSON: they say so at once.
+func TestTheClientsGiveUp(t *testing.T) {
+	for status, body := range map[int]string{429: "{\"error\":\"OverRate\"}\n", 502: "<html></html>"} {
+		testGivingUp(t, status, body)
+	}
+}
+
+func testGivingUp(t *testing.T, status int, body string) {
 	s := httptest.NewServer(http.HandlerFunc(func(w http.ResponseWriter, r *http.Request) {
 		w.Header().Set("Retry-After", "40000")
-		w.WriteHeader(http.StatusTooManyRequests)
-		_, _ = w.Write([]byte("{\"error\":\"OverRate\"}\n"))
+		w.WriteHeader(status)
+		_, _ = w.Write([]byte(body))
 	}))
 	defer s.Close()
 	folder := t.TempDir()
@@ -129,7 +136,7 @@ func TestTheClientsWaitNotForHours(t *testing.T) {
 		command.Env = append(os.Environ(), "PYTHONDONTWRITEBYTECODE=1", "RESB_TOKEN="+shopWrites)
 		text, err := command.CombinedOutput()
 		cancel()
-		if err == nil || !strings.Contains(string(text), "429") {
+		if err == nil || !strings.Contains(string(text), strconv.Itoa(status)) {
 			t.Errorf("%s: %v\n%s", client, err, text)
 		}
 	}

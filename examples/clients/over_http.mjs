@@ -134,13 +134,22 @@ export class Bundles {
         continue;
       }
       if (response.ok || response.status === 304) return response;
-      const reply = JSON.parse(await response.text());
+      const reply = refusal(await response.text());
       const wait = 1000 * Number(response.headers.get("Retry-After") ?? 1);
       if (![429, 503].includes(response.status) || Date.now() + wait > end) throw new Refused(response.status, reply);
       await new Promise((wake) => setTimeout(wake, wait));
     }
   }
 }
+
+/** Returns the reply of a refusal; one of a proxy may be no JSON. */
+const refusal = (body) => {
+  try {
+    const reply = JSON.parse(body);
+    if (reply?.error) return reply;
+  } catch {}
+  return { error: "NoReply" };
+};
 
 /** Looks items up in the sample bundles, and tries to install a text that isn't valid. */
 async function tryLookups(bundles) {

@@ -26,6 +26,15 @@ class Refused(Exception):
         self.status, self.word, self.reply = status, reply["error"], reply
 
 
+def _refusal(body):
+    """Returns the reply of a refusal; one of a proxy may be no JSON."""
+    try:
+        reply = json.loads(body)
+    except ValueError:
+        reply = None
+    return reply if isinstance(reply, dict) and "error" in reply else {"error": "NoReply"}
+
+
 class Bundles:
     """The bundles of an application. Not safe for use by several threads at once."""
 
@@ -122,7 +131,7 @@ class Bundles:
                 return status, got, reply
             wait = float(got.get("Retry-After", "1"))
             if status not in (429, 503) or time.monotonic() + wait > end:
-                raise Refused(status, json.loads(reply))
+                raise Refused(status, _refusal(reply))
             time.sleep(wait)
 
     def _once(self, method, address, body, headers):
