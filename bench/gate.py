@@ -8,7 +8,7 @@ usage: gate.py [--anew] [--top N] [--in FOLDER] [-- COMMAND ..]
   COMMAND  what is measured in place of `rt ci` and of the mutants in crates/*/gate/
 
 Looks at the running processes twice a second, so a process that lives for less is in the total and in no part. Nothing else should run
-meanwhile. Prints a table in the form of bench/README.md. Ends with the command's status.
+meanwhile. Prints a table in the form of bench/notes/gate.md. Ends with the command's status.
 """
 import argparse
 import os
