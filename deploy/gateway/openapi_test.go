@@ -60,7 +60,7 @@ func TestTheDescriptionHasTheRoutes(t *testing.T) {
 }
 
 // TestTheDescriptionHasTheErrors compares the error codes that openapi.json names with those of the gateway and its servers, and with
-// those that are explained. NotAllowed has no address of its own.
+// those that are explained. NotAllowed is left out: any address may answer it.
 func TestTheDescriptionHasTheErrors(t *testing.T) {
 	words, err := os.ReadFile("../internal/api/words.go")
 	if err != nil {
