@@ -330,12 +330,7 @@ func (r *Runner) Patched(ctx context.Context, app string, form store.Form, body 
 	if err := hold(int64(len(old) + len(p.text))); err != nil {
 		return nil, false, err
 	}
-	end, err := r.Begin(ctx, app)
-	if err != nil {
-		return nil, false, err
-	}
-	merged, err := p.merge(ctx, old)
-	end()
+	merged, err := r.merged(ctx, app, p, old)
 	if err != nil {
 		return nil, false, err
 	}
@@ -355,6 +350,16 @@ func (r *Runner) Patched(ctx context.Context, app string, form store.Form, body 
 	}
 	new, err := r.held(ctx, app, hold, made, "json", "--", standardInput)
 	return made, bytes.Equal(old, new), err
+}
+
+// merged merges a patch into the JSON of a bundle, once it is the application's turn.
+func (r *Runner) merged(ctx context.Context, app string, p *MergePatch, old []byte) ([]byte, error) {
+	end, err := r.Begin(ctx, app)
+	if err != nil {
+		return nil, err
+	}
+	defer end()
+	return p.merge(ctx, old)
 }
 
 // held returns what a command prints, whose memory is given to a function.
