@@ -1,6 +1,6 @@
 -- A key compared with the bytes before the first NUL, byte by byte.
 use Rattle.std.proofs.Common.{◌≡◌, ◌==◌, ◌≢◌, ℕ, zero, suc, ◌+◌, ◌-◌, ◌*◌, ◌<◌, ◌≤◌, List, [], ◌∷◌, length, take, drop, Option, Some, None}
-use Rattle.std.proofs.Common.{Bool, true, false, not, cond, IsTrue, is_some, nat_lt, slice_index_or}
+use Rattle.std.proofs.Common.{Bool, true, false, not, cond, IsTrue, is_some, nat_lt, slice_index_or, get_or}
 use Rattle.std.proofs.Common.{refl, sym, ap, subst, ◌∙◌, arith, inl, inr}
 use Rattle.std.specs.Prelude.{position}
 use Rattle.std.specs.List.{take_while, prefix_len}
@@ -8,9 +8,9 @@ use Rattle.std.specs.Ordering.{nat_cmp, ordering_then}
 use Rattle.std.specs.declared.cmp.Ordering.{Ordering}
 use Rattle.std.specs.declared.cmp.Ordering.TheVariants.{Less, Equal, Greater}
 use Rattle.std.specs.Cmp.Lexicographic.{slice_cmp}
-use Rattle.std.proofs.lemmas.Bool.{cases_lt, le-ltb, lt-ltb}
+use Rattle.std.proofs.lemmas.Bool.{cases_eq, cases_lt, le-ltb, lt-ltb}
 use Rattle.std.proofs.lemmas.Bool.Decides.{nat_tests}
-use Rattle.std.proofs.lemmas.List.{drop_all, length-drop}
+use Rattle.std.proofs.lemmas.List.{drop_all, length-drop, get_or-take, get_or-drop}
 use Rattle.std.proofs.lemmas.List.Sums.{take_while-cons}
 use Rattle.std.proofs.Math.Seq.{drop-cons}
 use Rattle.rb_format.specs.Place as places
@@ -66,6 +66,9 @@ same_byte b = grind (arith)
 byte_differs : (a b : ℕ) → a ≢ b → nat_cmp a b ≢ Equal
 byte_differs a b h e = grind (arith)
 
+above_nul : (a b : ℕ) → a ≢ b → b ≡ 0 → nat_cmp a b ≡ Greater
+above_nul a b d z = grind (arith)
+
 -- the run's byte i is the NUL
 pub key_is_longer : (key run : List ℕ) (i : ℕ) → AgreeSoFar key run i → i < length key → slice_index_or run i 0 ≡ 0
     → Greater ≡ slice_cmp nat_cmp key (front run)
@@ -85,6 +88,15 @@ byte_decides key run i o a l z d e =
     (byte_differs (slice_index_or key i 0) (slice_index_or run i 0) d)
     ∙ sym (a.same ∙ rw (k, r) (ap (slice_cmp nat_cmp (slice_index_or key i 0 ∷ drop (suc i) key)) f))
 
+-- a difference decides also where the run's byte is the NUL: a byte of the key that isn't NUL is above it
+pub difference_decides : (key run : List ℕ) (i : ℕ) (o : Ordering) → AgreeSoFar key run i → i < length key
+    → slice_index_or key i 0 ≢ slice_index_or run i 0 → o ≡ nat_cmp (slice_index_or key i 0) (slice_index_or run i 0)
+    → o ≡ slice_cmp nat_cmp key (front run)
+difference_decides key run i o a l d e = elim (cases_eq (slice_index_or run i 0) 0) [
+  | inl z ↦ e ∙ above_nul (slice_index_or key i 0) (slice_index_or run i 0) d z ∙ key_is_longer key run i a l z
+  | inr z ↦ byte_decides key run i o a l z d e
+]
+
 pub byte_agrees : (key run : List ℕ) (i : ℕ) → AgreeSoFar key run i → i < length key → slice_index_or run i 0 ≢ 0
     → slice_index_or key i 0 ≡ slice_index_or run i 0 → AgreeSoFar key run (i + 1)
 byte_agrees key run i a l z e =
@@ -98,6 +110,31 @@ byte_agrees key run i a l z e =
       ends = rw n (nul_later (slice_index_or run i 0) (drop (suc i) run) z (subst HasNul r a.ends));
       same = rw n (a.same ∙ rw (k, r) (ap (slice_cmp nat_cmp (slice_index_or key i 0 ∷ drop (suc i) key)) f) ∙ q);
     }
+
+-- the first n bytes agree, and the run's have no NUL
+abbrev pub SameFirst : List ℕ → List ℕ → ℕ → Type 0
+SameFirst key run n = (k : ℕ) → k < n → (get_or key k 0 ≡ get_or run k 0) × (get_or run k 0 ≢ 0)
+
+-- blocks that agree, after bytes that agree
+pub same_more : (key run : List ℕ) (at n : ℕ) → SameFirst key run at → SameFirst (take n (drop at key)) (take n (drop at run)) n → SameFirst key run (at + n)
+same_more key run at n before block k h = elim (cases_lt k at) [
+  | inl l ↦ before k l
+  | inr g ↦
+      let l : k - at < n = omega arith in
+      let e : at + (k - at) ≡ k = omega arith in
+      let there = λ (xs : List ℕ). get_or-take n (drop at xs) (k - at) 0 l ∙ get_or-drop at xs (k - at) 0 in
+      let x : get_or (take n (drop at key)) (k - at) 0 ≡ get_or key k 0 = rw e at (there key) in
+      let y : get_or (take n (drop at run)) (k - at) 0 ≡ get_or run k 0 = rw e at (there run) in
+      rw (x, y) at (block (k - at) l)
+]
+
+pub agree_first : (key run : List ℕ) (n : ℕ) → HasNul run → n ≤ length key → SameFirst key run n → AgreeSoFar key run n
+agree_first key run zero nul l same = record { ends = nul; same = refl }
+agree_first key run (suc n) nul l same =
+    let before = agree_first key run n nul (omega arith) (λ k h. same k (omega arith)) in
+    let here = same n (omega arith) in
+    let next : n + 1 ≡ suc n = omega arith in
+    rw next at (byte_agrees key run n before (omega arith) here.1 here.0)
 
 -- all bytes of the key agree
 pub at_end : (key run : List ℕ) (i : ℕ) → AgreeSoFar key run i → i ≤ length key → length key ≤ i → AgreeSoFar key run (length key)

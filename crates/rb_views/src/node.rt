@@ -22,6 +22,7 @@ impl<'a> Node for Item<'a> {
         }
     }
 
+    #[inline(always)]
     fn child(self, key: &[u8]) -> Option<Item<'a>> {
         self.entries().get(key)
     }

@@ -24,18 +24,27 @@ pub struct Table<'a> {
     ghost stands: { TableStands body.now parts },
 }
 
-/// Chooses the key to compare next: the middle one. For ICU's own keys, such as `%%ALIAS`, it first
+/// Chooses the key to compare first: the middle one. For ICU's own keys, such as `%%ALIAS`, it
 /// chooses the table's first key, since they sort before nearly all others.
-fn probe(key: &[u8], low: usize, high: usize) -> usize
-    requires { low < high }
-    ensures from { low ≤ result }
-    ensures to { result < high }
-    ensures halves { (result ≡ 0) ⊎ (result ≡ low + (high - low) / 2) }
+#[inline(always)]
+fn first_probe(key: &[u8], count: usize) -> usize
+    ensures within { 0 < count → result < count }
+    ensures halves { (result ≡ 0) ⊎ (result ≡ count / 2) }
 {
     match key.first() {
-        Some(b'%') if low == 0 => 0,
-        _ => low + (high - low) / 2,
+        Some(b'%') => 0,
+        _ => count / 2,
     }
+}
+
+/// Chooses the key to compare next: the middle one.
+#[inline(always)]
+fn next_probe(low: usize, high: usize) -> usize
+    requires { low ≤ high }
+    ensures { result ≡ low + (high - low) / 2 }
+{
+    let half = (high - low) / 2;
+    low + half
 }
 
 impl<'a> Table<'a> {
@@ -70,11 +79,13 @@ impl<'a> Table<'a> {
     {
         Item {
             body: self.body,
-            blocks: self.blocks,
+            // Copied field by field, which keeps it in registers during a walk.
+            blocks: &self.blocks[..],
             word: self.parts.item(self.body, i),
         }
     }
 
+    #[inline(always)]
     fn compare(self, key: &[u8], i: usize) -> Ordering
         requires { i < length (entries_seen self) }
         ensures { IfSome (key_placed self.entry i)
@@ -84,6 +95,7 @@ impl<'a> Table<'a> {
     }
 
     /// Finds the item with a key by binary search, or returns None if the key is missing.
+    #[inline(always)]
     pub fn get(self, key: &[u8]) -> Option<Item<'a>>
         ensures tree { option_map tree_seen result
             ≡ lookup (pointwise nat_eq key.now) (entries_seen self.entry) }
@@ -92,11 +104,17 @@ impl<'a> Table<'a> {
         let count = self.len();
         let mut low = 0;
         let mut high = count;
+        let mut middle = first_probe(key, count);
         while low < high {
-            let middle = probe(key, low, high);
             match self.compare(key, middle) {
-                Ordering::Less => high = middle,
-                Ordering::Greater => low = middle + 1,
+                Ordering::Less => {
+                    high = middle;
+                    middle = next_probe(low, high);
+                }
+                Ordering::Greater => {
+                    low = middle + 1;
+                    middle = next_probe(low, high);
+                }
                 Ordering::Equal => return Some(self.item(middle)),
             }
         }
