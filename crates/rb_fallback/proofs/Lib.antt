@@ -15,3 +15,5 @@ pub mod Stretches
 pub mod SameStops
 pub mod PathScans
 pub mod StopEndings
+pub mod AliasScans
+pub mod PathAliases

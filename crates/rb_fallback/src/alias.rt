@@ -1,13 +1,14 @@
-ghost use Rattle.std.specs.Prelude.{◌≡◌, ◌≤◌, ◌<◌, true, false, slice_index, slice_range};
-ghost use Rattle.std.specs.Prelude.{IfNone, IfSome};
+ghost use Rattle.std.specs.Prelude.{◌≡◌, ◌≤◌, ◌<◌, ◌+◌, ◌-◌, ◌↔◌, List, ℕ, true, false};
+ghost use Rattle.std.specs.Prelude.{IfNone, IfSome, IsTrue, Some, slice_index, slice_range};
 ghost use Rattle.std.specs.List.{list_all};
 ghost use Rattle.std.specs.Str.{bytes_eq};
 ghost use Rattle.rb_tree.specs.Parts.{HasUnits, kind_of, len_of, units_of};
 ghost use Rattle.rb_tree.specs.declared.kind.Kind.TheVariants as Kinds;
-ghost use Rattle.rb_fallback.specs.Alias.{is_plain, aim, with_path, located, packaged};
+ghost use Rattle.rb_fallback.specs.Alias.{is_plain, aim, aims, with_path, located, packaged};
 ghost use Rattle.rb_fallback.specs.Answers.{aim_of};
 ghost use Rattle.rb_fallback.specs.AliasPaths.{are_filled, segment_end, segments_after};
 ghost use Rattle.rb_fallback.specs.AliasPaths.{segments_from};
+ghost use Rattle.rb_fallback.specs.inner.PathScan.{AreFollowed, may_follow};
 ghost use Rattle.rb_fallback.specs.inner.Stretches.{ArePlain, HasNoSlash};
 
 use crate::fault::AliasFault;
@@ -27,6 +28,9 @@ pub struct Target {
 
 /// The number of units that a scan reads before it asks the node which units it may skip.
 const STRETCH: usize = 1024;
+
+/// The unit at which the path begins after `/LOCALE/`.
+pub(crate) const LOCALE_PATH: usize = 8;
 
 /// Returns true if each unit from `from` up to `past` is printable ASCII.
 fn are_plain<N: Node>(node: N, from: usize, past: usize) -> bool
@@ -205,6 +209,68 @@ fn packaged<N: Node>(node: N, valid: &Name) -> Result<Target, AliasFault>
     located(true, node, past + 1)
 }
 
+/// Returns true if a unit may follow another one in a path.
+fn may_follow(before: u16, unit: u16) -> bool
+    ensures { result ≡ may_follow before unit }
+{
+    (0x20 <= unit) & (unit <= 0x7E) & !((unit == 0x2F) & (before == 0x2F))
+}
+
+/// Returns true if each of 16 units from `at` on may be followed by the next one. It never ends
+/// early, so all of them are tested at a time.
+#[inline(always)]
+fn block_ok<N: Node>(node: N, at: usize) -> bool
+    requires units { HasUnits (kind_of (N.tree node)) }
+    requires within { at + 16 < len_of (N.tree node) }
+    requires short { at ≤ 1024 }
+    ensures { IsTrue result ↔ AreFollowed (units_of (N.tree node)) at (at + 16) }
+{
+    let mut good = true;
+    for i in 0..16 {
+        good = good & may_follow(node.unit(at + i), node.unit(at + i + 1));
+    }
+    good
+}
+
+/// Returns true if each unit from `from` on but the last may be followed by the next one. The last
+/// block begins 16 units before the last unit, so it may overlap the one before it.
+fn blocks_ok<N: Node>(node: N, from: usize) -> bool
+    requires units { HasUnits (kind_of (N.tree node)) }
+    requires block { from + 16 < len_of (N.tree node) }
+    requires short { len_of (N.tree node) ≤ 1024 }
+    ensures { result ≡ true
+        → AreFollowed (units_of (N.tree node)) from (len_of (N.tree node) - 1) }
+{
+    let last = node.len() - 17;
+    let mut at = from;
+    while at < last {
+        if !block_ok(node, at) {
+            return false;
+        }
+        at += 16;
+    }
+    block_ok(node, last)
+}
+
+/// Tests quickly whether the text is `/LOCALE/` and a path of 16 to 1,016 units. Almost all aliases
+/// of CLDR are. For another text it may return false although the text is valid.
+pub(crate) fn leads_to_path<N: Node>(node: N) -> bool
+    requires { HasUnits (kind_of (N.tree node)) }
+    ensures { result ≡ true → (valid : List ℕ) → aim (units_of (N.tree node)) valid
+        ≡ aims false valid (Some (segments_from (units_of (N.tree node)) 8)) }
+{
+    let len = node.len();
+    if len < 24 || len > STRETCH {
+        return false;
+    }
+    if !is_word(node, 0, LOCALE_PATH, b"/LOCALE/") {
+        return false;
+    }
+    // The end is tested last: clang makes more of the blocks if it knows nothing of their units.
+    let followed = blocks_ok(node, 7);
+    followed & (node.unit(len - 1) != 0x2F)
+}
+
 /// Reads the text of an alias, where `valid` is the valid locale of the lookup.
 ///
 /// The errors come in this order. `AliasText`: the text is empty or has a unit outside of printable
@@ -215,6 +281,13 @@ pub fn read_alias<N: Node>(node: N, valid: &Name) -> Result<Target, AliasFault>
     requires { kind_of (N.tree node) ≡ Kinds.Alias }
     ensures { aim_of (units_of (N.tree node)) result ≡ aim (units_of (N.tree node)) valid.now }
 {
+    if leads_to_path(node) {
+        return Ok(Target {
+            icudata: false,
+            name: *valid,
+            path_at: Some(LOCALE_PATH),
+        });
+    }
     if node.len() == 0 || !units_plain(node) {
         return Err(AliasFault::AliasText);
     }

@@ -72,9 +72,12 @@ impl PathBuffer {
         ensures { result ≡ path.now }
     {
         let from = PATH_LIMIT - path.len();
-        let mut bytes = [0; PATH_LIMIT];
-        bytes[from..].copy_from_slice(path);
-        PathBuffer { bytes, from }
+        let mut buffer = PathBuffer {
+            bytes: [0; PATH_LIMIT],
+            from,
+        };
+        buffer.bytes[from..].copy_from_slice(path);
+        buffer
     }
 
     pub(crate) fn as_slice(&self) -> &[u8]

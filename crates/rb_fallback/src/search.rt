@@ -23,6 +23,7 @@ ghost use Rattle.rb_fallback.specs.declared.fault.LookError.TheVariants as Fault
 
 use crate::alias::read_alias;
 use crate::fault::{AliasFault, BoundedError, LookError};
+use crate::find::found_by_paths;
 use crate::found::Found;
 use crate::from_stops::search_after_given;
 use crate::level::{LevelResult, level};
@@ -30,7 +31,7 @@ use crate::limits::{LEVEL_LIMIT, PATH_LIMIT};
 use crate::path::is_path;
 use crate::path_buffer::PathBuffer;
 use crate::steps::left_after;
-use crate::stops::{Stops, level_from};
+use crate::stops::{Stops, first_ending, with_names};
 use crate::watch::Watch;
 use rb_locales::Name;
 use rb_parents::{Parents, Shelf};
@@ -392,6 +393,12 @@ pub fn look_from<'a, T: Stops<'a>, S: Shelf<'a, N = T::N>, I: Shelf<'a, N = T::N
     if path.len() > PATH_LIMIT {
         return Err(LookError::PathTooLong);
     }
-    let decided = level_from(stops, path)?;
+    let reached = first_ending(stops, path)?;
+    if let Ending::Link(_, _) = reached.ending {
+        if let Some(found) = found_by_paths(stops, &reached, path) {
+            return found;
+        }
+    }
+    let decided = with_names(stops, &reached);
     search_after_given(stops, own, icu, parents, decided, path)
 }

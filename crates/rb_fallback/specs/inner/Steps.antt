@@ -9,6 +9,10 @@ use Rattle.rb_fallback.specs.declared.search.SearchState.{SearchState}
 use Rattle.rb_fallback.specs.declared.search.Outcome.{Outcome}
 use Rattle.rb_fallback.specs.declared.search.Outcome.TheVariants as outcome
 
+-- a search continues in its own package, from a name and a path
+abbrev pub own_state : List ℕ → List ℕ → SearchState
+own_state n p = record { icudata = false; name = n; path = p }
+
 -- the search continues from a state
 pub record GoesOn (p : SearchState) (r : Result Step LookError) : Type 0 where
   pub onto : r ≡ Ok (goes p.icudata p.name (segments p.path))

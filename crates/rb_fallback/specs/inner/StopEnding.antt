@@ -10,6 +10,8 @@ use Rattle.rb_fallback.specs.declared.fault.LookError.{LookError}
 use Rattle.rb_fallback.specs.declared.fault.LookError.TheVariants as fault
 use Rattle.rb_fallback.specs.declared.level.LevelResult.{LevelResult}
 use Rattle.rb_fallback.specs.declared.stops.StopEnding.{StopEnding}
+use Rattle.rb_fallback.specs.declared.found.Found.{Found}
+use Rattle.rb_tree.specs.declared.ending.Ending.TheVariants.{End}
 
 -- a level's result, whatever the bundles and the names are whose stops are given
 pub record IsNamedLevel {N : Type 0} (tree : N → Resource) (stop : ℕ → Option (List ℕ × Resource)) (path : List ℕ)
@@ -42,3 +44,18 @@ abbrev pub Decides : {N : Type 0} → (N → Resource) → (ℕ → Option (List
     → Result (StopEnding N) LookError → Type 0
 Decides tree stop path (Ok s) = IsDeciding tree stop path s
 Decides tree stop path (Err e) = IsUndecided stop path e
+
+-- the end of a search is that of this result: its item, its bundle's stop and the first one, or its error
+abbrev pub EndsAt : {N : Type 0} → (ℕ → Option (List ℕ × Resource)) → Result (StopEnding N) LookError
+    → Result (Found N) LookError → Type 0
+EndsAt stop (Ok s) (Ok f) = (s.ending ≡ End f.node) × (option_map (λ x. x.0) (stop s.index) ≡ Some f.actual)
+    × (option_map (λ x. x.0) (stop 0) ≡ Some f.valid)
+EndsAt stop (Err e) (Err d) = e ≡ d
+EndsAt stop s f = ⊥
+
+-- the end of a search, and its result, for which something holds
+pub record IsStopOf {N : Type 0} (stop : ℕ → Option (List ℕ × Resource)) (end : Result (StopEnding N) LookError)
+    (holds : Result (Found N) LookError → Type 0) : Type 0 where
+  pub found : Result (Found N) LookError
+  pub ends : EndsAt stop end found
+  pub known : holds found

@@ -2,7 +2,7 @@ use Rattle.std.proofs.Common.{Ok, refl, sym, ap, ◌∙◌}
 use Rattle.rb_parents.specs.Family.{parent_of}
 use Rattle.rb_fallback.specs.FoundNode.{node_of}
 use Rattle.rb_fallback.proofs.StopEndings.{answer_named, valid_named}
-use Rattle.rb_fallback.proofs.find.node_after.Goals as goal
+use Rattle.rb_fallback.proofs.find.find_by_names.Goals as goal
 
 pub search_after_given-requires : goal.search_after_given-requires
 search_after_given-requires g c κs =
