@@ -7,7 +7,7 @@ use Rattle.std.proofs.lemmas.Str.{encodes-IsAscii, IsUtf8-from_ascii}
 use Rattle.std.specs.Str.{IsUtf8}
 use Rattle.rb_json.proofs.Elements.{element_more, is_at}
 
-encodes-append : (xs : List ℕ) (c : ℕ) → encode_utf8_all (xs ++ c ∷ []) ≡ encode_utf8_all xs ++ encode_utf8 c
+pub encodes-append : (xs : List ℕ) (c : ℕ) → encode_utf8_all (xs ++ c ∷ []) ≡ encode_utf8_all xs ++ encode_utf8 c
 encodes-append [] c = append-nil (encode_utf8 c)
 encodes-append (x ∷ xs) c = ap (λ ys. encode_utf8 x ++ ys) (encodes-append xs c) ∙ sym (append_assoc (encode_utf8 x) (encode_utf8_all xs) (encode_utf8 c))
 

@@ -5,6 +5,7 @@ pub mod Growth
 pub mod Hex
 pub mod Surrogates
 pub mod Runs
+pub mod Plain
 pub mod Rooms
 pub mod Tagged
 pub mod SameValues

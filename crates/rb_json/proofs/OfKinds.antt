@@ -24,3 +24,7 @@ as_many_entries _ h = absurd cc
 pub as_many_items : (t : Resource) → kind_of t ≡ Kinds.Array → length (children_of t) ≡ len_of t
 as_many_items (array ts) h = refl
 as_many_items _ h = absurd cc
+
+pub string_len : (t : Resource) → kind_of t ≡ Kinds.String → length (units_of t) ≡ len_of t
+string_len (string us) h = refl
+string_len _ h = absurd cc

@@ -1,9 +1,9 @@
 //! Items as JSON, written piece by piece into an outlet: no text is in memory whole.
 ghost use Rattle.std.specs.Prelude.{◌≡◌, Some, codes, decimal, encode_utf8_all, false, true};
-ghost use Rattle.std.specs.Prelude.{IfOk, option_map, string_bytes};
+ghost use Rattle.std.specs.Prelude.{IfOk, IfSome, option_map, string_bytes};
 ghost use Rattle.std.specs.Char.Utf16.{has_unpaired_surrogate, utf16_lossy_chars};
 ghost use Rattle.std.specs.Map.{keys_of};
-ghost use Rattle.json.specs.Print.{quoted};
+ghost use Rattle.json.specs.Print.{escape, quoted};
 ghost use Rattle.serde_json.specs.Data.{put, string};
 ghost use Rattle.serde_json.specs.Find.{of_integer};
 ghost use Rattle.serde_json.specs.Written.{comma_if, compact_text, number_text};
@@ -21,9 +21,10 @@ use crate::buffer::Buffer;
 use crate::leaf::signed;
 use crate::outlet::Outlet;
 use crate::spell::{
-    is_well_formed, put_latin, put_runs, spell_bytes, spell_hex, spell_integer, spell_text,
-    spell_units, spell_unsigned,
+    is_well_formed, plain_run, put_latin, put_runs, spell_bytes, spell_hex, spell_integer,
+    spell_text, spell_units, spell_unsigned,
 };
+use crate::units::RUN;
 use rb_tree::{Kind, Node};
 use std::alloc::{AllocError, Global};
 
@@ -322,10 +323,35 @@ fn put_found_members<O: Outlet, N: Node>(out: &mut O, actual: &[u8], valid: &[u8
     put_members(out, true, node, Some(valid))
 }
 
-/// Writes a String that was found, with what is between its texts in one piece each.
-fn put_found_text<O: Outlet, N: Node>(out: &mut O, actual: &[u8], valid: &[u8], node: N)
+/// Writes the characters of a String: those in `plain`, if they are given, in one piece.
+#[inline(always)]
+fn put_value<O: Outlet, N: Node>(out: &mut O, node: N, plain: Option<&[u8]>)
+    requires units { HasUnits (kind_of (N.tree node)) }
+    requires plain { IfSome plain (λ text. text.now
+        ≡ escape (encode_utf8_all (utf16_lossy_chars (units_of (N.tree node))))) }
+    ensures { O.takes out.old out.new
+        (escape (encode_utf8_all (utf16_lossy_chars (units_of (N.tree node))))) }
+{
+    match plain {
+        Some(text) => out.put(text),
+        None => put_runs(out, node),
+    }
+}
+
+/// Writes a String that was found, with what is between its texts in one piece each, and its
+/// characters too if `plain` has them.
+#[inline(always)]
+fn put_found_text<O: Outlet, N: Node>(
+    out: &mut O,
+    actual: &[u8],
+    valid: &[u8],
+    node: N,
+    plain: Option<&[u8]>,
+)
     requires string { kind_of (N.tree node) ≡ Kinds.String }
     requires whole { has_unpaired_surrogate (units_of (N.tree node)) ≡ false }
+    requires plain { IfSome plain (λ text. text.now
+        ≡ escape (encode_utf8_all (utf16_lossy_chars (units_of (N.tree node))))) }
     ensures { O.takes out.old out.new
         (compact_text (found_data actual.now valid.now (N.tree node))) }
 {
@@ -334,7 +360,7 @@ fn put_found_text<O: Outlet, N: Node>(out: &mut O, actual: &[u8], valid: &[u8], 
     out.put(b"\",\"type\":\"string\",\"valid\":\"");
     put_latin(out, valid);
     out.put(b"\",\"value\":\"");
-    put_runs(out, node);
+    put_value(out, node, plain);
     out.put(b"\"}")
 }
 
@@ -345,14 +371,19 @@ fn put_found_string<O: Outlet, N: Node>(out: &mut O, actual: &[u8], valid: &[u8]
     ensures { O.takes out.old out.new
         (compact_text (found_data actual.now valid.now (N.tree node))) }
 {
-    let least = node.len() as u64;
-    if out.skips(least) {
+    let len = node.len();
+    if out.skips(len as u64) {
         return;
+    }
+    let mut block = [0; RUN];
+    let run = plain_run(&mut block, node, len);
+    if run == len {
+        return put_found_text(out, actual, valid, node, Some(&block[..run]));
     }
     if !is_well_formed(node) {
         return put_found_members(out, actual, valid, node);
     }
-    put_found_text(out, actual, valid, node)
+    put_found_text(out, actual, valid, node, None)
 }
 
 /// Writes an item that a lookup found as the compact text of a JSON object: the members of

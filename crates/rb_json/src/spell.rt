@@ -8,6 +8,7 @@ ghost use Rattle.serde_json.specs.Find.{of_integer};
 ghost use Rattle.serde_json.specs.Written.{number_text};
 ghost use Rattle.rb_tree.specs.Parts.{HasUnits, bytes_of, kind_of, len_of, units_of};
 ghost use Rattle.rb_tree.specs.declared.kind.Kind.TheVariants as Kinds;
+ghost use Rattle.rb_json.specs.inner.Run.{IsRun};
 ghost use Rattle.rb_json.specs.inner.Spelled.{Spells};
 
 use crate::outlet::Outlet;
@@ -128,10 +129,37 @@ fn put_each<O: Outlet>(out: &mut O, bytes: &[u8])
     }
 }
 
+/// Checks whether a byte is ASCII, and a string of JSON has it as it is.
+#[inline(always)]
+fn is_plain_ascii(byte: u8) -> bool
+    ensures ascii { result ≡ true → byte < 128 }
+    ensures plain { result ≡ true → escape_byte byte ≡ byte ∷ [] }
+{
+    byte < 0x80 && is_plain(byte)
+}
+
+/// Checks whether bytes, a character each, are in a string of JSON as they are.
+#[inline(always)]
+fn are_plain(bytes: &[u8]) -> bool
+    ensures { result ≡ true → escape (encode_utf8_all bytes.now) ≡ bytes.now }
+{
+    let len = bytes.len();
+    for i in 0..len {
+        if !is_plain_ascii(bytes[i]) {
+            return false;
+        }
+    }
+    true
+}
+
 /// Writes bytes, a character each, in longer spans if they are ASCII.
 pub(crate) fn put_latin<O: Outlet>(out: &mut O, bytes: &[u8])
     ensures { O.takes out.old out.new (escape (encode_utf8_all bytes.now)) }
 {
+    // Most names are plain, so one scan replaces two.
+    if are_plain(bytes) {
+        return out.put(bytes);
+    }
     match ascii(bytes) {
         Some(text) => put_escaped(out, text.as_bytes()),
         None => put_each(out, bytes),
@@ -242,6 +270,31 @@ pub(crate) fn put_runs<O: Outlet, N: Node>(out: &mut O, node: N)
     while at < len {
         at = put_run(out, node, at, len);
     }
+}
+
+/// Copies the first units that a string of JSON has as they are to the front of a block, a byte
+/// each, and returns their number.
+#[inline(always)]
+pub(crate) fn plain_run<N: Node>(block: &mut [u8; RUN], node: N, len: usize) -> usize
+    requires units { HasUnits (kind_of (N.tree node)) }
+    requires len { len ≡ len_of (N.tree node) }
+    ensures bound { (result ≤ 64) × (result ≤ len) }
+    ensures run { IsRun block.new (units_of (N.tree node)) 0 result }
+    ensures plain { escape (take result block.new) ≡ take result block.new }
+{
+    let most = RUN.min(len);
+    for i in 0..most {
+        let unit = node.unit(i);
+        if 0x80 <= unit {
+            return i;
+        }
+        let byte = unit as u8;
+        if !is_plain(byte) {
+            return i;
+        }
+        block[i] = byte;
+    }
+    most
 }
 
 /// Writes a String or an Alias as a string, with U+FFFD for a surrogate without its partner.

@@ -54,16 +54,30 @@ impl ReplyLine {
         &self.bytes
     }
 
-    /// Begins a reply in the memory of the last one.
-    fn begin(&mut self, alloc: Global) -> Buffer
-        ensures { result ≡ Some [] }
+    /// Returns the memory of the last reply as an empty vector.
+    pub fn take_memory(&mut self, alloc: Global) -> Vec<u8>
+        ensures { result.items ≡ [] }
     {
         let mut bytes = mem::replace(&mut self.bytes, Vec::new(alloc));
         if bytes.capacity() > KEPT {
             bytes = Vec::new(alloc);
         }
         bytes.clear();
-        Buffer::from_vec(bytes)
+        bytes
+    }
+
+    /// Stores a vector, whose memory the next reply uses.
+    pub fn keep_memory(&mut self, bytes: Vec<u8>)
+        ensures { self.new ≡ bytes.items }
+    {
+        self.bytes = bytes;
+    }
+
+    /// Begins a reply in the memory of the last one.
+    fn begin(&mut self, alloc: Global) -> Buffer
+        ensures { result ≡ Some [] }
+    {
+        Buffer::from_vec(self.take_memory(alloc))
     }
 
     /// Ends a reply.

@@ -22,7 +22,7 @@ use crate::ask::{Line, LineRequest, lent_texts, line_of, usage_app};
 use crate::changes::handle;
 use crate::device::{Failed, Sink};
 use crate::limits::{Limited, Limits};
-use crate::lookups::look;
+use crate::lookups::{look, look_unlimited};
 use crate::stream::put_found;
 use crate::texts::Texts;
 use crate::words::LineError;
@@ -163,7 +163,7 @@ fn place_item<S: Sink>(
         tell_line_error(alloc, LineError::ReplyTooLong, reply)?;
         return Ok(Placed::Held);
     }
-    Ok(Placed::Put(put_found(alloc, sink, found)?))
+    Ok(Placed::Put(put_found(alloc, sink, found, reply)?))
 }
 
 /// Writes the reply to a lookup to the sink, or makes the line that reply if nothing was found.
@@ -203,6 +203,31 @@ pub(crate) fn answer_look<S: Sink>(
         (LooksUp app.now locale.now path.now) text engine.now) }
 {
     let (app, locale, path) = (app.as_bytes(), locale.as_bytes(), path.as_bytes());
+    if limits.steps.is_none() {
+        let found = look_unlimited(engine, limits, app, locale, path);
+        return place_found(alloc, limits, &found, reply, sink);
+    }
+    answer_within(alloc, engine, limits, app, locale, path, reply, sink)
+}
+
+/// Answers a lookup under limits.
+#[inline(never)]
+fn answer_within<S: Sink>(
+    alloc: Global,
+    engine: &Engine,
+    limits: &Limits,
+    app: &[u8],
+    locale: &[u8],
+    path: &[u8],
+    reply: &mut ReplyLine,
+    sink: &mut S,
+) -> Result<Placed, AllocError>
+    ensures { PlacesReply result reply.new
+        (writer (S.written sink.old) (S.faults sink.old) (S.settled sink.old))
+        (writer (S.written sink.new) (S.faults sink.new) (S.settled sink.new))
+        (λ text. CallReply limits.now engine.now
+        (LooksUp app.now locale.now path.now) text engine.now) }
+{
     match look(engine, limits, app, locale, path) {
         Limited::Answer(found) => place_found(alloc, limits, &found, reply, sink),
         Limited::Refused(refusal) => {

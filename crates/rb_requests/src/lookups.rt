@@ -1,7 +1,8 @@
-ghost use Rattle.std.specs.Prelude.{◌≡◌};
+ghost use Rattle.std.specs.Prelude.{◌≡◌, None};
 ghost use Rattle.rb_engine.specs.Ask.{LooksUp};
+ghost use Rattle.rb_engine.specs.LookResponse.{look_response};
 ghost use Rattle.rb_views.specs.Seen.{tree_seen};
-ghost use Rattle.rb_requests.specs.Steps.{CallComesTo};
+ghost use Rattle.rb_requests.specs.Steps.{Answers, CallComesTo};
 ghost use Rattle.rb_requests.specs.Outcomes.{look_outcome};
 
 use crate::limits::{Limited, Limits, Refusal};
@@ -22,10 +23,26 @@ pub fn look<'a>(
         (look_outcome tree_seen result) engine.now }
 {
     let Some(steps) = limits.steps else {
-        return Limited::Answer(engine.look(app, locale, path));
+        return Limited::Answer(look_unlimited(engine, limits, app, locale, path));
     };
     match engine.look_within(app, locale, path, steps) {
         Ok(found) => Limited::Answer(found),
         Err(_) => Limited::Refused(Refusal::TooManySteps),
     }
+}
+
+/// Looks up where no limit is on steps.
+#[inline(always)]
+pub(crate) fn look_unlimited<'a>(
+    engine: &'a Engine,
+    limits: &Limits,
+    app: &[u8],
+    locale: &[u8],
+    path: &[u8],
+) -> Result<Found<Item<'a>>, LookFault>
+    requires { limits.now.steps ≡ None }
+    ensures { CallComesTo limits.now engine.now (LooksUp app.now locale.now path.now)
+        (Answers (look_response tree_seen result)) engine.now }
+{
+    engine.look(app, locale, path)
 }

@@ -10,7 +10,7 @@ use crate::device::{Failed, Sink};
 use crate::lines::{PIECE, put_all};
 use rb_fallback::Found;
 use rb_json::Outlet;
-use rb_replies::put_found_line;
+use rb_replies::{ReplyLine, put_found_line};
 use rb_views::Item;
 use std::alloc::{AllocError, Global};
 
@@ -59,6 +59,47 @@ impl<'a, S: Sink> Stream<'a, S> {
         }
     }
 
+    /// Stores bytes, if the buffer needn't grow for them.
+    #[inline(always)]
+    fn hold_in_place(&mut self, bytes: &[u8]) -> bool
+        ensures same { (self.new.sink.ghost_name ≡ self.old.sink.ghost_name)
+            × (self.new.held.ghost_name ≡ self.old.held.ghost_name) }
+        ensures sink { self.new.sink.now ≡ self.old.sink.now }
+        ensures failed { self.new.failed ≡ self.old.failed }
+        ensures held { Holds result self.old.held.now.items self.new.held.now.items bytes.now }
+    {
+        let room = self.held.capacity().saturating_sub(self.held.len());
+        if room < bytes.len() {
+            return false;
+        }
+        match self.held.extend_from_slice(bytes) {
+            Ok(()) => true,
+            Err(_) => false,
+        }
+    }
+
+    /// Stores bytes in a buffer that may grow, or passes on what is stored, and writes bytes that
+    /// the buffer doesn't take.
+    #[inline(never)]
+    fn put_grown(&mut self, bytes: &[u8])
+        ensures same { (self.new.sink.ghost_name ≡ self.old.sink.ghost_name)
+            × (self.new.held.ghost_name ≡ self.old.held.ghost_name) }
+        ensures takes { Takes self.old.failed (writer (S.written self.old.sink.now)
+            (S.faults self.old.sink.now) (S.settled self.old.sink.now)) self.old.held.now.items
+            self.new.failed (writer (S.written self.new.sink.now)
+            (S.faults self.new.sink.now) (S.settled self.new.sink.now)) self.new.held.now.items
+            bytes.now }
+    {
+        if self.hold(bytes) {
+            return;
+        }
+        self.pass_on();
+        if self.hold(bytes) {
+            return;
+        }
+        self.failed = pass(self.sink, self.failed, bytes);
+    }
+
     pub(crate) fn pass_on(&mut self)
         ensures same { (self.new.sink.ghost_name ≡ self.old.sink.ghost_name)
             × (self.new.held.ghost_name ≡ self.old.held.ghost_name) }
@@ -105,15 +146,12 @@ impl<'a, S: Sink> Outlet for Stream<'a, S> {
           a b h.2 k.2,
     ) };
 
+    #[inline(always)]
     fn put(&mut self, bytes: &[u8]) {
-        if self.hold(bytes) {
+        if self.hold_in_place(bytes) {
             return;
         }
-        self.pass_on();
-        if self.hold(bytes) {
-            return;
-        }
-        self.failed = pass(self.sink, self.failed, bytes);
+        self.put_grown(bytes)
     }
 
     fn skips(&mut self, _least: u64) -> bool {
@@ -141,6 +179,7 @@ pub(crate) fn put_found<S: Sink>(
     alloc: Global,
     sink: &mut S,
     found: &Found<Item<'_>>,
+    reply: &mut ReplyLine,
 ) -> Result<Result<(), Failed>, AllocError>
     ensures put { IfOk result (λ put. Puts put
         (writer (S.written sink.old) (S.faults sink.old) (S.settled sink.old))
@@ -148,16 +187,15 @@ pub(crate) fn put_found<S: Sink>(
         (reply_line (Some (Finds (hit_of tree_seen found.now) found.now.valid)))) }
     ensures none { IfErr result (λ _. sink.new ≡ sink.old) }
 {
-    let mut held = Vec::with_capacity(alloc, FIRST)?;
+    let mut held = reply.take_memory(alloc);
+    held.reserve(FIRST)?;
     let mut stream = Stream {
         sink,
         held: &mut held,
         failed: false,
     };
     stream_found(&mut stream, found);
-    if stream.failed {
-        Ok(Err(Failed))
-    } else {
-        Ok(Ok(()))
-    }
+    let failed = stream.failed;
+    reply.keep_memory(held);
+    if failed { Ok(Err(Failed)) } else { Ok(Ok(())) }
 }

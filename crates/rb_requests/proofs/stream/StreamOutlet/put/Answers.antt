@@ -1,16 +1,8 @@
-use Rattle.std.proofs.Common.{◌∙◌, ◌++◌, [], append-nil}
-use Rattle.rb_requests.proofs.Putting.{held_more}
+use Rattle.std.proofs.Common.{◌∙◌}
 use Rattle.rb_requests.proofs.stream.StreamOutlet.put.Goals as goal
 
 pub returns : goal.returns
 returns g c =
-    let first = c.if-hold.ensures in
-    let second = c.if-hold-2.ensures in
-    let bytes = c.args.bytes.now in
-    let passed = rw (first.failed, first.sink, first.held) at c.pass_on.ensures.takes in
-    let last = rw (second.failed, second.sink) at c.pass-self.ensures in (
-      second.same.0 ∙ (c.pass_on.ensures.same.0 ∙ first.same.0),
-      second.same.1 ∙ (c.pass_on.ensures.same.1 ∙ first.same.1),
-      λ before text h. rw (second.held, c.pass_on.ensures.empty)
-          (last before (text ++ bytes) (held_more c.pass_on.new.self.failed before _ [] text bytes (rw (append-nil text, c.pass_on.ensures.empty) at (passed before text h)))),
-    )
+    let first = c.if-hold_in_place.ensures in
+    let grown = c.put_grown.ensures in
+    (grown.same.0 ∙ first.same.0, grown.same.1 ∙ first.same.1, rw (first.failed, first.sink, first.held) at grown.takes)
