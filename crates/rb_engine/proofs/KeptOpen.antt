@@ -119,7 +119,7 @@ opened_is opened packages ps version hash place same read files stops = record {
   not_later = λ later a b f. omega (arith, same, f);
 }
 
-get_set : {A : Type 0} (l : List A) (i j : ℕ) (x y : A) → slice_get (set l i x) j ≡ Some y → (y ≡ x) ⊎ (slice_get l j ≡ Some y)
+pub get_set : {A : Type 0} (l : List A) (i j : ℕ) (x y : A) → slice_get (set l i x) j ≡ Some y → (y ≡ x) ⊎ (slice_get l j ≡ Some y)
 get_set [] i j x y e = inr e
 get_set (a ∷ l) zero zero x y e = inl cc
 get_set (a ∷ l) zero (suc j) x y e = inr e

@@ -10,4 +10,5 @@ pub mod Bounded
 pub mod Unread
 pub mod KeptOpen
 mod Places
+pub mod KeptFound
 pub mod Finding

@@ -1,2 +1,4 @@
 pub mod Opening
 pub mod KeptLocales
+pub mod PathFields
+pub mod KeptItems

@@ -20,6 +20,7 @@ ghost use Rattle.rb_engine.specs.Steps.{takes_more, takes_more_from};
 ghost use Rattle.rb_engine.specs.Version.{is_current, next_version};
 ghost use Rattle.rb_engine.specs.OpenLocale.{IsOpenLocale, RefusesAll};
 ghost use Rattle.rb_engine.specs.inner.KeptLocales.{AreKept};
+ghost use Rattle.rb_engine.specs.inner.KeptItems.{AreItemsKept};
 ghost use Rattle.rb_engine.specs.declared.request.Request.TheVariants.{Remove as Removal};
 ghost use Rattle.rb_engine.specs.declared.request.Request.TheVariants.{List as Listing};
 ghost use Rattle.rb_fallback.specs.FoundNode.{IsNodeOf};
@@ -30,13 +31,15 @@ ghost use Rattle.rb_engine.specs.declared.request.Payload.{Payload};
 use crate::app_shelves::AppShelves;
 use crate::handle::{self, Change};
 use crate::incoming::IncomingBundle;
+use crate::kept_items::{Asked, KeptItems};
 use crate::open_locale::{OpenLocale, Stale, find_opened, is_current, look_opened, open_at};
 use crate::open_locales::OpenLocales;
 use crate::place::{Place, place_of};
 use crate::request::{LookFault, Payload, Reply, Request, TooManySteps};
 use crate::same_name::same_name;
+use crate::spot::is_short_text;
 use crate::start::{StartFault, load_all};
-use rb_fallback::{BoundedError, Found, LookError};
+use rb_fallback::{BoundedError, Found, LookError, Watch, look_watched};
 use rb_locales::Name;
 use rb_packages::{App, Draft, Packages, Usage};
 use rb_parents::Parents;
@@ -57,6 +60,7 @@ pub struct Engine {
     /// Rises with each change, up to the maximum.
     version: u64,
     opened: OpenLocales,
+    kept: KeptItems,
 }
 
 impl Model for Engine {
@@ -70,7 +74,9 @@ impl Model for Engine {
       version = e.version;
     } };
 
-    ghost invariant = { λ e. AreKept e.opened.slots.items e.packages (parent_of e.parents) e.version };
+    ghost invariant = { λ e.
+        AreKept e.opened.slots.items e.packages (parent_of e.parents) e.version
+        × AreItemsKept e.kept.slots.items e.packages (parent_of e.parents) e.version };
 }
 
 impl Engine {
@@ -99,6 +105,7 @@ impl Engine {
             parents,
             version: 0,
             opened: OpenLocales::none(alloc),
+            kept: KeptItems::none(alloc),
         })
     }
 
@@ -318,6 +325,12 @@ impl Engine {
             ≡ answer_over (state_of self.now).start ((state_of self.now).lists app.now)
             (Looks app.now locale.now path.now) }
     {
+        if let Some(found) = self
+            .kept
+            .look(&self.packages, self.version, app, locale, path)
+        {
+            return Ok(found);
+        }
         match self.look_kept(app, locale, path) {
             Some(found) => found,
             None => self.look_named(app, locale, path),
@@ -389,7 +402,7 @@ impl Engine {
         );
         match opened {
             Some(found) => found,
-            None => look_in(&self.packages, &self.parents, &place, path),
+            None => look_in(&self.packages, &self.parents, &place, path, &mut ()),
         }
     }
 
@@ -458,12 +471,61 @@ impl Engine {
     pub fn keep_open(&mut self, app: &[u8], locale: &[u8])
         ensures { self.new ≡ self.old }
     {
-        if self.opened.has(app, locale, self.version) {
+        if let Some(index) = self.opened.position(app, locale, self.version) {
+            self.opened.recent = index;
             return;
         }
         if let Ok(place) = place_of(app, locale) {
             self.opened
                 .keep(&self.packages, &self.parents, self.version, &place);
+        }
+    }
+
+    /// Makes room to keep the places of this many items (`keep_item`), in about 400 bytes each.
+    /// Forgets those that are kept.
+    pub fn keep_items(&mut self, alloc: Global, count: usize) -> Result<(), AllocError>
+        ensures { self.new ≡ self.old }
+    {
+        self.kept = KeptItems::with_slots(alloc, count)?;
+        Ok(())
+    }
+
+    /// Keeps the place where a lookup ends, so that `look` finds the item there without a search.
+    /// The first time it only opens the locale, like `keep_open`, and once the place is kept it does
+    /// nothing. A lookup is kept if it comes twice, by canonical names, and finds a String of at most
+    /// 1,024 units, and its path has at most 96 bytes before and after aliases. The lookups of one
+    /// slot take turns, and any change forgets all of them. Allocates nothing.
+    pub fn keep_item(&mut self, app: &[u8], locale: &[u8], path: &[u8])
+        ensures { self.new ≡ self.old }
+    {
+        match self.kept.ask(app, locale, path, self.version) {
+            Asked::Kept => {}
+            Asked::First => self.keep_open(app, locale),
+            Asked::Again => self.keep_found(app, locale, path),
+        }
+    }
+
+    /// Keeps the place where a lookup ends, and opens its locale.
+    #[tactic(auto, using(crate::proofs::Places::own_app))]
+    fn keep_found(&mut self, app: &[u8], locale: &[u8], path: &[u8])
+        ensures { self.new ≡ self.old }
+    {
+        self.keep_open(app, locale);
+        // Only what is worth it is searched for by names, which takes longer.
+        if !self.finds_short_text(app, locale, path) {
+            return;
+        }
+        if let Ok(place) = place_of(app, locale) {
+            self.kept
+                .keep(&self.packages, &self.parents, self.version, &place, path);
+        }
+    }
+
+    /// Returns true if the locale is open by these names, and the lookup finds a short String.
+    fn finds_short_text(&self, app: &[u8], locale: &[u8], path: &[u8]) -> bool {
+        match self.find_kept(app, locale, path) {
+            Some(Ok(item)) => is_short_text(item),
+            _ => false,
         }
     }
 
@@ -523,18 +585,19 @@ impl From<LookError> for LookFault {
     }
 }
 
-fn look_in<'a>(
+pub(crate) fn look_in<'a, W: Watch>(
     packages: &'a Packages,
     parents: &Parents,
     place: &Place,
     path: &[u8],
+    watch: &mut W,
 ) -> Result<Found<Item<'a>>, LookFault>
     ensures { look_response tree_seen result ≡ lookup_in
         (bundle_at (list_of place.now.app packages.now)) (bundle_at (icudata_of packages.now))
         (parent_of parents.now) place.now.name path.now }
 {
     let own = packages.shelf(&place.app);
-    match rb_fallback::look(own, packages.icu_shelf(), parents, &place.name, path) {
+    match look_watched(own, packages.icu_shelf(), parents, &place.name, path, watch) {
         Ok(found) => Ok(found.with_node(found.node.item())),
         Err(error) => Err(LookFault::from(error)),
     }

@@ -9,6 +9,8 @@ mod handle;
 mod incoming;
 mod item_shelf;
 mod judging;
+mod kept_items;
+mod kept_path;
 pub mod laws;
 mod open_locale;
 mod open_locales;
@@ -16,6 +18,7 @@ mod payload;
 mod place;
 mod request;
 mod same_name;
+mod spot;
 mod start;
 mod words;
 

@@ -34,6 +34,8 @@ pub(crate) struct Slot {
 #[derive(Drop)]
 pub(crate) struct OpenLocales {
     pub(crate) slots: Vec<Option<Slot>>,
+    /// The index of the slot that is searched first.
+    pub(crate) recent: usize,
 }
 
 /// The number of slots in which a locale may be.
@@ -58,12 +60,11 @@ fn scaled(hash: u64, count: usize) -> usize
 
 impl Slot {
     /// Returns true if the slot has a locale by these names, open in this version.
-    fn has(&self, hash: u64, app: &[u8], locale: &[u8], version: u64) -> bool
+    fn has(&self, app: &[u8], locale: &[u8], version: u64) -> bool
         ensures { OnTrue result ((self.now.place.app ≡ app.now) × (self.now.place.name ≡ locale.now)
             × (is_current self.now.opened.version version ≡ true)) }
     {
-        self.hash == hash
-            && is_current(self.opened.version, version)
+        is_current(self.opened.version, version)
             && self.place.app.as_bytes() == app
             && self.place.name.as_bytes() == locale
     }
@@ -76,6 +77,7 @@ impl OpenLocales {
     {
         OpenLocales {
             slots: Vec::new(alloc),
+            recent: 0,
         }
     }
 
@@ -86,6 +88,7 @@ impl OpenLocales {
     {
         Ok(OpenLocales {
             slots: vec![in alloc; None; count]?,
+            recent: 0,
         })
     }
 
@@ -101,25 +104,52 @@ impl OpenLocales {
         (from, from + WINDOW)
     }
 
+    /// Returns the index of the slot that has the locale by these names, open in this version.
+    pub(crate) fn position(&self, app: &[u8], locale: &[u8], version: u64) -> Option<usize> {
+        let hash = hash_of(app, locale);
+        let (from, past) = self.window(hash);
+        for i in from..past {
+            let slot = self.slots[i].as_ref()?;
+            if slot.hash == hash && slot.has(app, locale, version) {
+                return Some(i);
+            }
+        }
+        None
+    }
+
+    /// Returns the locale of a slot, if it is the one by these names and open in this version.
+    fn at(&self, index: usize, app: &[u8], locale: &[u8], version: u64) -> Option<&OpenLocale>
+        ensures { (packages : Stored) → (parents : ParentsOf)
+            → AreKept self.now.slots.items packages parents version → IfSome result
+            (λ opened. IsOpenFor opened.now packages parents app.now locale.now) }
+    {
+        if index >= self.slots.len() {
+            return None;
+        }
+        match &self.slots[index] {
+            Some(slot) => {
+                if slot.has(app, locale, version) {
+                    return Some(&slot.opened);
+                }
+                None
+            }
+            None => None,
+        }
+    }
+
     /// Returns the locale by these names, if it is open in this version.
     fn find(&self, app: &[u8], locale: &[u8], version: u64) -> Option<&OpenLocale>
         ensures { (packages : Stored) → (parents : ParentsOf)
             → AreKept self.now.slots.items packages parents version → IfSome result
             (λ opened. IsOpenFor opened.now packages parents app.now locale.now) }
     {
-        let hash = hash_of(app, locale);
-        let (from, past) = self.window(hash);
-        for i in from..past {
-            match &self.slots[i] {
-                Some(slot) => {
-                    if slot.has(hash, app, locale, version) {
-                        return Some(&slot.opened);
-                    }
-                }
-                None => return None,
+        match self.at(self.recent, app, locale, version) {
+            Some(opened) => Some(opened),
+            None => {
+                let index = self.position(app, locale, version)?;
+                self.at(index, app, locale, version)
             }
         }
-        None
     }
 
     /// Returns the index of the slot that a locale with this hash takes, if the table has slots.
@@ -178,11 +208,6 @@ impl OpenLocales {
         Some(find_opened(packages, parents, opened, path))
     }
 
-    /// Returns true if the locale by these names is open in this version.
-    pub(crate) fn has(&self, app: &[u8], locale: &[u8], version: u64) -> bool {
-        self.find(app, locale, version).is_some()
-    }
-
     /// Opens a locale over the bundles of this version, unless it is open. An error leaves the slot
     /// as it is.
     pub(crate) fn keep(
@@ -198,7 +223,8 @@ impl OpenLocales {
     {
         let app = place.app.as_bytes();
         let locale = place.name.as_bytes();
-        if self.has(app, locale, version) {
+        if let Some(index) = self.position(app, locale, version) {
+            self.recent = index;
             return;
         }
         let hash = hash_of(app, locale);
@@ -211,6 +237,7 @@ impl OpenLocales {
                 place: *place,
                 opened,
             });
+            self.recent = index;
         }
     }
 }

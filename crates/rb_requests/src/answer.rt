@@ -210,7 +210,7 @@ pub(crate) fn answer_look<S: Sink>(
     answer_within(alloc, engine, limits, app, locale, path, reply, sink)
 }
 
-/// Answers a lookup under limits.
+/// Answers a lookup under a limit on steps.
 #[inline(never)]
 fn answer_within<S: Sink>(
     alloc: Global,
@@ -237,13 +237,13 @@ fn answer_within<S: Sink>(
     }
 }
 
-/// Keeps the locale of a lookup open, so that the next lookups needn't find its trail. A limit on
-/// steps counts the trail, so such lookups find it each time.
-pub(crate) fn keep_locale(engine: &mut Engine, limits: &Limits, app: &str, locale: &str)
+/// Keeps what a lookup needs for the next ones: where it ends, or its locale's trail. A limit on
+/// steps counts the whole search, so lookups under it search each time.
+pub(crate) fn keep_item(engine: &mut Engine, limits: &Limits, app: &str, locale: &str, path: &str)
     ensures { engine.new ≡ engine.old }
 {
     if limits.steps.is_none() {
-        engine.keep_open(app.as_bytes(), locale.as_bytes());
+        engine.keep_item(app.as_bytes(), locale.as_bytes(), path.as_bytes());
     }
 }
 
@@ -307,7 +307,7 @@ fn answer_texts<S: Sink>(
         None => answer_other(alloc, engine, limits, texts, reply)?,
         Some(Line::Request(request)) => answer_request(alloc, engine, limits, request, reply)?,
         Some(Line::Look { app, locale, path }) => {
-            keep_locale(engine, limits, app, locale);
+            keep_item(engine, limits, app, locale, path);
             return Ok(answer_look(alloc, engine, limits, app, locale, path, reply, sink)?);
         }
     }

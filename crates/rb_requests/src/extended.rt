@@ -28,8 +28,8 @@ ghost use Rattle.rb_requests.specs.inner.Starving.{LeavesOf};
 ghost use Rattle.rb_engine.specs.Ask.{Requests};
 
 use crate::answer::{
-    Placed, Starved, answer_look, answer_request, answer_usage, is_memory, keep_locale,
-    tell_answer, tell_line_error, tell_word, untold,
+    Placed, Starved, answer_look, answer_request, answer_usage, is_memory, keep_item, tell_answer,
+    tell_line_error, tell_word, untold,
 };
 use crate::ask::{Line, LineRequest};
 use crate::change_list::LineChange;
@@ -264,7 +264,7 @@ fn answer_plain<S: Sink>(
             held(answer_plain_request(alloc, engine, limits, request, reply))
         }
         Line::Look { app, locale, path } => {
-            keep_locale(engine, limits, app, locale);
+            keep_item(engine, limits, app, locale, path);
             Ok(answer_look(alloc, engine, limits, app, locale, path, reply, sink)?)
         }
     }

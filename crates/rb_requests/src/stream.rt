@@ -68,7 +68,8 @@ impl<'a, S: Sink> Stream<'a, S> {
         ensures failed { self.new.failed ≡ self.old.failed }
         ensures held { Holds result self.old.held.now.items self.new.held.now.items bytes.now }
     {
-        let room = self.held.capacity().saturating_sub(self.held.len());
+        let most = PIECE.min(self.held.capacity());
+        let room = most.saturating_sub(self.held.len());
         if room < bytes.len() {
             return false;
         }

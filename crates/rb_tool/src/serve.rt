@@ -76,6 +76,9 @@ fn serve_lines<R: Input + Print + Eprint + AllocGlobal>(
 /// The number of locales that a server keeps open, in 0.9 MB.
 const KEPT_LOCALES: usize = 2_048;
 
+/// The number of items that a server keeps, in 1.6 MB.
+const KEPT_ITEMS: usize = 4_096;
+
 /// The arguments of `resb serve`.
 #[derive(Drop)]
 pub struct Serving<'a> {
@@ -100,6 +103,7 @@ fn start_server<'a, R: Files + RandomSource + AllocGlobal>(
     let mut engine = start_engine(rt, serving.parents, &serving.bundles)?;
     // Without memory for them lookups are slower, and the same.
     let _ = engine.keep_locales(rt.alloc(), KEPT_LOCALES);
+    let _ = engine.keep_items(rt.alloc(), KEPT_ITEMS);
     Ok(Server {
         engine,
         limits: serving.limits,

@@ -55,8 +55,9 @@ pub(crate) fn empty_engine(rt: &HostRuntime) -> Option<Engine> {
     let alloc = rt.alloc();
     let state = RandomState::new(rt).ok()?;
     let mut engine = Engine::start(alloc, state, Vec::new(alloc), Parents::none(alloc)).ok()?;
-    // Few, so that locales take each other's places.
+    // Few, so that locales and items take each other's places.
     engine.keep_locales(alloc, 3).ok()?;
+    engine.keep_items(alloc, 2).ok()?;
     Some(engine)
 }
 
@@ -128,6 +129,14 @@ fn kept_open<'a>(engine: &'a mut Engine, place: Place<'_>) -> &'a Engine {
     engine
 }
 
+/// Asks for an item twice, so that it is kept for the next lookup.
+fn kept_item<'a>(engine: &'a mut Engine, place: Place<'_>, path: &str) -> &'a Engine {
+    let (app, locale) = (place.0.as_bytes(), place.1.as_bytes());
+    engine.keep_item(app, locale, path.as_bytes());
+    engine.keep_item(app, locale, path.as_bytes());
+    engine
+}
+
 fn finds_opened(engine: &Engine, place: Place<'_>, path: &str, hit: Hit<'_>) -> bool {
     let Ok(opened) = opened(engine, place) else {
         return false;
@@ -157,11 +166,13 @@ fn runs(alloc: Global, engine: &mut Engine, step: Step<'_>) -> bool {
             finds(engine, place, path, hit)
                 && finds_opened(engine, place, path, hit)
                 && finds(kept_open(engine, place), place, path, hit)
+                && finds(kept_item(engine, place, path), place, path, hit)
         }
         Step::Miss(place, path, word) => {
             misses(engine, place, path, word)
                 && misses_opened(engine, place, path, word)
                 && misses(kept_open(engine, place), place, path, word)
+                && misses(kept_item(engine, place, path), place, path, word)
         }
     }
 }

@@ -16,4 +16,4 @@ returns c =
       is = a.is;
       known = a.known.answer ∙ lookup_at_place start c.args.app.now c.args.locale.now c.args.path.now a.known.place c.self.inside.packages a.known.read;
     })
-    (c.find_item.ensures c.self.invariant))
+    (c.find_item.ensures c.self.invariant.0))

@@ -13,4 +13,4 @@ returns c =
     rw (← c.self.view_is)
     (some_answered c.look.result _ _
     (λ found a. a.answer ∙ lookup_at_place start c.args.app.now c.args.locale.now c.args.path.now a.place c.self.inside.packages a.read)
-    (c.look.ensures c.self.invariant))
+    (c.look.ensures c.self.invariant.0))

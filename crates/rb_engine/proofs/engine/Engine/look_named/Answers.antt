@@ -21,7 +21,7 @@ returns-in-Some c =
     let own : place_of place.app place.name ≡ Ok place = own_place place (own_app app locale place h) c.as_bytes-2.ensures.canonical in
     let start : Start = (state_of (record { packages = packages; parents = family_pairs c.self.inside.parents; version = c.self.inside.version })).start in
     let a = answered_at (look_response tree_seen c.in-Some.found) packages (parent_of c.self.inside.parents) c.as_bytes.result.now c.as_bytes-2.result.now path place
-    (c.in-Some.ensures c.self.invariant) c.as_bytes.ensures c.as_bytes-2.ensures.bytes own in
+    (c.in-Some.ensures c.self.invariant.0) c.as_bytes.ensures c.as_bytes-2.ensures.bytes own in
     rw (← c.self.view_is) (a ∙ lookup_at_place start app locale path place packages h)
 
 pub returns-in-None : goal.returns-in-None

@@ -9,4 +9,7 @@ returns-in_err-load_all-clause-index c =
     rw (p.1, p.2) (refused_below c.args.icudata.items c.in_err-load_all.field-0.0 c.in_err-load_all.ensures.refused)
 
 pub invariant_of-result : goal.invariant_of-result
-invariant_of-result c = c.none.ensures c.load_all.new.packages (parent_of c.args.parents) 0
+invariant_of-result c =
+    let packages = c.load_all.new.packages in
+    let ps = parent_of c.args.parents in
+    (c.none.ensures packages ps 0, c.none-2.ensures packages ps 0)
