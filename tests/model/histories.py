@@ -75,6 +75,7 @@ class History:
         self.apps = random.sample(making.APPS, random.choice((2, 3, 5)))
         self.lines = []
         self.replies = []
+        self.looks = []
         self.damaged = 0
 
     def add(self, line):
@@ -136,8 +137,24 @@ class History:
         if chosen < 0.03:
             self.add(making.random_line(self.random))
             return
-        line = making.dumped(self.random, self.request())
+        if chosen > 0.85 and self.looks:
+            self.add_again()
+            return
+        request = self.request()
+        if request["op"] == "look":
+            self.looks.append(request)
+        line = making.dumped(self.random, request)
         self.add(making.damage_line(self.random, line) if chosen < 0.06 else line)
+
+    def add_again(self):
+        """Adds an earlier lookup a few times, as the server keeps where one ended that comes twice, and after a change."""
+        look = self.random.choice(self.looks[-8:])
+        for _ in range(self.random.choice((1, 2, 3))):
+            self.add(making.dumped(self.random, look))
+        place = {"app": look["app"], "locale": look["locale"]}
+        change = {"op": "install", **place, **self.payload()} if self.random.random() < 0.6 else {"op": "remove", **place}
+        self.add(making.dumped(self.random, change))
+        self.add(making.dumped(self.random, look))
 
     def add_long(self):
         """Adds a request with blanks at its end, so that its line is as long as may be, or longer."""
