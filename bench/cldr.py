@@ -33,7 +33,7 @@ from turns import Goal, by_turns, command_line, ratio
 LOCALES = ("root", "en", "de", "zh_Hant", "sr_Latn")
 COUNTS = (10, 30, 100, 300, None)  # None: all
 AHEAD, ONE_BY_ONE, TRIED, HOT = 100_000, 40_000, 50_000, 500
-GOALS = (("cold", 1.3), ("one by one", 1.0))
+GOALS = (("cold", 1.3), ("hot", 2.2), ("one by one", 1.1))
 
 
 def line(request):
