@@ -65,7 +65,7 @@ NAMES = {
     "one by one": "in 1,000 bundles, one by one",
     "trails": "over trails of 4 names, written ahead",
     "text to lookup": "from nested text of 8 MB to a lookup, s",
-    "text to lookup, ICU": "the same by genrb, `ures_open` and libicu, s",
+    "text to lookup, ICU": "that install and lookup with genrb, `ures_open` and libicu, s",
 }
 
 
