@@ -3,6 +3,7 @@ ghost use Rattle.std.specs.Prelude.{OnOk, OnErr, ◌+◌, ◌<◌, ◌≤◌, le
 ghost use Rattle.std.specs.Map.{lookup, keys_of, values_of, set_value, remove_entry};
 ghost use Rattle.std.specs.Str.{bytes_eq};
 ghost use Rattle.rb_packages.specs.Packages.{shelf_of, install_fault, IsJudged};
+ghost use Rattle.rb_packages.specs.Positions.{has_name_at};
 ghost use Rattle.rb_packages.specs.Release.{edited, edited_at};
 ghost use Rattle.rb_packages.specs.Usage.{bytes_of};
 ghost use Rattle.indexmap.specs.IndexMap.{spare};
@@ -111,6 +112,16 @@ pub(crate) fn remove(bundles: &mut Bundles, name: &Name) -> Option<Bundle>
     match bundles.shift_remove(name) {
         Some(stored) => Some(stored.into_bundle()),
         None => None,
+    }
+}
+
+/// Returns true if the bundle at an index has this name.
+pub(crate) fn is_name_at(bundles: &Bundles, index: usize, name: &[u8]) -> bool
+    ensures { result ≡ has_name_at bundles.now.entries index name.now }
+{
+    match bundles.get_index(index) {
+        Some((there, _)) => there.as_bytes() == name,
+        None => false,
     }
 }
 

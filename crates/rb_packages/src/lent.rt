@@ -21,8 +21,8 @@ fn names_bundle(key: &[u8]) -> bool
     key == b"%%ALIAS".as_slice() || key == b"%%Parent".as_slice()
 }
 
-/// Wraps an item that isn't a root.
-fn below<'a>(item: Item<'a>) -> LentItem<'a>
+/// Wraps an item that may name another bundle.
+pub(crate) fn below<'a>(item: Item<'a>) -> LentItem<'a>
     ensures { result.item ≡ item.entry }
 {
     LentItem {

@@ -2,6 +2,7 @@ ghost use Rattle.std.specs.Prelude.{◌≡◌, ◌-◌, ◌^◌, ◌+◌, [], �
 ghost use Rattle.std.specs.Prelude.{IfNone, IfSome, OnOk, OnErr, IsTrue, true, false, length, min};
 ghost use Rattle.std.specs.Prelude.{is_some, slice_get};
 ghost use Rattle.std.specs.Prelude.{option_map, if◌then◌else◌};
+ghost use Rattle.std.specs.Option.{option_copied};
 ghost use Rattle.std.specs.Map.{lookup, set_value, remove_entry};
 ghost use Rattle.std.specs.Str.{bytes_eq};
 ghost use Rattle.rb_packages.specs.Packages.{shelf_of, install_fault, IsJudged};
@@ -24,6 +25,18 @@ use std::hash::RandomState;
 
 /// The packages by application. An application without bundles has no entry.
 pub(crate) type Owned = IndexMap<App, Bundles, RandomState>;
+
+/// Returns the bundles of the application at an index if that is this one, or else searches for it.
+pub(crate) fn bundles_near<'a>(owned: &'a Owned, app: &App, near: usize) -> Option<&'a Bundles>
+    ensures { option_copied result ≡ lookup (bytes_eq app.now) owned.now.entries }
+{
+    if let Some((other, bundles)) = owned.get_index(near) {
+        if other.as_bytes() == app.as_bytes() {
+            return Some(bundles);
+        }
+    }
+    owned.get(app)
+}
 
 /// Installs the first bundle of an application, or returns it if out of memory.
 fn install_first(

@@ -8,7 +8,7 @@ ghost use Rattle.rb_packages.specs.Shelf.{bundle_at, replaced, removed};
 ghost use Rattle.rb_packages.specs.Packages.{icudata_files, icudata_of, files_of, list_of, file_at};
 ghost use Rattle.rb_packages.specs.Packages.{install_fault, load_fault, IsJudged, OthersStay};
 ghost use Rattle.rb_packages.specs.Lent.{files_in, bundles_lent};
-ghost use Rattle.rb_packages.specs.Positions.{files_at_index};
+ghost use Rattle.rb_packages.specs.Positions.{files_at_index, is_bundle_at};
 ghost use Rattle.rb_packages.specs.Release.{edited, sizes_of};
 ghost use Rattle.rb_packages.specs.Usage.{bytes_of, apps_of, more_apps, AreThereOnce};
 
@@ -16,6 +16,7 @@ use crate::app::App;
 use crate::bundles::Bundles;
 use crate::draft::Draft;
 use crate::fault::{Absent, PackFault};
+use crate::hint::BundleHint;
 use crate::owned::Owned;
 use crate::shelf::AppShelf;
 use crate::usage::Usage;
@@ -245,7 +246,44 @@ impl Packages {
     {
         AppShelf {
             bundles: self.owned.get(app),
+            near: usize::MAX,
         }
+    }
+
+    /// Returns a reference to the bundles of an application, like `shelf`. Finds them, and then the
+    /// bundle of a name, in less time if the hint says where they are.
+    pub fn shelf_near(&self, app: &App, hint: BundleHint) -> AppShelf<'_>
+        ensures bundles { bundles_lent result ≡ bundle_at (list_of app.now self.now) }
+        ensures files { files_in result ≡ files_of app.now self.now }
+    {
+        AppShelf {
+            bundles: owned::bundles_near(&self.owned, app, hint.app),
+            near: hint.bundle,
+        }
+    }
+
+    /// Returns true if the bundle at a hint's indices has these names.
+    pub fn is_at(&self, hint: BundleHint, app: &[u8], locale: &[u8]) -> bool
+        ensures { result ≡ is_bundle_at self.now hint app.now locale.now }
+    {
+        match self.owned.get_index(hint.app) {
+            Some((name, bundles)) => {
+                name.as_bytes() == app && bundles::is_name_at(bundles, hint.bundle, locale)
+            }
+            None => false,
+        }
+    }
+
+    /// Reads from the entry of the bundle at a hint's indices, so that it comes into the cache. What
+    /// is returned says only that the memory was read.
+    pub fn read_entry(&self, hint: BundleHint) -> u8 {
+        self.shelf_at(hint.app).read_entry(hint.bundle).unwrap_or(0)
+    }
+
+    /// Reads from each cache line of the file of the bundle at a hint's indices, like `read_entry`,
+    /// if the file has at most 1,024 bytes.
+    pub fn read_file(&self, hint: BundleHint) -> u8 {
+        self.shelf_at(hint.app).read_file(hint.bundle).unwrap_or(0)
     }
 
     /// Returns the index of an application that has bundles. A change of any application's bundles
@@ -267,7 +305,10 @@ impl Packages {
             Some((_, bundles)) => Some(bundles),
             None => None,
         };
-        AppShelf { bundles }
+        AppShelf {
+            bundles,
+            near: usize::MAX,
+        }
     }
 
     pub fn icu_shelf(&self) -> AppShelf<'_>
@@ -276,6 +317,7 @@ impl Packages {
     {
         AppShelf {
             bundles: Some(&self.icudata),
+            near: usize::MAX,
         }
     }
 }

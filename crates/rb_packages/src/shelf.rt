@@ -17,6 +17,8 @@ use rb_parents::Shelf;
 #[derive(Clone, Copy)]
 pub struct AppShelf<'a> {
     pub(crate) bundles: Option<&'a Bundles>,
+    /// The index of the bundle that is tried before the search by name. Any number is allowed.
+    pub(crate) near: usize,
 }
 
 impl<'a> Shelf<'a> for AppShelf<'a> {
@@ -29,7 +31,7 @@ impl<'a> Shelf<'a> for AppShelf<'a> {
         ensures place { LendsRoot (files_in self.entry) name.now result }
     {
         match self.bundles {
-            Some(bundles) => bundle_in(bundles, name),
+            Some(bundles) => bundle_near(bundles, name, self.near),
             None => None,
         }
     }
@@ -57,6 +59,20 @@ impl<'a> AppShelf<'a> {
         }
     }
 
+    /// Reads a byte of a bundle's name and its stored flags, or none if no bundle is there.
+    pub(crate) fn read_entry(self, index: usize) -> Option<u8> {
+        let (name, stored) = self.bundles?.get_index(index)?;
+        let first = name.as_bytes().first().copied().unwrap_or(0);
+        Some(first ^ stored.no_fallback() as u8)
+    }
+
+    /// Reads a byte of each cache line of a bundle's file if it is small, or returns none if no
+    /// bundle is there.
+    pub(crate) fn read_file(self, index: usize) -> Option<u8> {
+        let (_, stored) = self.bundles?.get_index(index)?;
+        Some(stored.read_lines())
+    }
+
     /// Returns the root of the bundle at an index.
     pub fn root_at(self, index: usize) -> Option<LentItem<'a>>
         ensures { option_map lent_tree result ≡ tree_at (files_in self.entry) index }
@@ -66,6 +82,20 @@ impl<'a> AppShelf<'a> {
             None => None,
         }
     }
+}
+
+/// Returns the bundle at an index if it has this name, or else the one with this name.
+fn bundle_near<'a>(bundles: &'a Bundles, name: &Name, near: usize) -> Option<(LentItem<'a>, bool)>
+    ensures value { option_map (bundle_of lent_tree) result
+        ≡ bundle_at (shelf_of bundles.now.entries) name.now }
+    ensures place { LendsRoot bundles.now.entries name.now result }
+{
+    if let Some((other, stored)) = bundles.get_index(near) {
+        if other.as_bytes() == name.as_bytes() {
+            return Some((stored.root_ahead(), stored.no_fallback()));
+        }
+    }
+    bundle_in(bundles, name)
 }
 
 fn index_in(bundles: &Bundles, name: &Name) -> Option<usize>
@@ -84,7 +114,7 @@ fn bundle_in<'a>(bundles: &'a Bundles, name: &Name) -> Option<(LentItem<'a>, boo
     ensures place { LendsRoot bundles.now.entries name.now result }
 {
     match bundles.get(name) {
-        Some(stored) => Some((stored.root(), stored.no_fallback())),
+        Some(stored) => Some((stored.root_ahead(), stored.no_fallback())),
         None => None,
     }
 }

@@ -6,7 +6,7 @@ ghost use Rattle.rb_views.specs.Trees.{data_of};
 ghost use Rattle.rb_packages.specs.LentItem.{lent_item, lent_tree};
 ghost use Rattle.rb_packages.specs.inner.Names.{names_nothing};
 
-use crate::lent::LentItem;
+use crate::lent::{LentItem, below};
 use rb_validator::Bundle;
 use rb_views::{Item, RootPlace, root, root_at, root_place};
 use std::marker::Model;
@@ -45,6 +45,26 @@ fn lacks_names(root: Item<'_>) -> bool
         Some(table) => table.get(b"%%ALIAS").is_none() && table.get(b"%%Parent").is_none(),
         None => false,
     }
+}
+
+/// The most bytes of a file that is read ahead.
+const SMALL_FILE: u64 = 1024;
+
+/// The length of a cache line.
+const CACHE_LINE: usize = 64;
+
+/// Reads a byte of each cache line of a small file. The reads wait for memory together, where those
+/// of a lookup wait one after the other.
+fn read_lines(file: &[u8]) -> u8 {
+    if file.len() as u64 > SMALL_FILE {
+        return 0;
+    }
+    // The last byte may be in a line after that of the last step.
+    let mut all = file.last().copied().unwrap_or(0);
+    for byte in file.iter().step_by(CACHE_LINE) {
+        all |= *byte;
+    }
+    all
 }
 
 impl StoredBundle {
@@ -94,6 +114,25 @@ impl StoredBundle {
             item: root_at(&self.bundle, place),
             lacks_names: self.lacks_names,
         }
+    }
+
+    /// Returns the root like `root`, and reads a small file ahead.
+    pub(crate) fn root_ahead(&self) -> LentItem<'_>
+        ensures tree { lent_tree result ≡ tree_of self.now }
+        ensures data { item_data (lent_item result) ≡ data_of self.now }
+        ensures word { item_word (lent_item result) ≡ word_at (data_of self.now) 0 }
+    {
+        let root = self.root();
+        // This is always so. But what is read must be used, or the compiler leaves the reads out.
+        if self.len() > SMALL_FILE || self.read_lines() != 0 {
+            return root;
+        }
+        below(root.item())
+    }
+
+    /// Reads a byte of each cache line of the file, if that is small.
+    pub(crate) fn read_lines(&self) -> u8 {
+        read_lines(self.bundle.bytes())
     }
 
     pub(crate) fn no_fallback(&self) -> bool

@@ -11,7 +11,7 @@ returns-in-Some-clause-value c =
     let name = c.args.name.now in
     let files = c.args.bundles.now.entries in
     let there : lookup (bytes_eq name) files ≡ Some c.in-Some.stored.now = sym c.get.ensures.value ∙ ap option_copied c.in-Some.is in
-    (λ i. Some (record { tree = c.root.ensures.tree i; no_fallback = c.no_fallback.ensures i }))
+    (λ i. Some (record { tree = c.root_ahead.ensures.tree i; no_fallback = c.no_fallback.ensures i }))
     ∙ sym (bundle_at-shelf_of files name ∙ ap (option_map source_tree_of) there)
 
 pub returns-in-None-clause-value : goal.returns-in-None-clause-value
@@ -25,4 +25,4 @@ pub returns-in-Some-clause-place : goal.returns-in-Some-clause-place
 returns-in-Some-clause-place c =
     let there : lookup (bytes_eq c.args.name.now) c.args.bundles.now.entries ≡ Some c.in-Some.stored.now =
     sym c.get.ensures.value ∙ ap option_copied c.in-Some.is in
-    (c.in-Some.stored.now, there, c.root.ensures.data, c.root.ensures.word)
+    (c.in-Some.stored.now, there, c.root_ahead.ensures.data, c.root_ahead.ensures.word)
