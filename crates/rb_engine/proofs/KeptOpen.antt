@@ -108,12 +108,12 @@ answered_at response packages ps app locale path place a same_app same_name own 
     subst (λ (p : Place). response ≡ lookup_in (bundle_at (list_of p.app packages)) (bundle_at (icudata_of packages)) ps p.name path) same a.answer
 
 -- a new slot
-pub opened_is : (opened : OpenLocale) (packages : Stored) (ps : ParentsOf) (version hash : ℕ) (place : Place) → opened.version ≡ version
+pub opened_is : (opened : OpenLocale) (packages : Stored) (ps : ParentsOf) (version : ℕ) (place : Place) → opened.version ≡ version
     → place_of place.app place.name ≡ Ok place
     → files_at_index packages opened.app ≡ files_of place.app packages
     → AreStopsOf (opened_stop opened (files_of place.app packages)) (bundle_at (list_of place.app packages)) ps place.name
-    → IsKept (record { hash = hash; place = place; opened = opened }) packages ps version
-opened_is opened packages ps version hash place same read files stops = record {
+    → IsKept (record { place = place; opened = opened }) packages ps version
+opened_is opened packages ps version place same read files stops = record {
   read = read;
   open_now = λ c. record { files = files; stops = stops };
   not_later = λ later a b f. omega (arith, same, f);

@@ -29,19 +29,21 @@ ghost use Rattle.rb_engine.specs.Start.{Loads, IsRefused, IsIndexed};
 ghost use Rattle.rb_engine.specs.declared.request.Payload.{Payload};
 
 use crate::app_shelves::AppShelves;
+use crate::asked::Asked;
 use crate::handle::{self, Change};
+use crate::hints::{Hints, Upcoming};
 use crate::incoming::IncomingBundle;
-use crate::kept_items::{Asked, KeptItems};
+use crate::kept_items::KeptItems;
 use crate::open_locale::{OpenLocale, Stale, find_opened, is_current, look_opened, open_at};
 use crate::open_locales::OpenLocales;
-use crate::place::{Place, place_of};
+use crate::place::{Place, hash_of, place_of};
 use crate::request::{LookFault, Payload, Reply, Request, TooManySteps};
 use crate::same_name::same_name;
 use crate::spot::is_short_text;
 use crate::start::{StartFault, load_all};
 use rb_fallback::{BoundedError, Found, LookError, Watch, look_watched};
 use rb_locales::Name;
-use rb_packages::{App, Draft, Packages, Usage};
+use rb_packages::{App, BundleHint, Draft, Packages, Usage};
 use rb_parents::Parents;
 use rb_validator::Bundle;
 use rb_views::Item;
@@ -61,6 +63,7 @@ pub struct Engine {
     version: u64,
     opened: OpenLocales,
     kept: KeptItems,
+    hints: Hints,
 }
 
 impl Model for Engine {
@@ -106,6 +109,7 @@ impl Engine {
             version: 0,
             opened: OpenLocales::none(alloc),
             kept: KeptItems::none(alloc),
+            hints: Hints::none(alloc),
         })
     }
 
@@ -196,7 +200,11 @@ impl Engine {
         let (place, bundle) = incoming.into_parts();
         match change {
             Change::Install => {
-                handle::install(&mut self.packages, &mut self.version, &place, bundle)
+                let reply = handle::install(&mut self.packages, &mut self.version, &place, bundle);
+                if let Reply::Done = reply {
+                    self.hints.note(&self.packages, &place);
+                }
+                reply
             }
             Change::Replace => {
                 handle::replace(&mut self.packages, &mut self.version, &place, bundle)
@@ -392,18 +400,27 @@ impl Engine {
             (Looks app.now locale.now path.now) }
     {
         let place = place_of(app, locale)?;
-        let opened = self.opened.look(
+        if place.app.as_bytes() != app || place.name.as_bytes() != locale {
+            let opened = self.opened.look(
+                &self.packages,
+                &self.parents,
+                self.version,
+                place.app.as_bytes(),
+                place.name.as_bytes(),
+                path,
+            );
+            if let Some(found) = opened {
+                return found;
+            }
+        }
+        look_in(
             &self.packages,
             &self.parents,
-            self.version,
-            place.app.as_bytes(),
-            place.name.as_bytes(),
+            &place,
+            self.hints.next,
             path,
-        );
-        match opened {
-            Some(found) => found,
-            None => look_in(&self.packages, &self.parents, &place, path, &mut ()),
-        }
+            &mut (),
+        )
     }
 
     /// Looks up like `look`, or returns `TooManySteps` if the lookup takes more than this many
@@ -456,7 +473,7 @@ impl Engine {
         }
     }
 
-    /// Makes room to keep this many locales open (`keep_open`), in about 430 bytes each. Closes those
+    /// Makes room to keep this many locales open (`keep_open`), in about 500 bytes each. Closes those
     /// that are open.
     pub fn keep_locales(&mut self, alloc: Global, count: usize) -> Result<(), AllocError>
         ensures { self.new ≡ self.old }
@@ -491,18 +508,57 @@ impl Engine {
     }
 
     /// Keeps the place where a lookup ends, so that `look` finds the item there without a search.
-    /// The first time it only opens the locale, like `keep_open`, and once the place is kept it does
-    /// nothing. A lookup is kept if it comes twice, by canonical names, and finds a String of at most
-    /// 1,024 units, and its path has at most 96 bytes before and after aliases. The lookups of one
-    /// slot take turns, and any change forgets all of them. Allocates nothing.
+    /// The first time it takes the hint where the bundle is (`keep_hints`), or opens the locale, like
+    /// `keep_open`, if the locale was asked for before; once the place is kept it does nothing. A
+    /// lookup is kept if it comes twice, by canonical names, and finds a String of at most 1,024
+    /// units, and its path has at most 96 bytes before and after aliases. The lookups of one slot
+    /// take turns, and any change forgets all of them. Allocates nothing.
     pub fn keep_item(&mut self, app: &[u8], locale: &[u8], path: &[u8])
         ensures { self.new ≡ self.old }
     {
         match self.kept.ask(app, locale, path, self.version) {
             Asked::Kept => {}
-            Asked::First => self.keep_open(app, locale),
+            Asked::First => self.keep_asked(app, locale),
             Asked::Again => self.keep_found(app, locale, path),
         }
+    }
+
+    /// Opens a locale if it was asked for before. To open one takes as long as a lookup, so the
+    /// first time it only takes the hint where the bundle is.
+    fn keep_asked(&mut self, app: &[u8], locale: &[u8])
+        ensures { self.new ≡ self.old }
+    {
+        let hash = hash_of(app, locale);
+        match self.opened.ask(hash, app, locale, self.version) {
+            Asked::Kept => {}
+            Asked::Again => self.keep_open(app, locale),
+            Asked::First => self.hints.prepare(&self.packages, hash, app, locale),
+        }
+    }
+
+    /// Makes room for hints where this many bundles are, in 12 bytes each. An install notes one, and
+    /// a lookup that follows its `keep_item` finds its bundle there without a search. A hint that is
+    /// wrong is found anew. Forgets the hints that there are.
+    pub fn keep_hints(&mut self, alloc: Global, count: usize) -> Result<(), AllocError>
+        ensures { self.new ≡ self.old }
+    {
+        self.hints = Hints::with_rows(alloc, count)?;
+        Ok(())
+    }
+
+    /// Returns true if `fetch` may save time: since it ended, at least 4 lookups were passed to
+    /// `keep_item` of which neither the place nor the locale was kept.
+    pub fn gains_by_fetch(&self) -> bool {
+        self.hints.needed > 3
+    }
+
+    /// Reads what the next lookups need into the processor's cache: the entries of their bundles,
+    /// and files of at most 1,024 bytes. The reads for all of them wait for memory together. Bundles
+    /// without a hint are left out. Allocates nothing.
+    pub fn fetch(&mut self, upcoming: &Upcoming)
+        ensures { self.new ≡ self.old }
+    {
+        self.hints.fetch(&self.packages, upcoming);
     }
 
     /// Keeps the place where a lookup ends, and opens its locale.
@@ -589,6 +645,7 @@ pub(crate) fn look_in<'a, W: Watch>(
     packages: &'a Packages,
     parents: &Parents,
     place: &Place,
+    hint: BundleHint,
     path: &[u8],
     watch: &mut W,
 ) -> Result<Found<Item<'a>>, LookFault>
@@ -596,7 +653,7 @@ pub(crate) fn look_in<'a, W: Watch>(
         (bundle_at (list_of place.now.app packages.now)) (bundle_at (icudata_of packages.now))
         (parent_of parents.now) place.now.name path.now }
 {
-    let own = packages.shelf(&place.app);
+    let own = packages.shelf_near(&place.app, hint);
     match look_watched(own, packages.icu_shelf(), parents, &place.name, path, watch) {
         Ok(found) => Ok(found.with_node(found.node.item())),
         Err(error) => Err(LookFault::from(error)),

@@ -13,6 +13,7 @@ ghost use Rattle.rb_engine.specs.Version.{is_current};
 ghost use Rattle.rb_engine.specs.inner.KeptItems.{AreItemsKept, IsAnswer};
 ghost use Rattle.rb_engine.specs.inner.KeptLocales.{IsAnsweredFor};
 
+use crate::asked::Asked;
 use crate::kept_path::KeptPath;
 use crate::open_locale::is_current;
 use crate::place::Place;
@@ -87,17 +88,6 @@ pub(crate) struct KeptItems {
     tags: Vec<Tag>,
     /// The index of the slot that was asked for last.
     recent: usize,
-}
-
-/// The state of the slot of a lookup.
-#[derive(Clone, Copy, Debug, PartialEq, Eq)]
-pub(crate) enum Asked {
-    /// It has the lookup.
-    Kept,
-    /// It doesn't have the lookup, which now asks for it a second time.
-    Again,
-    /// It doesn't have the lookup.
-    First,
 }
 
 /// Hashes the names and the path of a lookup in a version. A caller who finds lookups with equal

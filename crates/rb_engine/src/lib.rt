@@ -3,9 +3,11 @@
 #![tactic(auto)]
 
 mod app_shelves;
+mod asked;
 mod compiling;
 mod engine;
 mod handle;
+mod hints;
 mod incoming;
 mod item_shelf;
 mod judging;
@@ -26,6 +28,7 @@ pub use app_shelves::AppShelves;
 pub use compiling::compile;
 pub use engine::Engine;
 pub use handle::Change;
+pub use hints::Upcoming;
 pub use incoming::IncomingBundle;
 pub use judging::ReadFault;
 pub use open_locale::{OpenLocale, Stale};

@@ -11,44 +11,76 @@ ghost use Rattle.rb_engine.specs.LookResponse.{look_response};
 ghost use Rattle.rb_engine.specs.Version.{is_current};
 ghost use Rattle.rb_engine.specs.inner.KeptLocales.{AreKept, IsAnsweredFor, IsOpenFor};
 
+use crate::asked::Asked;
 use crate::open_locale::{OpenLocale, find_opened, is_current, look_opened, open_at};
-use crate::place::Place;
+use crate::place::{Place, hash_of};
 use crate::request::LookFault;
 use rb_fallback::Found;
 use rb_packages::Packages;
 use rb_parents::Parents;
 use rb_views::Item;
 use std::alloc::{AllocError, Global};
-use std::hash::{FoldHasher, Hasher};
 
-/// An open locale, where it was opened, and the hash of its names.
+/// An open locale, and where it was opened.
 #[derive(Clone, Copy)]
 pub(crate) struct Slot {
-    pub(crate) hash: u64,
     pub(crate) place: Place,
     pub(crate) opened: OpenLocale,
 }
+
+/// A locale that was asked for when it wasn't open.
+#[derive(Clone, Copy)]
+struct AskMark {
+    /// The hash of its names and the version, or 0.
+    hash: u64,
+    /// True once another locale asked for the mark. The next one takes it, so that two locales that
+    /// come by turns are both asked for again.
+    is_passed: bool,
+}
+
+impl AskMark {
+    const NONE: AskMark = AskMark {
+        hash: 0,
+        is_passed: false,
+    };
+
+    /// Notes a locale, and returns true if it was noted before.
+    fn ask(&mut self, hash: u64) -> bool {
+        if self.hash == hash {
+            return true;
+        }
+        if self.hash != 0 && !self.is_passed {
+            self.is_passed = true;
+            return false;
+        }
+        *self = AskMark {
+            hash,
+            is_passed: false,
+        };
+        false
+    }
+}
+
+/// The number of marks for each slot. With fewer, more locales that come in turn share a mark.
+const MARKS: usize = 4;
 
 /// A table of open locales. A locale is in one of a few slots that its names choose, so the table
 /// never grows. A slot of an older version counts as empty.
 #[derive(Drop)]
 pub(crate) struct OpenLocales {
     pub(crate) slots: Vec<Option<Slot>>,
+    /// The hash of the locale in each slot, or 0, apart from the slot: a search reads little memory.
+    hashes: Vec<u64>,
+    /// The locales that were asked for when they weren't open.
+    asked: Vec<AskMark>,
     /// The index of the slot that is searched first.
     pub(crate) recent: usize,
+    /// The hash of the locale that was asked for last and isn't open, or 0.
+    absent: u64,
 }
 
 /// The number of slots in which a locale may be.
 const WINDOW: usize = 16;
-
-/// Hashes an application's name and a locale's. A caller who finds locales with equal hashes makes
-/// lookups slower, as if the table had no slots.
-fn hash_of(app: &[u8], locale: &[u8]) -> u64 {
-    let mut hasher = FoldHasher::default();
-    hasher.write(app);
-    hasher.write(locale);
-    hasher.finish()
-}
 
 /// Scales a hash to a number up to a count. A multiplication takes less time than a remainder.
 fn scaled(hash: u64, count: usize) -> usize
@@ -56,6 +88,13 @@ fn scaled(hash: u64, count: usize) -> usize
 {
     let product = hash as u128 * count as u128;
     ((product >> 64) as usize).min(count)
+}
+
+/// Notes the hash of the locale that was stored in the slot at an index.
+fn note_hash(hashes: &mut [u64], index: usize, hash: u64) {
+    if let Some(noted) = hashes.get_mut(index) {
+        *noted = hash;
+    }
 }
 
 impl Slot {
@@ -77,7 +116,10 @@ impl OpenLocales {
     {
         OpenLocales {
             slots: Vec::new(alloc),
+            hashes: Vec::new(alloc),
+            asked: Vec::new(alloc),
             recent: 0,
+            absent: 0,
         }
     }
 
@@ -88,7 +130,10 @@ impl OpenLocales {
     {
         Ok(OpenLocales {
             slots: vec![in alloc; None; count]?,
+            hashes: vec![in alloc; 0; count]?,
+            asked: vec![in alloc; AskMark::NONE; count.saturating_mul(MARKS)]?,
             recent: 0,
+            absent: 0,
         })
     }
 
@@ -106,15 +151,39 @@ impl OpenLocales {
 
     /// Returns the index of the slot that has the locale by these names, open in this version.
     pub(crate) fn position(&self, app: &[u8], locale: &[u8], version: u64) -> Option<usize> {
-        let hash = hash_of(app, locale);
+        self.position_of(hash_of(app, locale), app, locale, version)
+    }
+
+    /// Returns what `position` does, given the hash of the names.
+    fn position_of(&self, hash: u64, app: &[u8], locale: &[u8], version: u64) -> Option<usize> {
         let (from, past) = self.window(hash);
         for i in from..past {
-            let slot = self.slots[i].as_ref()?;
-            if slot.hash == hash && slot.has(app, locale, version) {
+            if *self.hashes.get(i)? == hash && self.at(i, app, locale, version).is_some() {
                 return Some(i);
             }
         }
         None
+    }
+
+    /// Asks for a locale by its names and their hash, which `look` then finds if it is open.
+    pub(crate) fn ask(&mut self, hash: u64, app: &[u8], locale: &[u8], version: u64) -> Asked
+        ensures { (packages : Stored) → (parents : ParentsOf) → (now : ℕ)
+            → AreKept self.old.slots.items packages parents now
+            → AreKept self.new.slots.items packages parents now }
+    {
+        if let Some(index) = self.position_of(hash, app, locale, version) {
+            self.recent = index;
+            return Asked::Kept;
+        }
+        self.absent = hash;
+        let index = scaled(hash, self.asked.len());
+        let Some(mark) = self.asked.get_mut(index) else {
+            return Asked::First;
+        };
+        if mark.ask(hash.wrapping_add(version)) {
+            return Asked::Again;
+        }
+        Asked::First
     }
 
     /// Returns the locale of a slot, if it is the one by these names and open in this version.
@@ -146,7 +215,11 @@ impl OpenLocales {
         match self.at(self.recent, app, locale, version) {
             Some(opened) => Some(opened),
             None => {
-                let index = self.position(app, locale, version)?;
+                let hash = hash_of(app, locale);
+                if hash == self.absent {
+                    return None;
+                }
+                let index = self.position_of(hash, app, locale, version)?;
                 self.at(index, app, locale, version)
             }
         }
@@ -223,21 +296,22 @@ impl OpenLocales {
     {
         let app = place.app.as_bytes();
         let locale = place.name.as_bytes();
-        if let Some(index) = self.position(app, locale, version) {
+        let hash = hash_of(app, locale);
+        if let Some(index) = self.position_of(hash, app, locale, version) {
             self.recent = index;
             return;
         }
-        let hash = hash_of(app, locale);
         let Some(index) = self.index_for(hash, version) else {
             return;
         };
         if let Ok(opened) = open_at(packages, parents, place, version) {
             self.slots[index] = Some(Slot {
-                hash,
                 place: *place,
                 opened,
             });
             self.recent = index;
+            self.absent = 0;
+            note_hash(&mut self.hashes, index, hash);
         }
     }
 }

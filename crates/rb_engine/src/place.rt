@@ -5,12 +5,22 @@ use crate::request::{LookFault, Reply};
 use crate::same_name::same_name;
 use rb_locales::Name;
 use rb_packages::{App, AppFault};
+use std::hash::{FoldHasher, Hasher};
 
 /// The name of a stored bundle: its application and its locale.
 #[derive(Clone, Copy)]
 pub struct Place {
     pub app: App,
     pub name: Name,
+}
+
+/// Hashes an application's name and a locale's. A caller who finds names with equal hashes makes
+/// lookups slower, as if nothing was kept of them.
+pub(crate) fn hash_of(app: &[u8], locale: &[u8]) -> u64 {
+    let mut hasher = FoldHasher::default();
+    hasher.write(app);
+    hasher.write(locale);
+    hasher.finish()
 }
 
 #[derive(Clone, Copy, Debug, PartialEq, Eq)]

@@ -16,7 +16,7 @@ use crate::kept_path::KeptPath;
 use crate::place::Place;
 use rb_fallback::{Found, Visit, Watch};
 use rb_locales::Name;
-use rb_packages::{AppShelf, Packages};
+use rb_packages::{AppShelf, BundleHint, Packages};
 use rb_parents::{Next, Parents};
 use rb_tree::{Ending, Node, walk};
 use rb_views::{Item, Units};
@@ -148,7 +148,8 @@ pub(crate) fn spot_of(
         icudata: false,
         path: None,
     };
-    let Ok(found) = look_in(packages, parents, place, path.as_slice(), &mut last) else {
+    let hint = BundleHint::NONE;
+    let Ok(found) = look_in(packages, parents, place, hint, path.as_slice(), &mut last) else {
         return None;
     };
     let own = packages.shelf(&place.app);

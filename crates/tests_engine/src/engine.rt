@@ -1,4 +1,4 @@
-use rb_engine::{Engine, LookFault, OpenLocale, Payload, Request};
+use rb_engine::{Engine, LookFault, OpenLocale, Payload, Request, Upcoming};
 use rb_fallback::Found;
 use rb_parents::Parents;
 use rb_tree::ByteList;
@@ -18,10 +18,10 @@ enum Step<'a> {
     Install(Place<'a>, &'a str, &'a str),
     /// A removal, and the word of the reply.
     Remove(Place<'a>, &'a str),
-    /// Lookups of a path, and what they find: by name, from an open locale, and from one that the
-    /// engine keeps open.
+    /// Lookups of a path, and what they find: by name, with a hint, from an open locale, from one
+    /// that the engine keeps open, and from a place that it keeps.
     Find(Place<'a>, &'a str, Hit<'a>),
-    /// Lookups of a path in these three ways, and their error code.
+    /// Lookups of a path in these ways, and their error code.
     Miss(Place<'a>, &'a str, &'a str),
 }
 
@@ -55,9 +55,10 @@ pub(crate) fn empty_engine(rt: &HostRuntime) -> Option<Engine> {
     let alloc = rt.alloc();
     let state = RandomState::new(rt).ok()?;
     let mut engine = Engine::start(alloc, state, Vec::new(alloc), Parents::none(alloc)).ok()?;
-    // Few, so that locales and items take each other's places.
+    // Few, so that locales, items and hints take each other's places.
     engine.keep_locales(alloc, 3).ok()?;
     engine.keep_items(alloc, 2).ok()?;
+    engine.keep_hints(alloc, 5).ok()?;
     Some(engine)
 }
 
@@ -129,6 +130,16 @@ fn kept_open<'a>(engine: &'a mut Engine, place: Place<'_>) -> &'a Engine {
     engine
 }
 
+/// Asks for an item once, so that the next lookup has a hint, and fetches its bundle.
+fn hinted<'a>(engine: &'a mut Engine, place: Place<'_>, path: &str) -> &'a Engine {
+    let (app, locale) = (place.0.as_bytes(), place.1.as_bytes());
+    engine.keep_item(app, locale, path.as_bytes());
+    let mut upcoming = Upcoming::new();
+    upcoming.add(app, locale);
+    engine.fetch(&upcoming);
+    engine
+}
+
 /// Asks for an item twice, so that it is kept for the next lookup.
 fn kept_item<'a>(engine: &'a mut Engine, place: Place<'_>, path: &str) -> &'a Engine {
     let (app, locale) = (place.0.as_bytes(), place.1.as_bytes());
@@ -164,12 +175,14 @@ fn runs(alloc: Global, engine: &mut Engine, step: Step<'_>) -> bool {
         Step::Remove(place, word) => removed(alloc, engine, place) == Some(word),
         Step::Find(place, path, hit) => {
             finds(engine, place, path, hit)
+                && finds(hinted(engine, place, path), place, path, hit)
                 && finds_opened(engine, place, path, hit)
                 && finds(kept_open(engine, place), place, path, hit)
                 && finds(kept_item(engine, place, path), place, path, hit)
         }
         Step::Miss(place, path, word) => {
             misses(engine, place, path, word)
+                && misses(hinted(engine, place, path), place, path, word)
                 && misses_opened(engine, place, path, word)
                 && misses(kept_open(engine, place), place, path, word)
                 && misses(kept_item(engine, place, path), place, path, word)

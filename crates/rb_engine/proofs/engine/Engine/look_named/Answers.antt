@@ -18,14 +18,14 @@ returns-in-Some c =
     let packages = c.self.inside.packages in
     let place = c.in_ok-place.place in
     let h : place_of app locale ≡ Ok place = sym c.place_of.ensures ∙ c.in_ok-place.was in
-    let own : place_of place.app place.name ≡ Ok place = own_place place (own_app app locale place h) c.as_bytes-2.ensures.canonical in
+    let own : place_of place.app place.name ≡ Ok place = own_place place (own_app app locale place h) c.as_bytes-then-ne-2.ensures.canonical in
     let start : Start = (state_of (record { packages = packages; parents = family_pairs c.self.inside.parents; version = c.self.inside.version })).start in
-    let a = answered_at (look_response tree_seen c.in-Some.found) packages (parent_of c.self.inside.parents) c.as_bytes.result.now c.as_bytes-2.result.now path place
-    (c.in-Some.ensures c.self.invariant.0) c.as_bytes.ensures c.as_bytes-2.ensures.bytes own in
+    let a = answered_at (look_response tree_seen c.in-Some.found) packages (parent_of c.self.inside.parents) c.as_bytes-then-ne.result.now c.as_bytes-then-ne-2.result.now path place
+    (c.in-Some.ensures c.self.invariant.0) c.as_bytes-then-ne.ensures c.as_bytes-then-ne-2.ensures.bytes own in
     rw (← c.self.view_is) (a ∙ lookup_at_place start app locale path place packages h)
 
-pub returns-in-None : goal.returns-in-None
-returns-in-None c =
+pub returns : goal.returns
+returns c =
     let h : place_of c.args.app.now c.args.locale.now ≡ Ok c.in_ok-place.place = sym c.place_of.ensures ∙ c.in_ok-place.was in
     let start : Start = (state_of (record { packages = c.self.inside.packages; parents = family_pairs c.self.inside.parents; version = c.self.inside.version })).start in
     rw (← c.self.view_is)

@@ -7,10 +7,20 @@ pub invariant_of-self : goal.invariant_of-self
 invariant_of-self c =
     let e = c.self.inside in
     let ps = parent_of e.parents in (
-      kept_after e.opened.slots.items e.packages c.install.new.packages ps e.version c.install.new.version c.install.result
-          c.install.ensures.version c.install.ensures.unchanged c.self.invariant.0,
-      items_after e.kept.slots.items e.packages c.install.new.packages ps e.version c.install.new.version c.install.result
-          c.install.ensures.version c.install.ensures.unchanged c.self.invariant.1,
+      kept_after e.opened.slots.items e.packages c.install-reply.new.packages ps e.version c.install-reply.new.version c.install-reply.result
+          c.install-reply.ensures.version c.install-reply.ensures.unchanged c.self.invariant.0,
+      items_after e.kept.slots.items e.packages c.install-reply.new.packages ps e.version c.install-reply.new.version c.install-reply.result
+          c.install-reply.ensures.version c.install-reply.ensures.unchanged c.self.invariant.1,
+    )
+
+pub invariant_of-self-in_default : goal.invariant_of-self-in_default
+invariant_of-self-in_default c =
+    let e = c.self.inside in
+    let ps = parent_of e.parents in (
+      kept_after e.opened.slots.items e.packages c.install-reply.new.packages ps e.version c.install-reply.new.version c.install-reply.result
+          c.install-reply.ensures.version c.install-reply.ensures.unchanged c.self.invariant.0,
+      items_after e.kept.slots.items e.packages c.install-reply.new.packages ps e.version c.install-reply.new.version c.install-reply.result
+          c.install-reply.ensures.version c.install-reply.ensures.unchanged c.self.invariant.1,
     )
 
 pub invariant_of-self-in-Replace : goal.invariant_of-self-in-Replace

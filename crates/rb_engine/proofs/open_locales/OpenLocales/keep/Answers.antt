@@ -9,5 +9,5 @@ returns-in-Ok c = λ k.
     let ps = parent_of c.args.parents.now in
     let place = c.args.place.now in
     let opened = c.in-Ok.opened in
-    kept_put c.args.self.now.slots.items c.in-Some-index_for.index (record { hash = c.hash_of-hash.result; place = place; opened = opened }) packages ps c.args.version
-    (opened_is opened packages ps c.args.version c.hash_of-hash.result place c.in-Ok.ensures.version (own_place place c.requires c.as_bytes-locale.ensures.canonical) c.in-Ok.ensures.files c.in-Ok.ensures.stops) k
+    kept_put c.args.self.now.slots.items c.in-Some-index_for.index (record { place = place; opened = opened }) packages ps c.args.version
+    (opened_is opened packages ps c.args.version place c.in-Ok.ensures.version (own_place place c.requires c.as_bytes-locale.ensures.canonical) c.in-Ok.ensures.files c.in-Ok.ensures.stops) k
