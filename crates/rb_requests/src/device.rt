@@ -60,6 +60,12 @@ pub trait Feed {
             Err(failed) => Err(failed),
         }
     }
+
+    /// Returns the bytes in memory that come next, or none if they aren't known. Callers use them
+    /// only to save time, so a feed may return others.
+    fn ahead(&self) -> &[u8] {
+        &[]
+    }
 }
 
 /// A writer of bytes.

@@ -11,6 +11,7 @@ ghost use Rattle.rb_requests.specs.inner.Placing.{PlacesReply};
 ghost use Rattle.rb_requests.specs.inner.Putting.{writer};
 ghost use Rattle.rb_requests.specs.inner.Taken.{IsHeldUnder};
 
+use crate::ahead::Ahead;
 use crate::answer::{Placed, tell_line_error};
 use crate::device::{Failed, Feed, Sink};
 use crate::extended::extended_reply_of;
@@ -130,7 +131,9 @@ pub fn serve_extended<F: Feed, S: Sink>(
     let mut line = Vec::new(alloc);
     let mut scratch = Scratch::new(alloc);
     let mut reply = ReplyLine::new(alloc);
+    let mut ahead = Ahead::NONE;
     'lines: for lines in 0..max_lines {
+        ahead.fetch(engine, feed);
         empty(alloc, &mut line, &mut scratch);
         match read_line(alloc, feed, &mut line, longest) {
             Ok(NextLine::Ended(held)) => serve_line(

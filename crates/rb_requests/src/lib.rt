@@ -2,6 +2,7 @@
 //! and loops over an input. Exports the public items of rb_engine too.
 #![tactic(auto)]
 
+mod ahead;
 mod answer;
 mod ask;
 mod bounded_buffer;

@@ -17,6 +17,7 @@ ghost use Rattle.rb_requests.specs.inner.Starving.{starved_error as error_if_sta
 ghost use Rattle.rb_requests.specs.inner.Placing.{Finishes, PlacesReply};
 ghost use Rattle.rb_requests.specs.inner.Putting.{writer};
 
+use crate::ahead::Ahead;
 use crate::answer::{Placed, Starved, reply_of, tell_line_error};
 use crate::device::{Failed, Feed, Sink};
 use crate::limits::{LINE_LIMIT, Limits};
@@ -291,7 +292,9 @@ pub fn serve_limited<F: Feed, S: Sink>(
     let mut line = Vec::new(alloc);
     let mut scratch = Scratch::new(alloc);
     let mut reply = ReplyLine::new(alloc);
+    let mut ahead = Ahead::NONE;
     'lines: for lines in 0..max_lines {
+        ahead.fetch(engine, feed);
         empty(alloc, &mut line, &mut scratch);
         match read_line(alloc, feed, &mut line, longest) {
             Ok(NextLine::Ended(held)) => serve_line(

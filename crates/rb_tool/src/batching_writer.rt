@@ -71,6 +71,10 @@ impl<'a, R: Read> Feed for LookaheadFeed<'a, R> {
         self.rest = self.look_ahead(was_empty);
         Ok(run)
     }
+
+    fn ahead(&self) -> &[u8] {
+        self.inner.get_ref().buffer()
+    }
 }
 
 /// Buffers what it writes, and flushes only if no further whole line is waiting.

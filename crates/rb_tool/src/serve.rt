@@ -6,7 +6,9 @@ ghost use Rattle.rb_console.specs.Starting.{HasParentsFor};
 use crate::batching_writer::{BatchingWriter, LookaheadFeed};
 use crate::server::Server;
 use rb_console::{Console, JsonWriter, ParentsSource, StartError, not_started_on, start_engine};
+use rb_engine::Engine;
 use rb_requests::{Limits, ServeFault, WriteSink};
+use std::alloc::Global;
 use std::cell::Cell;
 use std::io;
 use std::io::{BufReader, BufWriter, Write};
@@ -73,11 +75,14 @@ fn serve_lines<R: Input + Print + Eprint + AllocGlobal>(
     ExitCode::from(1)
 }
 
-/// The number of locales that a server keeps open, in 0.9 MB.
+/// The number of locales that a server keeps open, in 1 MB.
 const KEPT_LOCALES: usize = 2_048;
 
-/// The number of items that a server keeps, in 1.6 MB.
+/// The number of places that a server keeps, in 1.7 MB.
 const KEPT_ITEMS: usize = 4_096;
+
+/// The number of hints that a server keeps, in 3 MB.
+const KEPT_HINTS: usize = 262_144;
 
 /// The arguments of `resb serve`.
 #[derive(Drop)]
@@ -91,6 +96,19 @@ pub struct Serving<'a> {
     pub is_extended: bool,
 }
 
+/// Makes room for what an engine keeps to save time, unless a limit is on steps, under which it keeps
+/// nothing. Without memory for it lookups are slower and give the same answers.
+fn make_room(alloc: Global, engine: &mut Engine, limits: &Option<Limits>)
+    ensures { engine.new ≡ engine.old }
+{
+    if let Some(Limits { steps: Some(_), .. }) = limits {
+        return;
+    }
+    let _ = engine.keep_locales(alloc, KEPT_LOCALES);
+    let _ = engine.keep_items(alloc, KEPT_ITEMS);
+    let _ = engine.keep_hints(alloc, KEPT_HINTS);
+}
+
 /// Starts the server.
 fn start_server<'a, R: Files + RandomSource + AllocGlobal>(
     rt: &R,
@@ -101,9 +119,7 @@ fn start_server<'a, R: Files + RandomSource + AllocGlobal>(
         (λ server. HasParentsFor serving.now.parents (state_of server.engine).start.parents) }
 {
     let mut engine = start_engine(rt, serving.parents, &serving.bundles)?;
-    // Without memory for them lookups are slower, and the same.
-    let _ = engine.keep_locales(rt.alloc(), KEPT_LOCALES);
-    let _ = engine.keep_items(rt.alloc(), KEPT_ITEMS);
+    make_room(rt.alloc(), &mut engine, &serving.limits);
     Ok(Server {
         engine,
         limits: serving.limits,

@@ -5,7 +5,8 @@ use crate::lines::empty_engine;
 use rb_requests::{Failed, Feed, Limits, ReadFeed, ServeFault, WriteSink, serve_limited};
 use std::alloc::{AllocError, Global};
 
-/// A reader of one byte a call. The call numbered `failing`, from 0, fails.
+/// A reader of one byte a call, which says that other lines come next. The call numbered `failing`,
+/// from 0, fails.
 #[derive(Drop)]
 struct ByByte<'a> {
     bytes: &'a [u8],
@@ -44,6 +45,10 @@ impl<'a> Feed for ByByte<'a> {
             }
             None => Ok(None),
         }
+    }
+
+    fn ahead(&self) -> &[u8] {
+        b"{\"app\":\"shop\",\"locale\":\"de\"}\n\"app\n\n\"locale\":\"\"\"app\":\"\n"
     }
 }
 
