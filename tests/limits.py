@@ -350,8 +350,8 @@ def beside_another(program):
         assert reply_of(refused(word)) not in alone, f"the other one met {word}"
 
 
-# The setting of bin/resb and deploy/ that docs/OPERATIONS.md asks of an operator.
-FIXED_THRESHOLD = {"MALLOC_MMAP_THRESHOLD_": "4096"}
+# The settings of bin/resb and deploy/. docs/OPERATIONS.md asks an operator for the first.
+SETTINGS = {"MALLOC_MMAP_THRESHOLD_": "4096", "GLIBC_TUNABLES": "glibc.malloc.hugetlb=1"}
 
 
 class Server:
@@ -359,7 +359,7 @@ class Server:
 
     def __init__(self, program, arguments):
         self.process = subprocess.Popen(
-            [program, "serve", *arguments], stdin=subprocess.PIPE, stdout=subprocess.PIPE, env={**os.environ, **FIXED_THRESHOLD})
+            [program, "serve", *arguments], stdin=subprocess.PIPE, stdout=subprocess.PIPE, env={**os.environ, **SETTINGS})
         self.lock = threading.Condition()
         self.replies = []
         self.count = 0
