@@ -62,6 +62,8 @@ NAMES = {
     "ahead, 1000": "in 1,000 bundles",
     "ahead, 10000": "in 10,000 bundles",
     "ahead, 100000": "in 100,000 bundles",
+    "side by side, 1000": "in 1,000 bundles, a server beside the next one, with the settings of `bin/resb serve`",
+    "side by side, 100000": "in 100,000 bundles, the other server",
     "one by one": "in 1,000 bundles, one by one",
     "trails": "over trails of 4 names, written ahead",
     "text to lookup": "from nested text of 8 MB to a lookup, s",
