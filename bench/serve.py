@@ -123,14 +123,15 @@ class Bench:
         return used
 
     def side_by_side(self, few, many):
-        """The microseconds of a lookup of two servers, by turns, where all lines are written ahead, with the settings that
-        `bin/resb serve` gives a server."""
-        servers = [cldr.Server(["env", *SETTINGS, *self.words], setup.splitlines(keepends=True)) for setup, _ in (few, many)]
+        """The microseconds of a lookup of two servers that are asked alternately, where all lines are written ahead.
+        They have the settings that `bin/resb serve` gives a server."""
+        words = ["env", *SETTINGS, *self.words]
+        servers = [cldr.Server(words, setup.splitlines(keepends=True)) for setup, _ in (few, many)]
         lines_of = [asked.splitlines(keepends=True) for _, asked in (few, many)]
         used = by_turns(*(lambda at=at: servers[at].ahead(lines_of[at]) for at in (0, 1)), runs=3 * RUNS)
         for server in servers:
             server.end()
-        print(f"two servers by turns: {spread(used[0])} and {spread(used[1])} microseconds a lookup", flush=True)
+        print(f"two servers, alternately: {spread(used[0])} and {spread(used[1])} microseconds a lookup", flush=True)
         return used
 
     def installs(self, name, member, value, size, count=100):

@@ -34,7 +34,7 @@ struct AskMark {
     /// The hash of its names and the version, or 0.
     hash: u64,
     /// True once another locale asked for the mark. The next one takes it, so that two locales that
-    /// come by turns are both asked for again.
+    /// alternate are both asked for again.
     is_passed: bool,
 }
 
