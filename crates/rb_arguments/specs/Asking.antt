@@ -10,14 +10,14 @@ use Rattle.rb_arguments.specs.Limits.{AreGiven}
 use Rattle.rb_arguments.specs.declared.asking.Asked.{Asked}
 use Rattle.rb_arguments.specs.declared.asking.Asked.TheVariants.{Compile, CompileAll, CompileJson, CompileAllJson}
 use Rattle.rb_arguments.specs.declared.asking.Asked.TheVariants.{Check, Get, Json, Text as ToText}
-use Rattle.rb_arguments.specs.declared.asking.Asked.TheVariants.{Inherited, Diff, Lint, Format, Coverage, Explain}
+use Rattle.rb_arguments.specs.declared.asking.Asked.TheVariants.{Inherited, Diff, Lint, Format, Coverage, Init, Explain}
 use Rattle.rb_arguments.specs.declared.asking.Asked.TheVariants.{Lines, Look, Serve}
 
 -- the names of the commands
 abbrev pub names : List Text
 names =
     codes "compile" ∷ codes "check" ∷ codes "get" ∷ codes "json" ∷ codes "text" ∷ codes "diff" ∷ codes "lint" ∷ codes "fmt"
-    ∷ codes "coverage" ∷ codes "explain" ∷ codes "lines" ∷ codes "look" ∷ codes "serve" ∷ []
+    ∷ codes "coverage" ∷ codes "init" ∷ codes "explain" ∷ codes "lines" ∷ codes "look" ∷ codes "serve" ∷ []
 
 abbrev pub is_command : Text → Bool
 is_command name = list_any (bytes_eq name) names
@@ -38,35 +38,39 @@ root_in rows = option_or (first_of (codes "against") rows) (first_of (codes "roo
 
 -- the command of this name, with these rows, asks for this
 abbrev pub AsksFor : Text → List Row → Asked → Type 0
-AsksFor name rows (Compile input output is_quiet) =
+AsksFor name rows (Compile input output is_forced is_quiet) =
     (name ≡ codes "compile")
     × IsFlagIn rows (codes "json") false
     × (first_of (codes "to") rows ≡ None)
     × (input.now ≡ word_in rows (codes "IN"))
     × (output.now ≡ word_in rows (codes "OUT"))
+    × IsFlagIn rows (codes "force") is_forced
     × IsFlagIn rows (codes "quiet") is_quiet
-AsksFor name rows (CompileAll folder from files is_quiet) =
+AsksFor name rows (CompileAll folder from files is_forced is_quiet) =
     (name ≡ codes "compile")
     × IsFlagIn rows (codes "json") false
     × (first_of (codes "to") rows ≡ Some folder.now)
     × (option_map (λ s. s.now) from ≡ first_of (codes "from") rows)
     × (texts files.items ≡ texts_in rows)
+    × IsFlagIn rows (codes "force") is_forced
     × IsFlagIn rows (codes "quiet") is_quiet
-AsksFor name rows (CompileJson input output no_fallback is_quiet) =
+AsksFor name rows (CompileJson input output no_fallback is_forced is_quiet) =
     (name ≡ codes "compile")
     × IsFlagIn rows (codes "json") true
     × (first_of (codes "to") rows ≡ None)
     × (input.now ≡ word_in rows (codes "IN"))
     × (output.now ≡ word_in rows (codes "OUT"))
     × IsFlagIn rows (codes "no-fallback") no_fallback
+    × IsFlagIn rows (codes "force") is_forced
     × IsFlagIn rows (codes "quiet") is_quiet
-AsksFor name rows (CompileAllJson folder from files no_fallback is_quiet) =
+AsksFor name rows (CompileAllJson folder from files no_fallback is_forced is_quiet) =
     (name ≡ codes "compile")
     × IsFlagIn rows (codes "json") true
     × (first_of (codes "to") rows ≡ Some folder.now)
     × (option_map (λ s. s.now) from ≡ first_of (codes "from") rows)
     × (texts files.items ≡ texts_in rows)
     × IsFlagIn rows (codes "no-fallback") no_fallback
+    × IsFlagIn rows (codes "force") is_forced
     × IsFlagIn rows (codes "quiet") is_quiet
 AsksFor name rows (Check files is_json is_quiet) =
     (name ≡ codes "check")
@@ -111,6 +115,8 @@ AsksFor name rows (Lint asked) =
     × (option_map (λ s. s.now) asked.format ≡ first_of (codes "format") rows)
     × IsFlagIn rows (codes "strict") asked.is_strict
     × IsFlagIn rows (codes "all") asked.is_all
+    × (option_map (λ s. s.now) asked.config ≡ first_of (codes "config") rows)
+    × IsFlagIn rows (codes "no-config") asked.no_config
     × IsFlagIn rows (codes "list") asked.is_list
     × (texts asked.texts.items ≡ words_in rows (codes "TEXT"))
 AsksFor name rows (Format asked) =
@@ -118,13 +124,20 @@ AsksFor name rows (Format asked) =
     × IsFlagIn rows (codes "check") asked.is_check
     × IsFlagIn rows (codes "diff") asked.is_diff
     × IsFlagIn rows (codes "quiet") asked.is_quiet
+    × (option_map (λ s. s.now) asked.config ≡ first_of (codes "config") rows)
+    × IsFlagIn rows (codes "no-config") asked.no_config
     × (texts asked.texts.items ≡ words_in rows (codes "TEXT"))
 AsksFor name rows (Coverage asked) =
     (name ≡ codes "coverage")
     × (option_map (λ s. s.now) asked.parents ≡ first_of (codes "parents") rows)
     × IsFlagIn rows (codes "cldr-parents") asked.is_cldr
     × (option_map (λ s. s.now) asked.format ≡ first_of (codes "format") rows)
+    × (option_map (λ s. s.now) asked.config ≡ first_of (codes "config") rows)
+    × IsFlagIn rows (codes "no-config") asked.no_config
     × (texts asked.texts.items ≡ words_in rows (codes "TEXT"))
+AsksFor name rows (Init folder) =
+    (name ≡ codes "init")
+    × (option_map (λ s. s.now) folder ≡ first_of (codes "FOLDER") rows)
 AsksFor name rows (Explain word) =
     (name ≡ codes "explain")
     × (option_map (λ s. s.now) word ≡ first_of (codes "WORD") rows)

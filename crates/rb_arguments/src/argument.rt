@@ -108,6 +108,18 @@ pub const CLDR_PARENTS: Argument = Argument(
     "the explicit parents of CLDR, in place of --parents",
 );
 
+pub const CONFIG: Argument = Argument(
+    "config",
+    Kind::Option("FILE"),
+    "the settings of the project, in place of the nearest resb.toml upward",
+);
+
+pub const NO_CONFIG: Argument = Argument(
+    "no-config",
+    Kind::FlagWithout("config"),
+    "read no settings of a project",
+);
+
 pub const ROOT: Argument = Argument("root", Kind::Option("ROOT"), "the same as --against");
 
 pub const PATH: Argument = Argument(

@@ -17,6 +17,7 @@ pub enum Asked<'a> {
     Compile {
         input: &'a str,
         output: &'a str,
+        is_forced: bool,
         is_quiet: bool,
     },
     /// `compile --to DIR TEXT..`
@@ -24,6 +25,7 @@ pub enum Asked<'a> {
         folder: &'a str,
         from: Option<&'a str>,
         texts: Vec<&'a str>,
+        is_forced: bool,
         is_quiet: bool,
     },
     /// `compile --json [--no-fallback] IN OUT`
@@ -31,6 +33,7 @@ pub enum Asked<'a> {
         input: &'a str,
         output: &'a str,
         no_fallback: bool,
+        is_forced: bool,
         is_quiet: bool,
     },
     /// `compile --json [--no-fallback] --to DIR JSON..`
@@ -39,6 +42,7 @@ pub enum Asked<'a> {
         from: Option<&'a str>,
         texts: Vec<&'a str>,
         no_fallback: bool,
+        is_forced: bool,
         is_quiet: bool,
     },
     /// `check FILE..`
@@ -79,6 +83,10 @@ pub enum Asked<'a> {
     Format(AskedFormat<'a>),
     /// `coverage [LOCALE=]TEXT..`
     Coverage(AskedCoverage<'a>),
+    /// `init [FOLDER]`
+    Init {
+        folder: Option<&'a str>,
+    },
     /// `explain [WORD]`
     Explain {
         word: Option<&'a str>,
@@ -122,6 +130,8 @@ pub struct AskedLint<'a> {
     pub format: Option<&'a str>,
     pub is_strict: bool,
     pub is_all: bool,
+    pub config: Option<&'a str>,
+    pub no_config: bool,
     pub is_list: bool,
     pub texts: Vec<&'a str>,
 }
@@ -131,6 +141,8 @@ pub struct AskedFormat<'a> {
     pub is_check: bool,
     pub is_diff: bool,
     pub is_quiet: bool,
+    pub config: Option<&'a str>,
+    pub no_config: bool,
     pub texts: Vec<&'a str>,
 }
 
@@ -139,6 +151,8 @@ pub struct AskedCoverage<'a> {
     pub parents: Option<&'a str>,
     pub is_cldr: bool,
     pub format: Option<&'a str>,
+    pub config: Option<&'a str>,
+    pub no_config: bool,
     pub texts: Vec<&'a str>,
 }
 
@@ -276,18 +290,21 @@ fn compile_json_asked<'a>(alloc: Global, given: &ArgMatches<'a>) -> Result<Asked
 {
     let is_quiet = flag_of(given, "quiet");
     let no_fallback = flag_of(given, "no-fallback");
+    let is_forced = flag_of(given, "force");
     Ok(match optional_of(given, "to") {
         Some(folder) => Asked::CompileAllJson {
             folder,
             from: optional_of(given, "from"),
             texts: texts_of(alloc, given)?,
             no_fallback,
+            is_forced,
             is_quiet,
         },
         None => Asked::CompileJson {
             input: word_of(given, "IN"),
             output: word_of(given, "OUT"),
             no_fallback,
+            is_forced,
             is_quiet,
         },
     })
@@ -300,16 +317,19 @@ fn compile_asked<'a>(alloc: Global, given: &ArgMatches<'a>) -> Result<Asked<'a>,
         return compile_json_asked(alloc, given);
     }
     let is_quiet = flag_of(given, "quiet");
+    let is_forced = flag_of(given, "force");
     Ok(match optional_of(given, "to") {
         Some(folder) => Asked::CompileAll {
             folder,
             from: optional_of(given, "from"),
             texts: texts_of(alloc, given)?,
+            is_forced,
             is_quiet,
         },
         None => Asked::Compile {
             input: word_of(given, "IN"),
             output: word_of(given, "OUT"),
+            is_forced,
             is_quiet,
         },
     })
@@ -346,6 +366,8 @@ fn lint_asked<'a>(alloc: Global, given: &ArgMatches<'a>) -> Result<Asked<'a>, Al
         format: optional_of(given, "format"),
         is_strict: flag_of(given, "strict"),
         is_all: flag_of(given, "all"),
+        config: optional_of(given, "config"),
+        no_config: flag_of(given, "no-config"),
         is_list: flag_of(given, "list"),
         texts: words_of(alloc, given, "TEXT")?,
     }))
@@ -358,6 +380,8 @@ fn format_asked<'a>(alloc: Global, given: &ArgMatches<'a>) -> Result<Asked<'a>, 
         is_check: flag_of(given, "check"),
         is_diff: flag_of(given, "diff"),
         is_quiet: flag_of(given, "quiet"),
+        config: optional_of(given, "config"),
+        no_config: flag_of(given, "no-config"),
         texts: words_of(alloc, given, "TEXT")?,
     }))
 }
@@ -369,6 +393,8 @@ fn coverage_asked<'a>(alloc: Global, given: &ArgMatches<'a>) -> Result<Asked<'a>
         parents: optional_of(given, "parents"),
         is_cldr: flag_of(given, "cldr-parents"),
         format: optional_of(given, "format"),
+        config: optional_of(given, "config"),
+        no_config: flag_of(given, "no-config"),
         texts: words_of(alloc, given, "TEXT")?,
     }))
 }
@@ -450,6 +476,9 @@ fn command_asked<'a>(
         "lint" => lint_asked(alloc, given)?,
         "fmt" => format_asked(alloc, given)?,
         "coverage" => coverage_asked(alloc, given)?,
+        "init" => Asked::Init {
+            folder: optional_of(given, "FOLDER"),
+        },
         "explain" => Asked::Explain {
             word: optional_of(given, "WORD"),
         },

@@ -1,4 +1,4 @@
-use crate::argument::{Argument, CLDR_PARENTS, Kind, PARENTS, PATH};
+use crate::argument::{Argument, CLDR_PARENTS, CONFIG, Kind, NO_CONFIG, PARENTS, PATH};
 use crate::description::Description;
 
 const BUNDLES: Argument = Argument(
@@ -21,7 +21,7 @@ Status:
   2  the command line is invalid, or a file or standard output can't be read or written";
 
 /// `lines APP [LOCALE=]FILE..`
-pub const LINES: Description = Description {
+const LINES: Description = Description {
     name: "lines",
     about: "Prints request lines for serve that install bundles",
     arguments: &[
@@ -37,9 +37,13 @@ pub const LINES: Description = Description {
     end: LINES_HELP,
 };
 
+pub fn lines() -> Description {
+    LINES
+}
+
 const COVERAGE_HELP: &str = "\
 Examples:
-  resb coverage texts/*.txt
+  resb coverage .
   resb coverage --format list texts/*/*.txt
 
 The texts of one folder are a module, which needs one of the locale root. Findings:
@@ -54,12 +58,13 @@ key, finding and locale.
 
 Status:
   0  the texts are compared
-  1  a text is refused, as root.txt:2: BadInt; a locale has two texts or no trail; or out of memory
-  2  the command line is invalid, a module has no root, or a file or standard output can't be read
-     or written";
+  1  a text is refused, as root.txt:2: BadInt; a locale has two texts or no trail, or fewer keys than
+     the settings of the project ask for; or out of memory
+  2  the command line or the settings are invalid, a module has no root, or a file or standard output
+     can't be read or written";
 
 /// `coverage [OPTIONS] [LOCALE=]TEXT..`
-pub const COVERAGE: Description = Description {
+const COVERAGE: Description = Description {
     name: "coverage",
     about: "Says what each locale lacks, and how it differs from what it inherits",
     arguments: &[
@@ -70,14 +75,20 @@ pub const COVERAGE: Description = Description {
             Kind::Option("FORMAT"),
             "table, list, json or csv; table by default",
         ),
+        CONFIG,
+        NO_CONFIG,
         Argument(
             "TEXT",
             Kind::Words("[LOCALE=]TEXT"),
-            "a bundle text, in UTF-8; LOCALE is its stem",
+            "a bundle text, in UTF-8, or a folder of modules; LOCALE is the text's stem",
         ),
     ],
     end: COVERAGE_HELP,
 };
+
+pub fn coverage() -> Description {
+    COVERAGE
+}
 
 const LOOK_HELP: &str = "\
 Examples:
@@ -91,7 +102,7 @@ Status:
   2  the command line is invalid, or a file or standard output can't be read or written";
 
 /// `look LOCALE PATH [LOCALE=]FILE..`
-pub const LOOK: Description = Description {
+const LOOK: Description = Description {
     name: "look",
     about: "Looks an item up over bundles, with fallback",
     arguments: &[
@@ -108,3 +119,7 @@ pub const LOOK: Description = Description {
     ],
     end: LOOK_HELP,
 };
+
+pub fn look() -> Description {
+    LOOK
+}

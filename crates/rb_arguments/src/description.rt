@@ -14,12 +14,13 @@ pub struct Description {
 impl Description {
     /// Makes clap's command.
     pub fn made<'a>(&self, alloc: Global) -> Result<Command<'a>, AllocError> {
-        let mut made = Command::new(alloc, self.name)
-            .about(self.about)
-            .after_help(self.end);
+        let mut arguments = Vec::new(alloc);
         for argument in self.arguments {
-            made = made.arg(argument.made(alloc)?)?;
+            arguments.push(argument.made(alloc)?)?;
         }
-        Ok(made)
+        Command::new(alloc, self.name)
+            .about(self.about)
+            .after_help(self.end)
+            .args(arguments)
     }
 }

@@ -18,9 +18,10 @@ Examples:
   resb compile --json de.json de.res
 
 IN - is standard input, and OUT - is standard output. OUT is never IN, nor a file whose name ends
-in .txt. With --to each text is compiled to DIR/STEM.res. With --from SRC, the folder that the texts
-are in, SRC/menu/de.txt is compiled to DIR/menu/de.res, and folders that are missing are made.
-With --json IN is what resb json prints of a whole bundle, in any layout.
+in .txt, and a file that is no bundle only with --force. With --to each text is compiled to
+DIR/STEM.res. With --from SRC, the folder that the texts are in, SRC/menu/de.txt is compiled to
+DIR/menu/de.res, and folders that are missing are made. With --json IN is what resb json prints of a
+whole bundle, in any layout.
 
 Status:
   0  OUT is written; its length is printed
@@ -29,7 +30,7 @@ Status:
   2  the command line is invalid, or a file or standard output can't be read or written";
 
 /// `compile IN OUT`, or `compile --to DIR TEXT..`
-pub const COMPILE: Description = Description {
+const COMPILE: Description = Description {
     name: "compile",
     about: "Compiles bundle texts to .res files",
     arguments: &[
@@ -53,6 +54,7 @@ pub const COMPILE: Description = Description {
             Kind::FlagWith("json"),
             "set the flag nofallback, which JSON doesn't have",
         ),
+        Argument("force", Kind::Flag, "replace a file that is no bundle, too"),
         Argument("quiet", Kind::ShortFlag('q'), "no line on success"),
         Argument("IN", Kind::Word, "a bundle text, in UTF-8"),
         OUTPUT,
@@ -60,6 +62,10 @@ pub const COMPILE: Description = Description {
     ],
     end: COMPILE_HELP,
 };
+
+pub fn compile() -> Description {
+    COMPILE
+}
 
 const CHECK_HELP: &str = "\
 Examples:
@@ -77,7 +83,7 @@ Status:
   2  the command line is invalid, the file can't be read, or standard output can't be written";
 
 /// `check FILE..`
-pub const CHECK: Description = Description {
+const CHECK: Description = Description {
     name: "check",
     about: "Checks .res files",
     arguments: &[
@@ -87,6 +93,10 @@ pub const CHECK: Description = Description {
     ],
     end: CHECK_HELP,
 };
+
+pub fn check() -> Description {
+    CHECK
+}
 
 const GET_HELP: &str = "\
 Example:
@@ -101,7 +111,7 @@ Status:
   2  the command line is invalid, the file can't be read, or standard output can't be written";
 
 /// `get FILE PATH`
-pub const GET: Description = Description {
+const GET: Description = Description {
     name: "get",
     about: "Prints the item at a path of a .res file",
     arguments: &[
@@ -111,6 +121,10 @@ pub const GET: Description = Description {
     ],
     end: GET_HELP,
 };
+
+pub fn get() -> Description {
+    GET
+}
 
 const TEXT_HELP: &str = "\
 Example:
@@ -124,7 +138,7 @@ Status:
   2  the command line is invalid, the file can't be read, or standard output can't be written";
 
 /// `text FILE`
-pub const TEXT: Description = Description {
+const TEXT: Description = Description {
     name: "text",
     about: "Prints a .res file as a bundle text",
     arguments: &[
@@ -137,6 +151,10 @@ pub const TEXT: Description = Description {
     ],
     end: TEXT_HELP,
 };
+
+pub fn text() -> Description {
+    TEXT
+}
 
 const JSON_HELP: &str = "\
 Examples:
@@ -156,7 +174,7 @@ Status:
   2  the command line is invalid, the file can't be read, or standard output can't be written";
 
 /// `json FILE [PATH]`, or `json --inherit LOCALE [LOCALE=]FILE..`
-pub const JSON: Description = Description {
+const JSON: Description = Description {
     name: "json",
     about: "Prints a whole .res file, or the item at a path, as one JSON value",
     arguments: &[
@@ -200,6 +218,10 @@ pub const JSON: Description = Description {
     end: JSON_HELP,
 };
 
+pub fn json() -> Description {
+    JSON
+}
+
 const DIFF_HELP: &str = "\
 Examples:
   resb diff old/de.txt new/de.txt
@@ -219,7 +241,7 @@ Status:
      written, or out of memory";
 
 /// `diff OLD NEW`
-pub const DIFF: Description = Description {
+const DIFF: Description = Description {
     name: "diff",
     about: "Prints the items in which two bundles, or the bundles of two folders, differ",
     arguments: &[
@@ -230,3 +252,7 @@ pub const DIFF: Description = Description {
     ],
     end: DIFF_HELP,
 };
+
+pub fn diff() -> Description {
+    DIFF
+}

@@ -16,7 +16,7 @@ Status:
   2  the command line is invalid, a file can't be read, or there is no random state";
 
 /// `serve [LOCALE=FILE ..]`
-pub const SERVE: Description = Description {
+const SERVE: Description = Description {
     name: "serve",
     about: "Answers requests, a line each, from standard input",
     arguments: &[
@@ -66,3 +66,7 @@ pub const SERVE: Description = Description {
     ],
     end: SERVE_HELP,
 };
+
+pub fn serve() -> Description {
+    SERVE
+}

@@ -1,8 +1,9 @@
-use crate::argument::{Argument, Kind, ROOT};
+use crate::argument::{Argument, CONFIG, Kind, NO_CONFIG, ROOT};
 use crate::description::Description;
 
 const LINT_HELP: &str = "\
 Examples:
+  resb lint .
   resb lint texts/*.txt
   resb lint --strict --allow bundle-name --deny joined-strings texts/*.txt
   resb lint --against texts/root.txt texts/de.txt
@@ -12,13 +13,17 @@ TEXT - is standard input. With --against it is also said which keys only one of 
 has, and where an item has another type or other placeholders, as {0} and {name}. A comment
 // resb-lint: allow NAME leaves warnings out of the next entry.
 
+A folder stands for the texts of its modules, each compared with its root: those that the settings
+of the project name, or else the folders with a root.txt.
+
 Status:
   0  each text is compiled; there may be warnings, as de.txt:3:9: warning: .. [joined-strings]
   1  a text has an error, as de.txt:3:9: error: .., or can't be read; with --strict, or a warning
-  2  the command line is invalid, or standard output can't be written";
+  2  the command line or the settings are invalid, a folder has no module, or standard output can't
+     be written";
 
 /// `lint [OPTIONS] TEXT..`
-pub const LINT: Description = Description {
+const LINT: Description = Description {
     name: "lint",
     about: "Says what is doubtful in bundle texts, and where an error really began",
     arguments: &[
@@ -54,19 +59,25 @@ pub const LINT: Description = Description {
             Kind::Option("FILE"),
             "the name of the text on standard input",
         ),
+        CONFIG,
+        NO_CONFIG,
         Argument("list", Kind::Flag, "print the names of all warnings"),
         Argument(
             "TEXT",
             Kind::WordsUnless("TEXT", "list"),
-            "a bundle text, in UTF-8",
+            "a bundle text, in UTF-8, or a folder of modules",
         ),
     ],
     end: LINT_HELP,
 };
 
+pub fn lint() -> Description {
+    LINT
+}
+
 const FMT_HELP: &str = "\
 Examples:
-  resb fmt texts/*.txt
+  resb fmt .
   resb fmt --check texts/*.txt
   resb fmt - < unsaved.txt
 
@@ -77,10 +88,11 @@ Status:
   0  each text is formatted
   1  a text is refused, as de.txt:3: OpenQuote, or can't be read or written; with --check or --diff,
      or formatting would change it
-  2  the command line is invalid, or standard output can't be written";
+  2  the command line or the settings are invalid, a folder has no module, or standard output can't
+     be written";
 
 /// `fmt [--check|--diff] TEXT..`
-pub const FMT: Description = Description {
+const FMT: Description = Description {
     name: "fmt",
     about: "Formats bundle texts in place, and keeps their comments",
     arguments: &[
@@ -91,10 +103,20 @@ pub const FMT: Description = Description {
         ),
         Argument("diff", Kind::Flag, "write nothing; print what would change"),
         Argument("quiet", Kind::ShortFlag('q'), "no line on success"),
-        Argument("TEXT", Kind::Words("TEXT"), "a bundle text, in UTF-8"),
+        CONFIG,
+        NO_CONFIG,
+        Argument(
+            "TEXT",
+            Kind::Words("TEXT"),
+            "a bundle text, in UTF-8, or a folder of modules",
+        ),
     ],
     end: FMT_HELP,
 };
+
+pub fn fmt() -> Description {
+    FMT
+}
 
 const EXPLAIN_HELP: &str = "\
 Examples:
@@ -107,7 +129,7 @@ Status:
   2  the command line is invalid, or standard output can't be written";
 
 /// `explain [WORD]`
-pub const EXPLAIN: Description = Description {
+const EXPLAIN: Description = Description {
     name: "explain",
     about: "Says what an error word means, its likely causes and what to do",
     arguments: &[Argument(
@@ -118,3 +140,33 @@ pub const EXPLAIN: Description = Description {
     )],
     end: EXPLAIN_HELP,
 };
+
+pub fn explain() -> Description {
+    EXPLAIN
+}
+
+const INIT_HELP: &str = "\
+Examples:
+  resb init
+  resb init texts
+
+Status:
+  0  the file is written
+  2  the command line is invalid, the folder can't be read, or the file is there or can't be
+     written";
+
+/// `init [FOLDER]`
+const INIT: Description = Description {
+    name: "init",
+    about: "Writes first settings of a project, resb.toml, with a module for each root.txt below",
+    arguments: &[Argument(
+        "FOLDER",
+        Kind::OptionalWord,
+        "the folder of the project; the current one without it",
+    )],
+    end: INIT_HELP,
+};
+
+pub fn init() -> Description {
+    INIT
+}

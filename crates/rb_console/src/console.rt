@@ -1,11 +1,13 @@
 //! The settings of a command's output: quiet or not, and on a terminal or not.
-ghost use Rattle.std.specs.Prelude.{◌≡◌, ◌↔◌, IfSome, IsSome, IsTrue, true, false};
+ghost use Rattle.std.specs.Prelude.{◌≡◌, ◌≢◌, ◌↔◌, IfSome, IsSome, IsTrue, true, false};
+ghost use Rattle.rb_console.specs.declared.printing.Escapes.TheVariants as Escaping;
 
+use crate::printing::Escapes;
 use std::fmt;
 use std::io::ErrorKind;
 
 /// The settings of a command's output.
-#[derive(Clone, Copy, Debug, PartialEq, Eq)]
+#[derive(Clone, Copy, PartialEq, Eq)]
 pub struct Console {
     /// The command prints no line on success.
     pub is_quiet: bool,
@@ -52,6 +54,39 @@ impl Console {
         }
     }
 
+    /// Returns a character of a text as it is printed to standard output.
+    pub fn char_on_stdout(self, character: char) -> ShownChar
+        ensures escaped { result.is_escaped ≡ self.is_output_terminal }
+        ensures character { result.character ≡ character }
+    {
+        ShownChar {
+            character,
+            is_escaped: self.is_output_terminal,
+        }
+    }
+
+    /// Returns what is escaped in standard output.
+    pub fn escapes(self) -> Escapes
+        ensures { result ≡ Escaping.Nothing → self.is_output_terminal ≡ false }
+    {
+        if self.is_output_terminal {
+            Escapes::Terminal
+        } else {
+            Escapes::Nothing
+        }
+    }
+
+    /// Returns what is escaped in standard output, if it is a whole bundle as JSON.
+    pub fn json_escapes(self) -> Escapes
+        ensures { result ≢ Escaping.Nothing }
+    {
+        if self.is_output_terminal {
+            Escapes::Terminal
+        } else {
+            Escapes::Json
+        }
+    }
+
     /// Returns the end of the line of an error with this name.
     pub fn hint(self, word: &str) -> Hint<'_>
         ensures shown { IsSome result.word ↔ IsTrue self.is_terminal }
@@ -88,7 +123,7 @@ impl Console {
 }
 
 /// A hint to the explanation of an error: ` (resb explain WORD)` on a terminal, otherwise empty.
-#[derive(Clone, Copy, Debug)]
+#[derive(Clone, Copy)]
 pub struct Hint<'a> {
     word: Option<&'a str>,
 }
@@ -104,7 +139,7 @@ impl<'a> fmt::Display for Hint<'a> {
 
 /// The reason why a file can't be read or written, such as `: permission denied`, on a terminal,
 /// otherwise empty.
-#[derive(Clone, Copy, Debug)]
+#[derive(Clone, Copy)]
 pub struct Cause {
     kind: Option<ErrorKind>,
     is_written: bool,
@@ -127,6 +162,8 @@ impl fmt::Display for Cause {
             ErrorKind::StorageFull => f.write_str(": no space is left"),
             ErrorKind::FilesystemLoop => f.write_str(": its links form a circle"),
             ErrorKind::InvalidFilename => f.write_str(": the name is too long"),
+            ErrorKind::InvalidData => f.write_str(": the name isn't UTF-8"),
+            ErrorKind::Unsupported => f.write_str(": is no ordinary file"),
             ErrorKind::Uncategorized => f.write_str(": the system reports an error"),
             kind => write!(f, ": {kind}"),
         }
@@ -135,14 +172,31 @@ impl fmt::Display for Cause {
 
 /// A name or an argument in a message. On a terminal, characters that could move the cursor, end
 /// the line or reverse the text are escaped, such as `\u{1b}`; elsewhere none are.
-#[derive(Clone, Copy, Debug)]
+#[derive(Clone, Copy)]
 pub struct ShownName<'a> {
     text: &'a str,
     is_escaped: bool,
 }
 
+/// A character of a name in a message, or of a text, which is escaped as in a name.
+#[derive(Clone, Copy)]
+pub struct ShownChar {
+    character: char,
+    is_escaped: bool,
+}
+
+impl fmt::Display for ShownChar {
+    fn fmt<W: fmt::Write>(&self, f: &mut fmt::Formatter<W>) -> fmt::Result {
+        if self.is_escaped && is_control(self.character) {
+            let code = u32::from(self.character);
+            return write!(f, "\\u{{{code:x}}}");
+        }
+        f.write_char(self.character)
+    }
+}
+
 /// Checks whether a terminal acts on a character in place of showing it: a control character, or
-/// one that controls the direction of text.
+/// one that controls the direction of text. All that is escaped on a terminal is in this list.
 pub(crate) fn is_control(c: char) -> bool {
     matches!(
         c,
@@ -155,18 +209,23 @@ pub(crate) fn is_control(c: char) -> bool {
     )
 }
 
+/// Checks whether a control is escaped in each whole bundle as JSON, on a terminal or not. The
+/// marks of direction, which begin no span of text, are escaped only on a terminal.
+pub(crate) fn is_escaped_in_json(c: char) -> bool {
+    !matches!(c, '\n' | '\t' | '\u{61c}' | '\u{200e}'..='\u{200f}')
+}
+
 impl<'a> fmt::Display for ShownName<'a> {
     fn fmt<W: fmt::Write>(&self, f: &mut fmt::Formatter<W>) -> fmt::Result {
         if !self.is_escaped {
             return f.write_str(self.text);
         }
-        for c in self.text.chars() {
-            if is_control(c) {
-                let code = u32::from(c);
-                write!(f, "\\u{{{code:x}}}")?;
-            } else {
-                f.write_char(c)?;
-            }
+        for character in self.text.chars() {
+            let shown = ShownChar {
+                character,
+                is_escaped: true,
+            };
+            write!(f, "{shown}")?;
         }
         Ok(())
     }

@@ -5,8 +5,11 @@ use rb_locales::Name;
 use std::alloc::Global;
 use std::rt::Files;
 
+/// The end of a bundle text's name.
+const TEXT_ENDING: &[u8] = b".txt";
+
 /// The form in which an argument names a bundle.
-#[derive(Clone, Copy, Debug)]
+#[derive(Clone, Copy)]
 pub enum Form {
     /// `LOCALE=FILE`.
     Located,
@@ -15,7 +18,7 @@ pub enum Form {
 }
 
 /// A file, and its bundle's locale as the argument gives it.
-#[derive(Clone, Copy, Debug)]
+#[derive(Clone, Copy)]
 pub struct Given<'a> {
     pub locale: &'a str,
     pub name: Name,
@@ -64,9 +67,12 @@ pub fn all_given<'a>(
     Ok(bundles)
 }
 
-/// Checks whether a file is a bundle text by its name.
+/// Checks whether a file is a bundle text by its name, which ends in `.txt` in any case.
 pub fn is_text(file: &str) -> bool {
-    file.ends_with(".txt")
+    let at = file.len().saturating_sub(TEXT_ENDING.len());
+    file.as_bytes()
+        .get(at..)
+        .is_some_and(|end| end.eq_ignore_ascii_case(TEXT_ENDING))
 }
 
 /// Reads a file as `read_file` does. Out of memory is at line 0 of a text.

@@ -3,7 +3,7 @@ use std::fmt;
 
 /// A text inside quotes of JSON. Characters on which a terminal acts are escaped, too, such as
 /// `\u202e`.
-#[derive(Clone, Copy, Debug)]
+#[derive(Clone, Copy)]
 pub struct JsonText<'a>(pub &'a str);
 
 impl<'a> fmt::Display for JsonText<'a> {

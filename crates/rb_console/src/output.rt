@@ -4,8 +4,11 @@ ghost use Rattle.rb_console.specs.Writing.{is_written, plain_decision};
 ghost use Rattle.rb_console.specs.declared.output.Decision.TheVariants as Decisions;
 ghost use Rattle.rb_console.specs.declared.output.FileKind.TheVariants as Kinds;
 
-use crate::files::read_file;
-use std::fs::{File, Metadata, OpenFile, OpenOptions, Permissions};
+use crate::files::{read_at_most, read_file};
+use crate::given::is_text;
+use crate::older::{Expected, HEAD_BYTES, create, opened, replace};
+use std::alloc::{AllocError, Global};
+use std::fs::{File, Metadata, OpenFile, OpenOptions};
 use std::io::{ErrorKind, Write};
 use std::os::unix::fs::MetadataExt;
 use std::random::RandomSource;
@@ -22,7 +25,7 @@ const MAX_LINKS: usize = 40;
 const MAX_TRIES: u64 = 16;
 
 /// The kind of file that a name leads to, its links followed.
-#[derive(Clone, Copy, Debug, PartialEq, Eq)]
+#[derive(Clone, Copy, PartialEq, Eq)]
 pub enum FileKind {
     /// Nothing is there yet.
     Missing,
@@ -35,7 +38,7 @@ pub enum FileKind {
 }
 
 /// The properties of the file to write, before anything is written.
-#[derive(Clone, Copy, Debug)]
+#[derive(Clone, Copy)]
 pub struct Seen {
     pub kind: FileKind,
     /// Its name is the name of a bundle text.
@@ -44,17 +47,21 @@ pub struct Seen {
     pub leads_to_text: bool,
     /// It is one of the texts that the command reads.
     pub is_input: bool,
+    /// It has bytes, which aren't those of a bundle file.
+    pub is_foreign: bool,
     /// It is standard output.
     pub is_output: bool,
 }
 
 /// The way in which a file is written, or the reason why it isn't.
-#[derive(Clone, Copy, Debug, PartialEq, Eq)]
+#[derive(Clone, Copy, PartialEq, Eq)]
 pub enum Decision {
     /// Refuse it as a bundle text.
     RefuseText,
     /// Refuse it as one of the texts that the command reads.
     RefuseInput,
+    /// Refuse it as a file that is no bundle.
+    RefuseForeign,
     /// Refuse it, as it can't be written.
     Refuse,
     /// Print the bytes to standard output.
@@ -68,10 +75,12 @@ pub enum Decision {
 }
 
 /// Decides how a file is written, from what is seen of it. Only a device is written through, only
-/// an ordinary file is replaced, and a bundle text or a text that the command reads never is.
+/// an ordinary file that is a bundle or empty is replaced, and a bundle text or a text that the
+/// command reads never is.
 pub fn decide(seen: Seen) -> Decision
     ensures replaced { result ≡ Decisions.Replace
-        → (seen.kind ≡ Kinds.Ordinary) × (seen.leads_to_text ≡ false) }
+        → (seen.kind ≡ Kinds.Ordinary) × (seen.leads_to_text ≡ false)
+        × (seen.is_foreign ≡ false) }
     ensures created { result ≡ Decisions.Create
         → (seen.kind ≡ Kinds.Missing) × (seen.leads_to_text ≡ false) }
     ensures through { result ≡ Decisions.WriteThrough → seen.kind ≡ Kinds.Device }
@@ -79,7 +88,7 @@ pub fn decide(seen: Seen) -> Decision
     ensures input { seen.is_text ≡ false → seen.is_input ≡ true → result ≡ Decisions.RefuseInput }
     ensures output { result ≡ Decisions.Print → seen.is_output ≡ true }
     ensures plain { seen.is_text ≡ false → seen.leads_to_text ≡ false → seen.is_input ≡ false
-        → seen.is_output ≡ false → result ≡ plain_decision seen.kind }
+        → seen.is_output ≡ false → result ≡ plain_decision seen.is_foreign seen.kind }
 {
     if seen.is_text {
         return Decision::RefuseText;
@@ -95,6 +104,7 @@ pub fn decide(seen: Seen) -> Decision
     }
     match seen.kind {
         FileKind::Missing => Decision::Create,
+        FileKind::Ordinary if seen.is_foreign => Decision::RefuseForeign,
         FileKind::Ordinary => Decision::Replace,
         FileKind::Device => Decision::WriteThrough,
         FileKind::Other => Decision::Refuse,
@@ -170,6 +180,62 @@ fn target_of<R: Files + AllocGlobal>(rt: &R, name: &str) -> io::Result<String> {
     Err(io::Error::from(ErrorKind::FilesystemLoop))
 }
 
+/// Returns a name without its segments `.`, and without those that `..` takes back.
+fn without_dots(alloc: Global, name: &str) -> Result<String, AllocError> {
+    let mut kept: Vec<&str> = Vec::new(alloc);
+    for segment in name.split('/') {
+        match segment {
+            "" | "." => {}
+            ".." if kept.last().is_some_and(|last| *last != "..") => {
+                let _ = kept.pop();
+            }
+            _ => kept.push(segment)?,
+        }
+    }
+    let mut clean = String::new(alloc);
+    for segment in &kept {
+        clean.push('/')?;
+        clean.push_str(segment)?;
+    }
+    Ok(clean)
+}
+
+/// Returns the longest folder of a name that is there, with its links followed, and the remaining
+/// name.
+fn real_folder<'a, R: Files + AllocGlobal>(rt: &R, name: &'a str) -> (Option<String>, &'a str) {
+    let mut folder = folder_of(name);
+    for _ in 0..name.len() {
+        let named = if folder.is_empty() { "." } else { folder };
+        if let Ok(real) = rt.canonicalize(rt.alloc(), named) {
+            return (
+                Some(real.into_string()),
+                name.get(folder.len()..).unwrap_or(name),
+            );
+        }
+        if folder.is_empty() {
+            break;
+        }
+        folder = folder_of(folder.trim_end_matches('/'));
+    }
+    (None, name)
+}
+
+/// Returns the name of the file that a name leads to, which may be missing, with all links followed.
+/// Two names lead to one file if this is the same; a name whose links form a circle stays.
+pub fn resolved<R: Files + AllocGlobal>(rt: &R, name: &str) -> Result<String, AllocError> {
+    let alloc = rt.alloc();
+    let target = match target_of(rt, name) {
+        Ok(target) => target,
+        Err(_) => String::from_str(alloc, name)?,
+    };
+    let (folder, rest) = real_folder(rt, target.as_str());
+    let rest = without_dots(alloc, rest)?;
+    match folder {
+        Some(folder) => format!(in alloc; "{folder}{rest}"),
+        None => Ok(rest),
+    }
+}
+
 /// Looks at what a name leads to.
 fn kind_of<R: Files>(rt: &R, name: &str) -> FileKind {
     match rt.metadata(name) {
@@ -218,9 +284,53 @@ fn refusal_of<R: Files>(rt: &R, name: &str) -> ErrorKind {
     }
 }
 
-/// Looks at a file to write, and decides how it is written. Nothing is written yet. `is_input` says
-/// whether it is one of the texts that the command reads.
-pub fn output_of<R: Files + AllocGlobal>(rt: &R, name: &str, is_input: bool) -> Output {
+/// Checks whether the bytes of a file are none, or begin as those of a `.res` file of any version do:
+/// `ResB` is the name of the form.
+pub(crate) fn begins_as_bundle(head: &[u8]) -> bool {
+    matches!(
+        head,
+        [] | [
+            _,
+            _,
+            0xDA,
+            0x27,
+            _,
+            _,
+            _,
+            _,
+            _,
+            _,
+            _,
+            _,
+            b'R',
+            b'e',
+            b's',
+            b'B',
+            ..
+        ]
+    )
+}
+
+/// Checks whether an ordinary file has bytes that aren't those of a bundle file. One that can't be
+/// read may have; if it can't be written either, that is the error.
+fn is_foreign<R: Files + AllocGlobal>(rt: &R, name: &str) -> bool {
+    match read_at_most(rt, name, HEAD_BYTES) {
+        Ok(head) => !begins_as_bundle(&head),
+        Err(_) => OpenOptions::new().write(true).open(rt, name).is_ok(),
+    }
+}
+
+/// Says of the file to write what the command line does.
+#[derive(Clone, Copy)]
+pub struct Wanted {
+    /// It is one of the texts that the command reads.
+    pub is_input: bool,
+    /// It may be a file that is no bundle.
+    pub is_forced: bool,
+}
+
+/// Looks at a file to write, and decides how it is written. Nothing is written yet.
+pub fn output_of<R: Files + AllocGlobal>(rt: &R, name: &str, wanted: Wanted) -> Output {
     let (kind, target, refusal) = match located(rt, name) {
         Ok((FileKind::Other, target)) => (FileKind::Other, target, refusal_of(rt, name)),
         Ok((kind, target)) => (kind, target, ErrorKind::PermissionDenied),
@@ -228,9 +338,10 @@ pub fn output_of<R: Files + AllocGlobal>(rt: &R, name: &str, is_input: bool) -> 
     };
     let seen = Seen {
         kind,
-        is_text: name.ends_with(".txt"),
-        leads_to_text: target.ends_with(".txt"),
-        is_input,
+        is_text: is_text(name),
+        leads_to_text: is_text(target.as_str()),
+        is_input: wanted.is_input,
+        is_foreign: kind == FileKind::Ordinary && !wanted.is_forced && is_foreign(rt, name),
         is_output: is_standard_output(rt, name),
     };
     Output {
@@ -268,43 +379,6 @@ pub(crate) fn create_beside<R: Files + RandomSource + AllocGlobal>(
     Err(io::Error::from(ErrorKind::AlreadyExists))
 }
 
-/// Writes a new file's bytes, with the permissions of the file that it replaces.
-pub(crate) fn write_new<R: Files>(
-    mut file: R::File,
-    older: Option<Permissions>,
-    bytes: &[u8],
-) -> io::Result<()> {
-    if let Some(permissions) = older {
-        file.set_permissions(permissions)?;
-    }
-    file.write_all(bytes)
-}
-
-/// Writes a new file beside a target, and renames it to that. The target keeps what it has until
-/// then. If writing fails the new file is removed, and nothing else ever is.
-fn write_beside<R: Files + RandomSource + AllocGlobal>(
-    rt: &R,
-    target: &str,
-    older: Option<Permissions>,
-    bytes: &[u8],
-) -> io::Result<()> {
-    let (file, name) = create_beside(rt, folder_of(target))?;
-    let mut written = write_new::<R>(file, older, bytes);
-    if written.is_ok() {
-        written = fs::rename(rt, name.as_str(), target);
-    }
-    if written.is_err() {
-        let _ = fs::remove_file(rt, name.as_str());
-    }
-    written
-}
-
-/// Returns the permissions of an older file that may be written, which it isn't yet.
-pub(crate) fn writable<R: Files>(rt: &R, target: &str) -> io::Result<Permissions> {
-    let file = OpenOptions::new().write(true).open(rt, target)?;
-    Ok(file.metadata()?.permissions())
-}
-
 /// Writes to a device, and to nothing else if its name leads to an ordinary file by now.
 fn write_through<R: Files>(rt: &R, name: &str, bytes: &[u8]) -> io::Result<()> {
     let mut file = OpenOptions::new().write(true).open(rt, name)?;
@@ -325,16 +399,17 @@ fn has_bytes<R: Files + AllocGlobal>(rt: &R, name: &str, bytes: &[u8]) -> bool {
 }
 
 /// Writes a new file over an older one that may be written, unless that has these bytes already.
-fn replace<R: Files + RandomSource + AllocGlobal>(
+fn renew<R: Files + RandomSource + AllocGlobal>(
     rt: &R,
     target: &str,
     bytes: &[u8],
 ) -> io::Result<()> {
-    let permissions = writable(rt, target)?;
+    let older = opened(rt, target)?;
     if has_bytes(rt, target, bytes) {
         return Ok(());
     }
-    write_beside(rt, target, Some(permissions), bytes)
+    replace(rt, target, (older, Expected::Bundle), bytes)?;
+    Ok(())
 }
 
 /// Writes a file as it was decided, or refuses it. If writing fails an older file is whole. An older
@@ -348,8 +423,8 @@ pub fn write_output<R: Files + RandomSource + AllocGlobal>(
 {
     let target = output.target.as_str();
     match output.decision {
-        Decision::Create => write_beside(rt, target, None, bytes),
-        Decision::Replace => replace(rt, target, bytes),
+        Decision::Create => create(rt, target, bytes),
+        Decision::Replace => renew(rt, target, bytes),
         Decision::WriteThrough => write_through(rt, target, bytes),
         _ => Err(io::Error::from(output.refusal)),
     }

@@ -1,98 +1,212 @@
-//! JSON that is printed piece by piece, with the characters escaped that a terminal acts on.
+//! Output that is printed piece by piece, with the characters escaped that a terminal acts on.
 ghost use Rattle.std.specs.Prelude.{⊤};
 
+use crate::console::{Console, is_control, is_escaped_in_json};
 use rb_json::Outlet;
 use std::io;
 use std::io::{BufWriter, Write};
 
-/// Returns the code and the length of the first character of some bytes if it is U+007F to U+009F,
-/// on which a terminal acts, or a control of the writing direction (U+202A to U+202E, U+2066 to
-/// U+2069). JSON may have each of them escaped.
-fn control_at(bytes: &[u8]) -> Option<(u16, usize)> {
-    let second = bytes.get(1).copied().unwrap_or(0);
-    let third = u16::from(bytes.get(2).copied().unwrap_or(0));
-    match bytes.first().copied()? {
-        0x7F => Some((0x7F, 1)),
-        0xC2 if 0x80 <= second && second <= 0x9F => Some((u16::from(second), 2)),
-        0xE2 if second == 0x80 && 0xAA <= third && third <= 0xAE => Some((
-            (third & 0x3F) | 0x2000,
-            3,
-        )),
-        0xE2 if second == 0x81 && 0xA6 <= third && third <= 0xA9 => Some((
-            (third & 0x3F) | 0x2040,
-            3,
-        )),
-        _ => None,
-    }
+/// Says which characters of an output are escaped, such as `\u009b`.
+#[derive(Clone, Copy, PartialEq, Eq)]
+pub enum Escapes {
+    /// None: the output is no terminal.
+    Nothing,
+    /// Those that each whole bundle as JSON has escaped, on a terminal or not.
+    Json,
+    /// All on which a terminal acts, except line feeds and tabs.
+    Terminal,
 }
 
-/// Returns the index of the first control in some bytes, its code and its length.
-fn first_control(bytes: &[u8]) -> Option<(usize, u16, usize)> {
-    for (at, byte) in bytes.iter().enumerate() {
-        if *byte < 0x7F {
-            continue;
-        }
-        if let Some((code, len)) = control_at(bytes.get(at..)?) {
-            return Some((at, code, len));
+impl Escapes {
+    /// Checks whether a character is escaped.
+    fn has(self, c: char) -> bool {
+        match self {
+            Escapes::Nothing => false,
+            Escapes::Json => is_control(c) && is_escaped_in_json(c),
+            Escapes::Terminal => is_control(c) && c != '\n' && c != '\t',
         }
     }
-    None
-}
 
-/// Writes a part of a JSON text of whole characters, with each control escaped.
-fn write_escaped<W: Write>(out: &mut W, bytes: &[u8]) -> io::Result<()> {
-    let mut rest = bytes;
-    for _ in 0..bytes.len() {
-        let Some((at, code, len)) = first_control(rest) else {
-            break;
+    /// Returns the first character of some bytes and its length, if it is escaped. None of those has
+    /// four bytes.
+    fn first(self, bytes: &[u8]) -> Option<(char, usize)> {
+        let (code, len) = match bytes {
+            [first, ..] if *first < 0x80 => (u32::from(*first), 1),
+            [first @ 0xC2..=0xDF, second @ 0x80..=0xBF, ..] => {
+                (joined(u32::from(*first & 0x1F), *second), 2)
+            }
+            [
+                first @ 0xE0..=0xEF,
+                second @ 0x80..=0xBF,
+                third @ 0x80..=0xBF,
+                ..
+            ] => { (joined(joined(u32::from(*first & 0x0F), *second), *third), 3) }
+            _ => return None,
         };
-        out.write_all(rest.get(..at).unwrap_or(b""))?;
-        write!(out, "\\u{code:04x}")?;
-        rest = rest.get(at.saturating_add(len)..).unwrap_or(b"");
+        let c = char::from_u32(code)?;
+        if self.has(c) { Some((c, len)) } else { None }
     }
-    out.write_all(rest)
+
+    /// Returns the index of the first character that is escaped, itself and its length.
+    fn find(self, bytes: &[u8]) -> Option<(usize, char, usize)> {
+        for (at, byte) in bytes.iter().enumerate() {
+            if 0x20 <= *byte && *byte < 0x7F {
+                continue;
+            }
+            if let Some((c, len)) = self.first(bytes.get(at..)?) {
+                return Some((at, c, len));
+            }
+        }
+        None
+    }
+
+    /// Writes whole characters.
+    fn write<W: Write>(self, out: &mut W, bytes: &[u8]) -> io::Result<()> {
+        let mut rest = bytes;
+        for _ in 0..bytes.len() {
+            let Some((at, c, len)) = self.find(rest) else {
+                break;
+            };
+            out.write_all(rest.get(..at).unwrap_or(b""))?;
+            let code = u32::from(c);
+            write!(out, "\\u{code:04x}")?;
+            rest = rest.get(at.saturating_add(len)..).unwrap_or(b"");
+        }
+        out.write_all(rest)
+    }
 }
 
-/// Writes JSON to another writer, and escapes controls if that is asked for. Each call takes whole
-/// characters.
+/// Appends the bits of a character's further byte to those before it.
+fn joined(bits: u32, further: u8) -> u32 {
+    (bits << 6) | u32::from(further & 0x3F)
+}
+
+/// Checks whether bytes are the beginning of a character of two or three bytes, and not all of it.
+fn is_cut(bytes: &[u8]) -> bool {
+    matches!(bytes, [0xC2..=0xEF] | [0xE0..=0xEF, 0x80..=0xBF])
+}
+
+/// Splits bytes before a character that is cut at their end.
+fn split_cut(bytes: &[u8]) -> (&[u8], &[u8]) {
+    for len in [2, 1] {
+        let at = bytes.len().saturating_sub(len);
+        let (whole, cut) = bytes.split_at(at);
+        if is_cut(cut) {
+            return (whole, cut);
+        }
+    }
+    (bytes, b"")
+}
+
+/// The beginning of a character that a piece ended in.
+#[derive(Clone, Copy)]
+struct Beginning {
+    bytes: [u8; 3],
+    len: usize,
+}
+
+impl Beginning {
+    const NONE: Beginning = Beginning {
+        bytes: [0; 3],
+        len: 0,
+    };
+
+    fn as_slice(&self) -> &[u8] {
+        self.bytes.get(..self.len).unwrap_or(&self.bytes)
+    }
+
+    fn push(&mut self, byte: u8) {
+        if let Some(next) = self.bytes.get_mut(self.len) {
+            *next = byte;
+            self.len = self.len.saturating_add(1);
+        }
+    }
+}
+
+/// Writes to another writer, and escapes what is asked for. A piece may end inside a character.
 #[derive(Drop)]
-pub struct JsonWriter<W: Write + Drop> {
+pub struct EscapingWriter<W: Write + Drop> {
     inner: W,
-    is_escaping: bool,
+    escapes: Escapes,
+    cut: Beginning,
 }
 
-impl<W: Write + Drop> JsonWriter<W> {
-    pub fn new(inner: W, is_escaping: bool) -> Self {
-        JsonWriter { inner, is_escaping }
+impl<W: Write + Drop> EscapingWriter<W> {
+    pub fn new(inner: W, escapes: Escapes) -> Self {
+        EscapingWriter {
+            inner,
+            escapes,
+            cut: Beginning::NONE,
+        }
+    }
+
+    /// Writes the character that the piece before was cut in, and returns how many bytes of this
+    /// piece it has.
+    fn end_cut(&mut self, bytes: &[u8]) -> io::Result<usize> {
+        for (i, byte) in bytes.iter().enumerate() {
+            if self.cut.len == 0 {
+                return Ok(i);
+            }
+            self.cut.push(*byte);
+            if !is_cut(self.cut.as_slice()) {
+                let cut = self.cut;
+                self.cut = Beginning::NONE;
+                self.escapes.write(&mut self.inner, cut.as_slice())?;
+            }
+        }
+        Ok(bytes.len())
+    }
+
+    /// Writes a piece.
+    fn write_piece(&mut self, bytes: &[u8]) -> io::Result<()> {
+        let begun = self.end_cut(bytes)?;
+        let (whole, cut) = split_cut(bytes.get(begun..).unwrap_or(b""));
+        for byte in cut {
+            self.cut.push(*byte);
+        }
+        self.escapes.write(&mut self.inner, whole)
     }
 }
 
-impl<W: Write + Drop> Write for JsonWriter<W> {
+impl<W: Write + Drop> Write for EscapingWriter<W> {
     fn write(&mut self, bytes: &[u8]) -> io::Result<usize> {
-        if !self.is_escaping {
+        if self.escapes == Escapes::Nothing {
             return self.inner.write(bytes);
         }
-        write_escaped(&mut self.inner, bytes)?;
+        self.write_piece(bytes)?;
         Ok(bytes.len())
     }
 
     fn flush(&mut self) -> io::Result<()> {
+        let cut = self.cut;
+        self.cut = Beginning::NONE;
+        self.inner.write_all(cut.as_slice())?;
         self.inner.flush()
     }
+}
+
+/// Prints bytes to standard output. On a terminal, characters on which it acts are escaped.
+pub fn print_bytes<R: Print>(rt: &R, console: Console, bytes: &[u8]) -> io::Result<()> {
+    if !console.is_output_terminal {
+        return rt.write_all(bytes);
+    }
+    let mut out = EscapingWriter::new(io::writer(rt), Escapes::Terminal);
+    out.write_all(bytes)?;
+    out.flush()
 }
 
 /// Prints what it takes. After a call of the writer has failed, the remaining bytes are dropped. No
 /// contract speaks of what a device takes, so that it is printed is tested.
 #[derive(Drop)]
 pub struct Printing<W: Write + Drop> {
-    writer: JsonWriter<BufWriter<W>>,
+    writer: EscapingWriter<BufWriter<W>>,
     failed: Option<io::ErrorKind>,
 }
 
 impl<W: Write + Drop> Printing<W> {
-    pub fn new(writer: BufWriter<W>, is_escaping: bool) -> Self {
+    pub fn new(writer: BufWriter<W>, escapes: Escapes) -> Self {
         Printing {
-            writer: JsonWriter::new(writer, is_escaping),
+            writer: EscapingWriter::new(writer, escapes),
             failed: None,
         }
     }

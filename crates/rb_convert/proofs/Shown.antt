@@ -5,12 +5,11 @@ use Rattle.rb_tree.specs.Resource.{Resource, alias}
 use Rattle.rb_tree.specs.Path.{segments}
 use Rattle.rb_tree.specs.Walk.{Walked, ends, links, gone, stop_of, rest_of, end, link, nowhere}
 use Rattle.rb_fallback.proofs.Paths.{segments_joined}
-use Rattle.std.specs.Prelude.{IsTrue, Result}
-use Rattle.rb_json.specs.Printed.{is_within, laid_out, refusal}
+use Rattle.std.specs.Prelude.{Result}
+use Rattle.rb_json.specs.Printed.{is_within, laid_out}
 use Rattle.rb_json.specs.Value.{value_of}
 use Rattle.rb_json.specs.declared.layout.Layout.{Layout}
-use Rattle.rb_json.specs.declared.error.JsonError.TheVariants as JsonErrors
-use Rattle.rb_convert.specs.Whole.{reached, text_of}
+use Rattle.rb_convert.specs.Whole.{Prints, light, reached}
 use Rattle.rb_convert.specs.declared.value.ValueError.{ValueError}
 use Rattle.rb_convert.specs.declared.value.ValueError.TheVariants.{Missing, TooLarge}
 
@@ -42,25 +41,22 @@ reached_gone (ends u) h = absurd cc
 reached_gone (links us walked rest) h = absurd cc
 reached_gone gone h = refl
 
-pub text_ok : (layout : Layout) (o : Option Resource) (t : Resource) (text : List ℕ) → Some t ≡ o → IsTrue (is_within t) → text ≡ laid_out layout (value_of t)
-    → text_of layout o ≡ Ok text
-text_ok layout None t text e h is = absurd cc
-text_ok layout (Some u) t text e h is =
+pub light_ok : (o : Option Resource) (t : Resource) → Some t ≡ o → is_within t ≡ true → light o ≡ Ok t
+light_ok None t e h = absurd cc
+light_ok (Some u) t e h =
     let same : t ≡ u = cc in
-    let within : is_within u ≡ true = subst (λ (v : Resource). is_within v ≡ true) same h in
-    let told : laid_out layout (value_of u) ≡ text = sym (is ∙ ap (λ (v : Resource). laid_out layout (value_of v)) same) in
-    rw (within, told) refl
+    subst (λ (v : Resource). light (Some v) ≡ Ok t) same (rw h refl)
 
-large : (layout : Layout) (u : Resource) (b : Bool) → JsonErrors.TooLarge ≡ cond b JsonErrors.Memory JsonErrors.TooLarge
-    → cond {A = Result (List ℕ) ValueError} b (Ok (laid_out layout (value_of u))) (Err TooLarge) ≡ Err TooLarge
-large layout u true h = absurd cc
-large layout u false h = refl
+pub light_large : (o : Option Resource) (t : Resource) → Some t ≡ o → is_within t ≡ false → light o ≡ Err TooLarge
+light_large None t e h = absurd cc
+light_large (Some u) t e h =
+    let same : t ≡ u = cc in
+    subst (λ (v : Resource). light (Some v) ≡ Err TooLarge) same (rw h refl)
 
-pub text_large : (layout : Layout) (o : Option Resource) (t : Resource) → Some t ≡ o → JsonErrors.TooLarge ≡ refusal t → text_of layout o ≡ Err TooLarge
-text_large layout None t e h = absurd cc
-text_large layout (Some u) t e h =
-    let same : t ≡ u = cc in large layout u (is_within u) (h ∙ ap refusal same)
+pub light_none : (o : Option Resource) → None ≡ o → light o ≡ Err Missing
+light_none None e = refl
+light_none (Some u) e = absurd cc
 
-pub text_none : (layout : Layout) (o : Option Resource) → None ≡ o → text_of layout o ≡ Err Missing
-text_none layout None e = refl
-text_none layout (Some u) e = absurd cc
+pub printed_item : (Takes : List ℕ → Type 0) (layout : Layout) (r : Result Resource ValueError) (t : Resource) → r ≡ Ok t
+    → Takes (laid_out layout (value_of t)) → Prints Takes layout r
+printed_item Takes layout r t is h = subst (Prints Takes layout) (sym is) h

@@ -17,15 +17,19 @@ reached (links us walked []) = Some (alias us)
 reached (links us walked (s ∷ rest)) = None
 reached gone = None
 
--- the text of an item that is within the limits of a bundle's tree
-abbrev pub text_of : Layout → Option Resource → Result (List ℕ) ValueError
-text_of layout (Some t) = if is_within t then Ok (laid_out layout (value_of t)) else Err TooLarge
-text_of layout None = Err Missing
+-- an item that is within the limits of a bundle's tree
+abbrev pub light : Option Resource → Result Resource ValueError
+light (Some t) = if is_within t then Ok t else Err TooLarge
+light None = Err Missing
 
--- a path has at most 1,024 bytes
-abbrev pub valued : Layout → Resource → List ℕ → Result (List ℕ) ValueError
-valued layout t path =
+-- the item that is printed for a path, which has at most 1,024 bytes
+abbrev pub shown : Resource → List ℕ → Result Resource ValueError
+shown t path =
     if is_path path
-    then (if nat_lt path_limit (length path) then Err PathTooLong
-    else text_of layout (reached (walk t (segments path))))
+    then (if nat_lt path_limit (length path) then Err PathTooLong else light (reached (walk t (segments path))))
     else Err BadPath
+
+-- the item's JSON was written, and nothing else
+abbrev pub Prints : (List ℕ → Type 0) → Layout → Result Resource ValueError → Type 0
+Prints Takes layout (Ok t) = Takes (laid_out layout (value_of t))
+Prints Takes layout (Err e) = ⊥

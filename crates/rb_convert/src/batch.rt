@@ -5,8 +5,8 @@ ghost use Rattle.std.specs.Process.{exit_status};
 use crate::compiling::{chosen_output, compile_read};
 use crate::json_in::{JsonError, MOST_READ, chosen_json_output, compile_json_read, json_refused};
 use rb_console::{
-    CommandError, Console, are_same_file, each, failed, id_of, printed, read_at_most, read_file,
-    refused_on, stem,
+    CommandError, Console, Wanted, are_same_file, each, failed, id_of, printed, read_at_most,
+    read_file, refused_on, resolved, stem,
 };
 use std::alloc::{AllocError, Global};
 use std::collections::{BTreeMap, BTreeSet};
@@ -16,13 +16,15 @@ use std::random::RandomSource;
 use std::rt::{Clock, Files};
 use std::{fs, io};
 
-/// Where texts are compiled to.
-#[derive(Clone, Copy, Debug)]
+/// The folder that texts are compiled to.
+#[derive(Clone, Copy)]
 pub struct Target<'a> {
     /// The folder of the files.
     pub folder: &'a str,
     /// The folder that the texts are in, if theirs are kept below `folder`.
     pub from: Option<&'a str>,
+    /// The files may be ones that are no bundles.
+    pub is_forced: bool,
 }
 
 /// Returns a text's name below the folder that it is in, without the last ending. It has no empty
@@ -85,12 +87,14 @@ impl<'a> Target<'a> {
 enum BatchError<'a> {
     /// Two texts have one file, which has this name.
     Twice(&'a str, &'a str, &'a str),
+    /// Two texts have files of two names, which lead to one.
+    Shared(&'a str, &'a str),
     /// A text isn't in the folder that was given.
     Elsewhere(&'a str),
     Memory,
 }
 
-/// Checks that each text has a file of its own.
+/// Checks that no two texts have one file.
 fn check_names<'a>(
     alloc: Global,
     target: Target<'a>,
@@ -104,6 +108,54 @@ fn check_names<'a>(
         match by_name.insert(name, *text) {
             Ok(None) => {}
             Ok(Some(earlier)) => return Err(BatchError::Twice(name, earlier, text)),
+            Err(_) => return Err(BatchError::Memory),
+        }
+    }
+    Ok(())
+}
+
+/// The files to which texts are compiled, by what their names lead to.
+#[derive(Drop)]
+struct Outputs<'a> {
+    by_name: BTreeMap<String, &'a str>,
+    by_id: BTreeMap<(u64, u64), &'a str>,
+}
+
+impl<'a> Outputs<'a> {
+    /// Adds a text's file, and returns an earlier text that has it, too.
+    fn add<R: Files + AllocGlobal>(
+        &mut self,
+        rt: &R,
+        output: &str,
+        text: &'a str,
+    ) -> Result<Option<&'a str>, AllocError> {
+        let named = self.by_name.insert(resolved(rt, output)?, text)?;
+        let id = rt.metadata(output).ok().and_then(|seen| id_of(&seen));
+        match (named, id) {
+            (None, Some(id)) => Ok(self.by_id.insert(id, text)?),
+            _ => Ok(named),
+        }
+    }
+}
+
+/// Checks that no two texts have names that lead to one file, links followed.
+fn check_files<'a, R: Files + AllocGlobal>(
+    rt: &R,
+    target: Target<'a>,
+    texts: &[&'a str],
+) -> Result<(), BatchError<'a>> {
+    let alloc = rt.alloc();
+    let mut outputs = Outputs {
+        by_name: BTreeMap::new(alloc),
+        by_id: BTreeMap::new(alloc),
+    };
+    for text in texts {
+        let Ok(output) = target.output_of(alloc, text) else {
+            return Err(BatchError::Memory);
+        };
+        match outputs.add(rt, output.as_str(), text) {
+            Ok(None) => {}
+            Ok(Some(earlier)) => return Err(BatchError::Shared(earlier, text)),
             Err(_) => return Err(BatchError::Memory),
         }
     }
@@ -146,8 +198,11 @@ fn compile_file<'a, R: Files + RandomSource + AllocGlobal>(
     if let Err(error) = target.make_folder(rt, output) {
         return Err(CommandError::Unwritten(output, error.kind()));
     }
-    let is_input = inputs.has(rt, output) || are_same_file(rt, text, output);
-    let chosen = chosen_output(rt, output, is_input)?;
+    let wanted = Wanted {
+        is_input: inputs.has(rt, output) || are_same_file(rt, text, output),
+        is_forced: target.is_forced,
+    };
+    let chosen = chosen_output(rt, output, wanted)?;
     compile_read(rt, text, read_file(rt, text), output, &chosen)
 }
 
@@ -203,6 +258,11 @@ fn batch_refused<R: Eprint>(
             let _ = eprintln!(rt; "resb: two texts are named {name}: {a} and {b}");
             ExitCode::from(2)
         }
+        BatchError::Shared(a, b) => {
+            let (a, b) = (console.on_stderr(a), console.on_stderr(b));
+            let _ = eprintln!(rt; "resb: two texts have one file: {a} and {b}");
+            ExitCode::from(2)
+        }
         BatchError::Elsewhere(text) => {
             let _ = eprintln!(rt; "resb: a text is not in SRC: {}", console.on_stderr(text));
             ExitCode::from(2)
@@ -213,7 +273,7 @@ fn batch_refused<R: Eprint>(
 
 /// Refuses a folder without a name, two texts with one file, and a text that isn't in the folder
 /// that was given.
-fn refuse_batch<R: AllocGlobal + Eprint>(
+fn refuse_batch<R: Files + AllocGlobal + Eprint>(
     rt: &R,
     console: Console,
     target: Target<'_>,
@@ -223,7 +283,11 @@ fn refuse_batch<R: AllocGlobal + Eprint>(
         let _ = eprintln!(rt; "resb: DIR is empty");
         return Err(ExitCode::from(2));
     }
-    match check_names(rt.alloc(), target, texts) {
+    let checked = match check_names(rt.alloc(), target, texts) {
+        Ok(()) => check_files(rt, target, texts),
+        Err(error) => Err(error),
+    };
+    match checked {
         Ok(()) => Ok(()),
         Err(error) => Err(batch_refused(rt, console, target, error)),
     }
@@ -270,8 +334,11 @@ fn compile_json_file<'a, R: Files + RandomSource + AllocGlobal>(
     if let Err(error) = target.make_folder(rt, output) {
         return Err(JsonError::Other(CommandError::Unwritten(output, error.kind())));
     }
-    let is_input = inputs.has(rt, output) || are_same_file(rt, json, output);
-    let chosen = match chosen_json_output(rt, output, is_input) {
+    let wanted = Wanted {
+        is_input: inputs.has(rt, output) || are_same_file(rt, json, output),
+        is_forced: target.is_forced,
+    };
+    let chosen = match chosen_json_output(rt, output, wanted) {
         Ok(chosen) => chosen,
         Err(error) => return Err(JsonError::Other(error)),
     };

@@ -297,7 +297,7 @@ fn compare_tables<N: Node, R: Report<N>>(
     Ok(())
 }
 
-/// Reports the items in which two trees of at most so many levels differ, by their paths in
+/// Reports the items in which two trees of at most `levels` levels differ, by their paths in
 /// ascending order. An error comes only if memory for a path runs out.
 #[cycle(both)]
 pub(crate) fn compare<N: Node, R: Report<N>>(

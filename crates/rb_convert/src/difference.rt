@@ -1,24 +1,23 @@
 //! The differences of two bundles as they are printed.
 use crate::compare::Report;
-use crate::pretty::put_leaf;
 use rb_console::Printing;
-use rb_json::{Layout, Outlet, spell_bytes, spell_text, spell_unsigned};
+use rb_json::{Layout, Outlet, put_leaf, spell_bytes, spell_text, spell_unsigned};
 use rb_tree::Node;
 use std::io::Write;
 
 /// The form in which differences are printed.
-#[derive(Clone, Copy, Debug, PartialEq, Eq)]
+#[derive(Clone, Copy, PartialEq, Eq)]
 pub enum DiffForm {
     /// A line for each item that only one bundle has, and two for one that differs.
     Lines,
     /// An object for each item, in a line.
     Json,
-    /// How many items differ.
+    /// The number of items that differ.
     Counts,
 }
 
-/// How many items differ: those of both bundles, and those that only one has.
-#[derive(Clone, Copy, Debug, PartialEq, Eq)]
+/// The numbers of items that differ: those of both bundles, and those that only one has.
+#[derive(Clone, Copy, PartialEq, Eq)]
 pub(crate) struct Counts {
     pub(crate) changed: u64,
     pub(crate) added: u64,
@@ -47,13 +46,14 @@ impl Counts {
 pub(crate) struct DiffPrinter<W: Write + Drop> {
     pub(crate) out: Printing<W>,
     pub(crate) form: DiffForm,
-    /// The name of the two bundles among several, as a terminal shows it; empty if there are only
-    /// two.
+    /// The name of the two bundles among several; empty if there are only two.
     pub(crate) name: String,
+    /// The name as it is printed at the beginning of a line.
+    pub(crate) shown: String,
     pub(crate) counts: Counts,
 }
 
-/// What differs: an item, or the flag *no fallback*.
+/// A value that differs: an item, or the flag *no fallback*.
 #[derive(Clone, Copy)]
 pub(crate) enum Value<N> {
     Item(N),
@@ -82,7 +82,7 @@ impl<W: Write + Drop> DiffPrinter<W> {
     /// Writes the name of the two bundles at the beginning of a line, if there are several.
     fn begin_line(&mut self) {
         if !self.name.is_empty() {
-            self.out.put(self.name.as_bytes());
+            self.out.put(self.shown.as_bytes());
             self.out.put(b": ");
         }
     }

@@ -2,24 +2,25 @@
 use crate::compare::{ItemPath, Side, compare, report_all};
 use crate::difference::{Counts, DiffForm, DiffPrinter};
 use rb_console::{
-    CommandError, Console, Printing, StartError, accepted, finish, is_text, printed, read_given,
+    CommandError, Console, Printing, ShownBytes, StartError, accepted, finish, in_folder,
+    is_folder, is_text, printed, read_given, read_names,
 };
 use rb_json::is_within;
 use rb_tree::HEIGHT_LIMIT;
 use rb_validator::{Bundle, accept};
 use rb_views::root;
-use std::alloc::{AllocError, Global};
+use std::alloc::AllocError;
 use std::collections::BTreeSet;
-use std::io::{BufWriter, Write};
+use std::io;
+use std::io::{BufWriter, ErrorKind, Write};
 use std::process::ExitCode;
 use std::rt::Files;
-use std::{fs, io};
 
 /// The status if something can't be compared.
 const TROUBLE: u8 = 2;
 
 /// The words of the command line of `resb diff`.
-#[derive(Clone, Copy, Debug)]
+#[derive(Clone, Copy)]
 pub struct DiffWords<'a> {
     /// A bundle text, a `.res` file or a folder, and the one that it is compared with.
     pub old: &'a str,
@@ -27,7 +28,7 @@ pub struct DiffWords<'a> {
     pub form: DiffForm,
 }
 
-/// The output of a command, and how the comparisons so far ended.
+/// The output of a command, and how the earlier comparisons ended.
 #[derive(Drop)]
 struct Differ<W: Write + Drop> {
     printer: DiffPrinter<W>,
@@ -38,7 +39,7 @@ struct Differ<W: Write + Drop> {
 /// Compiles a bundle text.
 fn compiled<'a, R: Files + AllocGlobal>(rt: &R, file: &'a str) -> Result<Bundle, CommandError<'a>> {
     let text = read_given(rt, file)?;
-    let bytes = match rb_engine::compile(rt.alloc(), &text) {
+    let bytes = match rb_compiler::compile(rt.alloc(), &text) {
         Ok(bytes) => bytes,
         Err(fault) => return Err(CommandError::TextRefused(file, fault)),
     };
@@ -145,48 +146,37 @@ fn read<'a, R: Files + AllocGlobal>(
 }
 
 /// Checks whether a name is that of a bundle text or a `.res` file.
-fn is_bundle(name: &str) -> bool {
-    is_text(name) || name.ends_with(".res")
-}
-
-/// Adds the names of a folder's bundles to those of another one.
-fn add_names<R: Files + AllocGlobal + Clone + Drop>(
-    rt: &R,
-    names: &mut BTreeSet<String>,
-    folder: &str,
-) -> io::Result<()> {
-    for entry in fs::read_dir(rt, folder)? {
-        let entry = entry?;
-        if is_bundle(entry.file_name()) {
-            names.insert(String::from_str(rt.alloc(), entry.file_name())?)?;
-        }
-    }
-    Ok(())
-}
-
-fn is_folder<R: Files>(rt: &R, name: &str) -> bool {
-    rt.metadata(name).is_ok_and(|seen| seen.is_dir())
-}
-
-/// Returns the name of a file in a folder.
-fn in_folder(alloc: Global, folder: &str, name: &str) -> Result<String, AllocError> {
-    if folder.ends_with('/') {
-        format!(in alloc; "{folder}{name}")
-    } else {
-        format!(in alloc; "{folder}/{name}")
+fn is_bundle(name: &[u8]) -> bool {
+    match str::from_utf8(name) {
+        Ok(name) => is_text(name) || name.ends_with(".res"),
+        Err(_) => is_text(ending(name)) || name.ends_with(b".res"),
     }
 }
 
-/// Returns a name if there is a file of that name.
-fn there<'a, R: Files>(rt: &R, name: &'a str) -> Option<&'a str> {
-    if rt.metadata(name).is_ok() {
-        Some(name)
-    } else {
-        None
+/// Returns the last four bytes of a name if they are text.
+fn ending(name: &[u8]) -> &str {
+    let at = name.len().saturating_sub(4);
+    str::from_utf8(name.get(at..).unwrap_or(b"")).unwrap_or("")
+}
+
+/// Returns a name if it is that of an ordinary file, or None if nothing has it. Errors: the reason
+/// why it can't be read.
+fn there<'a, R: Files>(rt: &R, name: &'a str) -> Result<Option<&'a str>, ErrorKind> {
+    match rt.metadata(name) {
+        Ok(seen) if seen.is_file() => Ok(Some(name)),
+        Ok(seen) if seen.is_dir() => Err(ErrorKind::IsADirectory),
+        Ok(_) => Err(ErrorKind::Unsupported),
+        Err(_) if rt.symlink_metadata(name).is_err() => Ok(None),
+        Err(error) => Err(error.kind()),
     }
 }
 
-/// Compares the files of one name in two folders.
+/// Checks whether a name that can't be read is that of no file.
+fn is_no_file(kind: ErrorKind) -> bool {
+    matches!(kind, ErrorKind::IsADirectory | ErrorKind::Unsupported)
+}
+
+/// Compares the files of one name in two folders. What is no file in either is passed over.
 fn compare_named<R: Files + AllocGlobal + Eprint, W: Write + Drop>(
     rt: &R,
     console: Console,
@@ -197,14 +187,46 @@ fn compare_named<R: Files + AllocGlobal + Eprint, W: Write + Drop>(
     let alloc = rt.alloc();
     let old = in_folder(alloc, words.old, name)?;
     let new = in_folder(alloc, words.new, name)?;
-    differ.printer.name = format!(in alloc; "{}", console.on_stdout(name))?;
-    let (old, new) = (there(rt, old.as_str()), there(rt, new.as_str()));
-    differ.compare_files(rt, console, old, new);
+    differ.printer.name = String::from_str(alloc, name)?;
+    differ.printer.shown = format!(in alloc; "{}", console.on_stdout(name))?;
+    match (there(rt, old.as_str()), there(rt, new.as_str())) {
+        (Ok(old), Ok(new)) => differ.compare_files(rt, console, old, new),
+        (Err(kind), Ok(None)) | (Ok(None), Err(kind)) if is_no_file(kind) => {}
+        (Err(a), Err(b)) if is_no_file(a) && is_no_file(b) => {}
+        (Err(kind), _) => differ.fail(rt, console, CommandError::Unread(old.as_str(), "", kind)),
+        (_, Err(kind)) => differ.fail(rt, console, CommandError::Unread(new.as_str(), "", kind)),
+    }
+    Ok(())
+}
+
+/// Adds the names of a folder's bundles to those of another one, and reports those that aren't UTF-8.
+fn add_names<R: Files + AllocGlobal + Eprint, W: Write + Drop>(
+    rt: &R,
+    console: Console,
+    differ: &mut Differ<W>,
+    names: &mut BTreeSet<String>,
+    folder: &str,
+) -> io::Result<()> {
+    let alloc = rt.alloc();
+    let listed = read_names(rt, folder)?;
+    for bytes in listed.split(|byte| *byte == 0) {
+        if !is_bundle(bytes) {
+            continue;
+        }
+        if let Ok(name) = str::from_utf8(bytes) {
+            names.insert(String::from_str(alloc, name)?)?;
+            continue;
+        }
+        let shown = format!(in alloc; "{}", ShownBytes { bytes, console })?;
+        let name = in_folder(alloc, folder, shown.as_str())?;
+        let error = CommandError::Unread(name.as_str(), "", ErrorKind::InvalidData);
+        differ.fail(rt, console, error);
+    }
     Ok(())
 }
 
 /// Compares the bundles of two folders, file by file, in the order of their names.
-fn compare_folders<R: Files + AllocGlobal + Eprint + Clone + Drop, W: Write + Drop>(
+fn compare_folders<R: Files + AllocGlobal + Eprint, W: Write + Drop>(
     rt: &R,
     console: Console,
     differ: &mut Differ<W>,
@@ -212,7 +234,7 @@ fn compare_folders<R: Files + AllocGlobal + Eprint + Clone + Drop, W: Write + Dr
 ) {
     let mut names = BTreeSet::new(rt.alloc());
     for folder in [words.old, words.new] {
-        if let Err(error) = add_names(rt, &mut names, folder) {
+        if let Err(error) = add_names(rt, console, differ, &mut names, folder) {
             differ.fail(rt, console, CommandError::Unread(folder, "", error.kind()));
             return;
         }
@@ -229,11 +251,12 @@ fn compare_folders<R: Files + AllocGlobal + Eprint + Clone + Drop, W: Write + Dr
 /// differ: for each path a line with a minus for the item of `old`, and one with a plus for that of
 /// `new`, as JSON; or an object in a line; or how many they are. Of tables and arrays the items in
 /// them are printed. The flag *no fallback* has the path `:no-fallback`. A file that only one of
-/// the folders has is compared with no item at all.
+/// the folders has is compared with no item at all. Of folders only ordinary files count whose names
+/// end as a bundle's; the others are compared although one can't be read.
 ///
 /// The status is 0 if nothing differs; 1 if something does; 2 if a file is refused or can't be
 /// read, `old` is a folder and `new` isn't, memory runs out, or standard output can't be written.
-pub fn diff<R: Files + AllocGlobal + Print + Eprint + Clone + Drop>(
+pub fn diff<R: Files + AllocGlobal + Print + Eprint>(
     rt: &R,
     console: Console,
     words: DiffWords<'_>,
@@ -244,9 +267,10 @@ pub fn diff<R: Files + AllocGlobal + Print + Eprint + Clone + Drop>(
     };
     let mut differ = Differ {
         printer: DiffPrinter {
-            out: Printing::new(writer, console.is_output_terminal),
+            out: Printing::new(writer, console.escapes()),
             form: words.form,
             name: String::new(rt.alloc()),
+            shown: String::new(rt.alloc()),
             counts: Counts::NONE,
         },
         has_differences: false,

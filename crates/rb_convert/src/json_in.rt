@@ -6,8 +6,8 @@ ghost use Rattle.rb_tree.specs.View.{view_of};
 
 use crate::compiling::{STANDARD_INPUT, chosen_output};
 use rb_console::{
-    CommandError, Console, Decision, Output, are_same_file, finish, printed, read_input_at_most,
-    write_output,
+    CommandError, Console, Decision, Output, Wanted, are_same_file, finish, print_bytes, printed,
+    read_input_at_most, write_output,
 };
 use rb_json_reader::{JSON_LIMIT, JsonFault, JsonFaultKind, read_tree};
 use rb_tree::Tree;
@@ -112,17 +112,17 @@ pub(crate) fn file_of_json<'a>(
     }
 }
 
-/// Decides how the file `output` is written. Refuses a JSON text by its name, besides what
+/// Decides how the file `output` is written. Refuses a JSON text by its name, and all that
 /// `chosen_output` refuses.
 pub(crate) fn chosen_json_output<'a, R: Files + AllocGlobal>(
     rt: &R,
     output: &'a str,
-    is_input: bool,
+    wanted: Wanted,
 ) -> Result<Output, CommandError<'a>> {
     if output.ends_with(".json") {
         return Err(CommandError::BadOutput("OUT is a JSON text", output));
     }
-    chosen_output(rt, output, is_input)
+    chosen_output(rt, output, wanted)
 }
 
 /// Compiles the JSON text `input`, which was read, to the file `output`, as `chosen` says, and
@@ -154,28 +154,32 @@ fn print_compiled_json<R: AllocGlobal + Print + Eprint>(
     no_fallback: bool,
 ) -> ExitCode {
     match file_of_json(rt.alloc(), input, json, no_fallback) {
-        Ok(file) => printed(rt, rt.write_all(&file)),
+        Ok(file) => printed(rt, print_bytes(rt, console, &file)),
         Err(error) => finish_json(rt, console, error),
     }
 }
 
 /// Compiles the JSON text `input` to the file `output`, as `compile_on` compiles a bundle text: the
 /// form is that of `resb json` (docs/JSON.md), and the file has the flag *no fallback* if
-/// `no_fallback` is set. Errors have a line, a column and a JSON pointer. `output` must not be a
-/// JSON text by its name (`.json`), either.
+/// `no_fallback` is set. Errors have a line, a column and a JSON pointer. `output` must not be
+/// a JSON text by its name (`.json`), either.
 pub fn compile_json_on<R: Files + RandomSource + Input + AllocGlobal + Print + Eprint>(
     rt: &R,
     console: Console,
     input: &str,
     output: &str,
-    no_fallback: bool,
+    (no_fallback, is_forced): (bool, bool),
 ) -> ExitCode {
     if output == "-" {
         let json = read_input_at_most(rt, input, MOST_READ);
         return print_compiled_json(rt, console, input, json, no_fallback);
     }
     let source = if input == "-" { STANDARD_INPUT } else { input };
-    let chosen = match chosen_json_output(rt, output, are_same_file(rt, source, output)) {
+    let wanted = Wanted {
+        is_input: are_same_file(rt, source, output),
+        is_forced,
+    };
+    let chosen = match chosen_json_output(rt, output, wanted) {
         Ok(chosen) => chosen,
         Err(error) => return finish(rt, console, error),
     };

@@ -2,17 +2,24 @@
 use crate::json_in::{JsonError, MOST_READ, file_of_json, finish_json};
 use json::Writer;
 use rb_console::{
-    CommandError, Console, Form, Given, JsonWriter, Refusal, StartError, all_given, finish,
+    CommandError, Console, EscapingWriter, Form, Given, Refusal, StartError, all_given, finish,
     is_text, made_of_each, not_started_on, printed, read_at_most, refused_on,
 };
-use rb_engine::{App, Change};
 use rb_format::is_short_enough;
 use rb_lexer::Tokens;
+use rb_packages::App;
 use std::alloc::{AllocError, Global};
 use std::io;
 use std::io::{BufWriter, Write};
 use std::process::ExitCode;
 use std::rt::Files;
+
+/// The kind of request that a line makes.
+#[derive(Clone, Copy, PartialEq, Eq)]
+pub enum Change {
+    Install,
+    Replace,
+}
 
 /// Returns the member `op` of a line that asks for a change.
 fn op_of(change: Change) -> &'static str {
@@ -128,7 +135,7 @@ fn write_lines<R: AllocGlobal + Print>(
 ) -> io::Result<()> {
     let alloc = rt.alloc();
     let buffer = BufWriter::new(alloc, io::writer(rt))?;
-    let mut out = JsonWriter::new(buffer, console.is_output_terminal);
+    let mut out = EscapingWriter::new(buffer, console.escapes());
     for (bundle, bytes) in bundles.iter().zip(contents) {
         let is_text = !is_json && is_text(bundle.file);
         let line = line_of(alloc, change, app, bundle, is_text, bytes)?;

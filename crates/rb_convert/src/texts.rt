@@ -1,5 +1,5 @@
 //! `resb text`.
-use rb_console::{Console, accepted, finish, printed, refused_on};
+use rb_console::{Console, accepted, finish, print_bytes, printed, refused_on};
 use rb_printer::{PrintError, print_bundle};
 use rb_tree::UnitList;
 use rb_validator::Bundle;
@@ -41,7 +41,7 @@ pub fn text<R: Files + AllocGlobal + Print + Eprint>(
         Err(error) => return finish(rt, console, error),
     };
     match bundle_text(rt.alloc(), name.unwrap_or(name_of(file)), &bundle) {
-        Ok(text) => printed(rt, rt.write_all(&text)),
+        Ok(text) => printed(rt, print_bytes(rt, console, &text)),
         Err(error) => refused_on(rt, console, file, error.word()),
     }
 }

@@ -1,17 +1,15 @@
 //! `resb json`: a whole item of a file as one JSON value.
-ghost use Rattle.std.specs.Prelude.{◌≡◌, ◌⊎◌, Ok, Err, IfOk, IfErr, option_map, string_bytes};
+ghost use Rattle.std.specs.Prelude.{◌≡◌, Ok, Err, IfOk, IfErr, option_map, true};
 ghost use Rattle.rb_tree.specs.Path.{IsPath, segments};
 ghost use Rattle.rb_tree.specs.Walk.{walk};
-ghost use Rattle.rb_convert.specs.declared.value.ValueError.TheVariants as errors;
-ghost use Rattle.rb_convert.specs.Whole.{reached, text_of, valued};
+ghost use Rattle.rb_json.specs.Printed.{is_within};
+ghost use Rattle.rb_convert.specs.Whole.{Prints, light, reached, shown};
 
-use crate::pretty::put_value;
 use rb_console::{Console, Printing, accepted, finish, printed, refused_on};
 use rb_fallback::{PATH_LIMIT, rest_behind};
-use rb_json::{JsonError, Layout, Outlet, is_within, json_text};
+use rb_json::{Layout, Outlet, is_within, put_value};
 use rb_tree::{Ending, Node, path_ok, walk};
 use rb_views::root;
-use std::alloc::Global;
 use std::io;
 use std::io::BufWriter;
 use std::process::ExitCode;
@@ -28,8 +26,6 @@ pub enum ValueError {
     Missing,
     /// The item has more levels or more weight than a bundle's tree may have.
     TooLarge,
-    /// Out of memory.
-    Memory,
 }
 
 /// Returns the item to which a path leads, or `None` if it leads nowhere or through an alias.
@@ -51,48 +47,31 @@ fn item_at<N: Node>(root: N, path: &[u8]) -> Option<N>
     }
 }
 
-/// Returns the text of the item to which a path leads.
-#[tactic(auto, using(crate::proofs::Shown::text_ok, crate::proofs::Shown::text_large, crate::proofs::Shown::text_none))]
-fn whole_text<N: Node>(
-    alloc: Global,
-    root: N,
-    path: &[u8],
-    layout: Layout,
-) -> Result<String, ValueError>
+/// Returns the item to which a path leads, if it is within the limits of a bundle's tree.
+#[tactic(auto, using(crate::proofs::Shown::light_ok, crate::proofs::Shown::light_large, crate::proofs::Shown::light_none))]
+fn light_item<N: Node>(root: N, path: &[u8]) -> Result<N, ValueError>
     requires { IsPath path.now }
-    ensures text { IfOk result (λ text. text_of layout
-        (reached (walk (N.tree root) (segments path.now))) ≡ Ok (string_bytes text)) }
-    ensures error { IfErr result (λ e. (e ≡ errors.Memory)
-        ⊎ (text_of layout (reached (walk (N.tree root) (segments path.now))) ≡ Err e)) }
+    ensures item { IfOk result
+        (λ node. light (reached (walk (N.tree root) (segments path.now))) ≡ Ok (N.tree node)) }
+    ensures within { IfOk result (λ node. is_within (N.tree node) ≡ true) }
+    ensures error { IfErr result
+        (λ e. light (reached (walk (N.tree root) (segments path.now))) ≡ Err e) }
 {
     let Some(node) = item_at(root, path) else {
         return Err(ValueError::Missing);
     };
-    match json_text(alloc, node, layout) {
-        Ok(text) => Ok(text),
-        Err(JsonError::TooLarge) => Err(ValueError::TooLarge),
-        Err(JsonError::Memory) => Err(ValueError::Memory),
+    if is_within(node) {
+        Ok(node)
+    } else {
+        Err(ValueError::TooLarge)
     }
 }
 
-/// Returns the whole item at a path within one tree as one JSON value, without fallback. An alias
-/// at the path's end is printed, and none is followed: the path must not lead through one. Errors:
-/// `BadPath`, then `PathTooLong`, then `Missing` if the path leads nowhere, then `TooLarge` if the
-/// item has more than 64 levels or a weight above 33,554,432; `Memory` if memory runs out.
-///
-/// ```rust
-/// value_at(alloc, &tree, b"a", Layout::Compact)? // ["x","y"]
-/// ```
-pub fn value_at<N: Node>(
-    alloc: Global,
-    root: N,
-    path: &[u8],
-    layout: Layout,
-) -> Result<String, ValueError>
-    ensures text { IfOk result
-        (λ text. valued layout (N.tree root) path.now ≡ Ok (string_bytes text)) }
-    ensures error { IfErr result
-        (λ e. (e ≡ errors.Memory) ⊎ (valued layout (N.tree root) path.now ≡ Err e)) }
+/// Returns the item that is printed for a path.
+fn shown_item<N: Node>(root: N, path: &[u8]) -> Result<N, ValueError>
+    ensures item { IfOk result (λ node. shown (N.tree root) path.now ≡ Ok (N.tree node)) }
+    ensures within { IfOk result (λ node. is_within (N.tree node) ≡ true) }
+    ensures error { IfErr result (λ e. shown (N.tree root) path.now ≡ Err e) }
 {
     if !path_ok(path) {
         return Err(ValueError::BadPath);
@@ -100,33 +79,36 @@ pub fn value_at<N: Node>(
     if path.len() > PATH_LIMIT {
         return Err(ValueError::PathTooLong);
     }
-    whole_text(alloc, root, path, layout)
+    light_item(root, path)
 }
 
-/// Returns the whole item at a path, if it is one that `value_at` has a text of.
-fn light_item<N: Node>(root: N, path: &[u8]) -> Result<N, ValueError> {
-    if !path_ok(path) {
-        return Err(ValueError::BadPath);
-    }
-    if path.len() > PATH_LIMIT {
-        return Err(ValueError::PathTooLong);
-    }
-    match item_at(root, path) {
-        Some(node) if is_within(node) => Ok(node),
-        Some(_) => Err(ValueError::TooLarge),
-        None => Err(ValueError::Missing),
-    }
-}
-
-/// Writes the text of `value_at` piece by piece, as it may be far longer than the file.
-fn put_text_at<O: Outlet, N: Node>(
+/// Writes the whole item at a path within one tree as one JSON value, without fallback. An alias
+/// at the path's end is printed, and none is followed: the path must not lead through one. Errors:
+/// `BadPath`, then `PathTooLong`, then `Missing` if the path leads nowhere, then `TooLarge` if the
+/// item has more than 64 levels or a weight above 33,554,432. It takes no memory, and writes
+/// nothing before an error.
+///
+/// ```rust
+/// put_value_at(out, &tree, b"a", Layout::Compact)? // ["x","y"]
+/// ```
+#[tactic(auto, using(crate::proofs::Shown::printed_item))]
+pub fn put_value_at<O: Outlet, N: Node>(
     out: &mut O,
-    alloc: Global,
     root: N,
     path: &[u8],
     layout: Layout,
-) -> Result<(), ValueError> {
-    put_value(out, alloc, light_item(root, path)?, layout)
+) -> Result<(), ValueError>
+    ensures text { IfOk result
+        (λ _. Prints (O.takes out.old out.new) layout (shown (N.tree root) path.now)) }
+    ensures error { IfErr result (λ e. shown (N.tree root) path.now ≡ Err e) }
+    ensures nothing { IfErr result (λ _. out.new ≡ out.old) }
+{
+    let node = match shown_item(root, path) {
+        Ok(node) => node,
+        Err(error) => return Err(error),
+    };
+    put_value(out, node, layout);
+    Ok(())
 }
 
 /// Prints the whole item of the file `name` at a path as one JSON value and a line feed, in a
@@ -148,10 +130,9 @@ pub fn json<R: Files + AllocGlobal + Print + Eprint>(
     let Ok(writer) = BufWriter::new(rt.alloc(), io::writer(rt)) else {
         return refused_on(rt, console, name, "Memory");
     };
-    let mut out = Printing::new(writer, true);
-    match put_text_at(&mut out, rt.alloc(), root(&bundle), path.as_bytes(), layout) {
+    let mut out = Printing::new(writer, console.json_escapes());
+    match put_value_at(&mut out, root(&bundle), path.as_bytes(), layout) {
         Ok(()) => printed(rt, out.end_line()),
-        Err(ValueError::Memory) => refused_on(rt, console, name, "Memory"),
         Err(ValueError::TooLarge) => refused_on(rt, console, name, "TooLarge"),
         Err(error) => refused_on(rt, console, path, error.word()),
     }

@@ -10,6 +10,6 @@ impl ValueError {
     pub fn word(self) -> &'static str
         ensures { result.now ≡ value_word self }
     {
-        variant_name!(self: ValueError { BadPath, PathTooLong, Missing, TooLarge, Memory })
+        variant_name!(self: ValueError { BadPath, PathTooLong, Missing, TooLarge })
     }
 }

@@ -1,5 +1,5 @@
 /// The result of comparing what a locale has at a key.
-#[derive(Clone, Copy, Debug, PartialEq, Eq, PartialOrd, Ord)]
+#[derive(Clone, Copy, PartialEq, Eq, PartialOrd, Ord)]
 pub enum Finding {
     /// The root has a String or an Array, and neither the locale nor one between them has anything.
     Missing,
@@ -34,7 +34,7 @@ impl Finding {
 }
 
 /// A finding in the locale whose bundle is at an index.
-#[derive(Clone, Copy, Debug, PartialEq, Eq)]
+#[derive(Clone, Copy, PartialEq, Eq)]
 pub struct Found {
     pub finding: Finding,
     pub locale: usize,

@@ -12,3 +12,4 @@ pub mod KeptOpen
 mod Places
 pub mod KeptFound
 pub mod Finding
+mod LastChanges

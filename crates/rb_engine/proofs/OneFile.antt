@@ -4,7 +4,7 @@ use Rattle.rb_tree.specs.SourceTree.{SourceTree}
 use Rattle.rb_parser.proofs.Wholes.{good_one}
 use Rattle.rb_writer.specs.Written.{IsWriterFile}
 use Rattle.rb_writer.proofs.Sole.{one_file}
-use Rattle.rb_engine.specs.Compiled.{IsCompiled}
+use Rattle.rb_compiler.specs.Compiled.{IsCompiled}
 
 pub one_compiled : (text file other : List ℕ) → IsCompiled text file → IsCompiled text other → file ≡ other
 one_compiled text file other f g =

@@ -5,9 +5,9 @@ use Rattle.std.specs.Prelude.{codes, is_ok, nat_eq, ◌⊎◌}
 use Rattle.std.specs.Cmp.Lexicographic.{pointwise}
 use Rattle.std.specs.Str.{bytes_eq}
 use Rattle.rb_tree.specs.SourceTree.{SourceTree}
-use Rattle.rb_lexer.specs.declared.fault.SourceKind.{SourceKind}
+use Rattle.rb_lexer.specs.declared.fault.SourceFault.{SourceFault}
 use Rattle.rb_lexer.specs.declared.fault.SourceKind.TheVariants as text
-use Rattle.rb_parser.specs.Source.{IsGoodSource}
+use Rattle.rb_parser.specs.Source.{IsGoodSource, IsRefusal}
 use Rattle.rb_format.specs.File.{source_tree_of}
 use Rattle.rb_locales.specs.Locale.{name}
 use Rattle.rb_parents.specs.Trail.{ParentsOf}
@@ -22,6 +22,7 @@ use Rattle.rb_engine.specs.Place.{place_of, place_by}
 use Rattle.rb_engine.specs.Kept.{state_over}
 use Rattle.rb_engine.specs.Start.{HasBundle}
 use Rattle.rb_engine.specs.Source.{HasNone, IsTextFault, Reads, Handles, change_request, unread_reply, not_installed_reply}
+use Rattle.rb_engine.specs.ReadFaults.{IsFirstFault}
 use Rattle.rb_engine.specs.Ask.{Requests, requester, RequestMeans, IsRead, IsContent, Content, spelled, denoted, unread}
 use Rattle.rb_engine.specs.Ask.{Ask, Installs, Replaces, Removes}
 use Rattle.rb_engine.specs.Answer.{Start, Replies, answer_over, bundles_after, refusal}
@@ -31,8 +32,8 @@ use Rattle.rb_engine.specs.declared.handle.Change.{Change}
 use Rattle.rb_engine.specs.declared.handle.Change.TheVariants as changes
 use Rattle.rb_engine.specs.declared.place.Place.{Place}
 use Rattle.rb_engine.specs.declared.place.PlaceFault.{PlaceFault}
-use Rattle.rb_engine.specs.declared.payload.PayloadFault.{PayloadFault}
-use Rattle.rb_engine.specs.declared.payload.PayloadFault.TheVariants as fault
+use Rattle.rb_engine.specs.declared.payload.ReadFault.{ReadFault}
+use Rattle.rb_engine.specs.declared.payload.ReadFault.TheVariants as fault
 use Rattle.rb_engine.specs.declared.request.Payload.{Payload}
 use Rattle.rb_engine.specs.declared.request.Payload.TheVariants.{Text, File}
 use Rattle.rb_engine.specs.declared.request.Request.{Request}
@@ -133,15 +134,15 @@ no_memory : (change : Change) (app locale : List ℕ) (payload : Payload) (s : S
 no_memory changes.Install app locale payload s h = out_of_memory (request.Install app locale payload) s h
 no_memory changes.Replace app locale payload s h = out_of_memory (request.Replace app locale payload) s h
 
-no_content : (change : Change) (app locale : List ℕ) (payload : Payload) (p : Place) (e : PayloadFault) (s : Stored)
+no_content : (change : Change) (app locale : List ℕ) (payload : Payload) (p : Place) (e : ReadFault) (s : Stored)
     → place_of app locale ≡ Ok p → HasNone payload e → Handles (change_request change app locale payload) (unread_reply e) s s
-no_content change app locale payload p fault.Memory s h k = no_memory change app locale payload s (rw h refl)
-no_content change app locale (Text bytes) p fault.BadText s h k =
+no_content change app locale payload p (fault.Refused r) s h k = rw k (no_memory change app locale payload s (rw h refl))
+no_content change app locale (Text bytes) p (fault.BadText e) s h k =
     brings_none change app locale (Text bytes) (spelled None) BadText s (rw h k) (rw h (no_text p))
-no_content change app locale (File bytes) p fault.BadFile s h k =
+no_content change app locale (File bytes) p (fault.BadFile e) s h k =
     brings_none change app locale (File bytes) (denoted None) BadFile s (rw h k) (rw h (no_file p))
-no_content change app locale (Text bytes) p fault.BadFile s h k = absurd k
-no_content change app locale (File bytes) p fault.BadText s h k = absurd k
+no_content change app locale (Text bytes) p (fault.BadFile e) s h k = absurd k
+no_content change app locale (File bytes) p (fault.BadText e) s h k = absurd k
 
 pub no_bundle : (change : Change) (app locale : List ℕ) (payload : Payload) (reply : Reply) (s : Stored)
     → Reads app locale payload (Err reply) → Handles (change_request change app locale payload) reply s s
@@ -150,10 +151,15 @@ no_bundle change app locale payload reply s (inl (e, h, m)) =
 no_bundle change app locale payload reply s (inr (p, e, h, k, m)) = rw m (no_content change app locale payload p e s h k)
 
 -- a text that is refused spells nothing, unless memory ran out
-pub text_none : (bytes : List ℕ) (kind : SourceKind) (e : PayloadFault) → IsTextFault kind e
-    → ((name : List ℕ) (source : SourceTree) → IsGoodSource bytes name source → kind ≡ text.Memory) → HasNone (Text bytes) e
-text_none bytes kind e (inl p) only = rw p.1 tt
-text_none bytes kind e (inr p) only = rw p.1 (λ name source good. p.0 (only name source good))
+pub text_none : (bytes : List ℕ) (bad : SourceFault) (e : ReadFault) → IsTextFault bad e
+    → ((name : List ℕ) (source : SourceTree) → IsGoodSource bytes name source → bad.kind ≡ text.Memory) → HasNone (Text bytes) e
+text_none bytes bad e (inl p) only = rw p.1 refl
+text_none bytes bad e (inr p) only = rw p.1 (λ name source good. p.0 (only name source good))
+
+pub text_first : (bytes : List ℕ) (bad : SourceFault) (e : ReadFault) → IsTextFault bad e → IsRefusal bytes bad
+    → IsFirstFault (Text bytes) e
+text_first bytes bad e (inl p) h = rw p.1 tt
+text_first bytes bad e (inr p) h = rw p.1 h
 
 -- ---- what a payload asks to put
 

@@ -2,7 +2,7 @@
 use Rattle.std.specs.Prelude.{◌≡◌, ℕ, List, [], ◌∷◌, ◌++◌, Result, Ok, Err}
 use Rattle.std.specs.Map.{set_value, remove_entry}
 use Rattle.std.specs.Str.{bytes_eq}
-use Rattle.rb_engine.specs.Compiled.{IsCompiled}
+use Rattle.rb_compiler.specs.Compiled.{IsCompiled}
 use Rattle.rb_packages.specs.Packages.{Files, Stored, files_of, OthersStay}
 use Rattle.rb_engine.specs.declared.handle.Change.{Change}
 use Rattle.rb_engine.specs.declared.handle.Change.TheVariants as changes

@@ -5,7 +5,7 @@ pub mod History
 pub mod Kept
 pub mod Start
 pub mod Source
-pub mod Compiled
+pub use Rattle.rb_compiler.specs.Compiled
 pub mod Change
 pub mod Steps
 pub mod Words

@@ -4,8 +4,8 @@ use Rattle.rb_parser.specs.Source.{IsRefusal}
 use Rattle.rb_format.specs.Checks.{first_fault}
 use Rattle.rb_engine.specs.declared.request.Payload.{Payload}
 use Rattle.rb_engine.specs.declared.request.Payload.TheVariants.{Text, File}
-use Rattle.rb_engine.specs.declared.judging.ReadFault.{ReadFault}
-use Rattle.rb_engine.specs.declared.judging.ReadFault.TheVariants.{Refused, BadText, BadFile}
+use Rattle.rb_engine.specs.declared.payload.ReadFault.{ReadFault}
+use Rattle.rb_engine.specs.declared.payload.ReadFault.TheVariants.{Refused, BadText, BadFile}
 
 -- the error of a text or of a file is the first that there is, as `compile` and `accept` report it
 abbrev pub IsFirstFault : Payload → ReadFault → Type 0

@@ -1,11 +1,9 @@
 -- Defines a payload's bundle, or the reason why it has none, and what a request with a payload asks.
 use Rattle.std.specs.Prelude.{◌≡◌, ◌⊎◌, ℕ, true, false, List, [], ◌∷◌, ◌++◌, None, Result, Ok, Err}
 use Rattle.rb_tree.specs.SourceTree.{SourceTree}
-use Rattle.rb_lexer.specs.declared.fault.SourceKind.{SourceKind}
+use Rattle.rb_lexer.specs.declared.fault.SourceFault.{SourceFault}
 use Rattle.rb_lexer.specs.declared.fault.SourceKind.TheVariants as text
 use Rattle.rb_format.specs.File.{source_tree_of}
-use Rattle.rb_format.specs.declared.fault.FileFault.{FileFault}
-use Rattle.rb_format.specs.declared.fault.FileFault.TheVariants as file
 use Rattle.rb_parents.specs.Trail.{ParentsOf}
 use Rattle.rb_packages.specs.Packages.{Stored}
 use Rattle.rb_packages.specs.Shelf.{Shelf, holds}
@@ -23,8 +21,8 @@ use Rattle.rb_engine.specs.declared.request.BundleSource.{BundleSource}
 use Rattle.rb_engine.specs.declared.request.BundleSource.TheVariants as sources
 use Rattle.rb_engine.specs.declared.request.Payload.{Payload}
 use Rattle.rb_engine.specs.declared.request.Payload.TheVariants.{Text, File}
-use Rattle.rb_engine.specs.declared.payload.PayloadFault.{PayloadFault}
-use Rattle.rb_engine.specs.declared.payload.PayloadFault.TheVariants as fault
+use Rattle.rb_engine.specs.declared.payload.ReadFault.{ReadFault}
+use Rattle.rb_engine.specs.declared.payload.ReadFault.TheVariants as fault
 use Rattle.rb_packages.specs.declared.fault.PackFault.{PackFault}
 use Rattle.rb_packages.specs.declared.fault.PackFault.TheVariants as pack
 use Rattle.rb_engine.specs.declared.request.Request.{Request}
@@ -39,27 +37,23 @@ abbrev pub payload_of : BundleSource → Payload
 payload_of (sources.Text text) = Text text.now
 payload_of (sources.File file) = File file
 
--- a payload without a bundle
-abbrev pub HasNone : Payload → PayloadFault → Type 0
-HasNone (Text bytes) fault.BadText = IsContent (Text bytes) (spelled None)
-HasNone (Text bytes) fault.BadFile = ⊥
-HasNone (Text bytes) fault.Memory = Unit {0}
-HasNone (File bytes) fault.BadText = ⊥
-HasNone (File bytes) fault.BadFile = IsContent (File bytes) (denoted None)
-HasNone (File bytes) fault.Memory = Unit {0}
+-- a payload without a bundle, or memory ran out
+abbrev pub HasNone : Payload → ReadFault → Type 0
+HasNone payload (fault.Refused r) = r ≡ reply.Memory
+HasNone (Text bytes) (fault.BadText e) = IsContent (Text bytes) (spelled None)
+HasNone (Text bytes) (fault.BadFile e) = ⊥
+HasNone (File bytes) (fault.BadText e) = ⊥
+HasNone (File bytes) (fault.BadFile e) = IsContent (File bytes) (denoted None)
 
 -- the file of a payload's bundle, or the reason why there is none
-abbrev pub BundleOrFault : Payload → Result (List ℕ) PayloadFault → Type 0
+abbrev pub BundleOrFault : Payload → Result (List ℕ) ReadFault → Type 0
 BundleOrFault payload (Ok file) = HasBundle payload (source_tree_of file)
 BundleOrFault payload (Err fault) = HasNone payload fault
 
 -- the error of a text as one of a payload; out of memory stays out of memory
-abbrev pub IsTextFault : SourceKind → PayloadFault → Type 0
-IsTextFault kind f = ((kind ≡ text.Memory) × (f ≡ fault.Memory)) ⊎ ((kind ≡ text.Memory → ⊥) × (f ≡ fault.BadText))
-
--- the error of a file as one of a payload
-abbrev pub IsFileFault : FileFault → PayloadFault → Type 0
-IsFileFault e f = ((e ≡ file.Memory) × (f ≡ fault.Memory)) ⊎ ((e ≡ file.Memory → ⊥) × (f ≡ fault.BadFile))
+abbrev pub IsTextFault : SourceFault → ReadFault → Type 0
+IsTextFault e f = ((e.kind ≡ text.Memory) × (f ≡ fault.Refused reply.Memory))
+    ⊎ ((e.kind ≡ text.Memory → ⊥) × (f ≡ fault.BadText e))
 
 -- the entry at an index is added at the end of a shelf, or rejected
 abbrev pub Adds : ℕ → List ℕ → Payload → Shelf → Result (Unit {0}) StartFault → Shelf → Type 0
@@ -74,10 +68,10 @@ Adds index name payload old (Err (start.Twice i)) new = (i ≡ index) × (source
 Adds index name payload old (Err start.Memory) new = Unit {0}
 
 -- the reply to a payload without a bundle
-abbrev pub unread_reply : PayloadFault → Reply
-unread_reply fault.BadText = reply.BadText
-unread_reply fault.BadFile = reply.BadFile
-unread_reply fault.Memory = reply.Memory
+abbrev pub unread_reply : ReadFault → Reply
+unread_reply (fault.Refused r) = r
+unread_reply (fault.BadText e) = reply.BadText
+unread_reply (fault.BadFile e) = reply.BadFile
 
 -- a request's names with the file of its payload's bundle; or the reply if they are invalid, or if the payload has no
 -- bundle
@@ -85,7 +79,7 @@ abbrev pub Reads : List ℕ → List ℕ → Payload → Result (Place × List �
 Reads app locale payload (Ok r) = (place_of app locale ≡ Ok r.0) × HasBundle payload (source_tree_of r.1)
 Reads app locale payload (Err reply) =
     ((e : PlaceFault) × (place_of app locale ≡ Err e) × (reply ≡ refusal e))
-    ⊎ ((p : Place) × (e : PayloadFault) × (place_of app locale ≡ Ok p) × HasNone payload e × (reply ≡ unread_reply e))
+    ⊎ ((p : Place) × (e : ReadFault) × (place_of app locale ≡ Ok p) × HasNone payload e × (reply ≡ unread_reply e))
 
 -- a request with a payload
 abbrev pub change_request : Change → List ℕ → List ℕ → Payload → Request

@@ -1,3 +1,4 @@
+pub mod LastChanges
 pub mod Opening
 pub mod KeptLocales
 pub mod PathFields

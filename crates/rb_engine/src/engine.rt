@@ -19,6 +19,7 @@ ghost use Rattle.rb_engine.specs.Place.{place_of as place_at};
 ghost use Rattle.rb_engine.specs.Steps.{takes_more, takes_more_from};
 ghost use Rattle.rb_engine.specs.Version.{is_current, next_version};
 ghost use Rattle.rb_engine.specs.OpenLocale.{IsOpenLocale, RefusesAll};
+ghost use Rattle.rb_engine.specs.inner.LastChanges.{AreUpTo};
 ghost use Rattle.rb_engine.specs.inner.KeptLocales.{AreKept};
 ghost use Rattle.rb_engine.specs.inner.KeptItems.{AreItemsKept};
 ghost use Rattle.rb_engine.specs.declared.request.Request.TheVariants.{Remove as Removal};
@@ -41,6 +42,7 @@ use crate::request::{LookFault, Payload, Reply, Request, TooManySteps};
 use crate::same_name::same_name;
 use crate::spot::is_short_text;
 use crate::start::{StartFault, load_all};
+use crate::versions::Versions;
 use rb_fallback::{BoundedError, Found, LookError, Watch, look_watched};
 use rb_locales::Name;
 use rb_packages::{App, BundleHint, Draft, Packages, Usage};
@@ -48,7 +50,7 @@ use rb_parents::Parents;
 use rb_validator::Bundle;
 use rb_views::Item;
 use std::alloc::{AllocError, Global};
-use std::hash::RandomState;
+use std::hash::{BuildHasher, Hasher, RandomState};
 use std::marker::Model;
 
 /// The bundles of many applications and of ICUDATA, with the explicit parents.
@@ -59,8 +61,7 @@ use std::marker::Model;
 pub struct Engine {
     packages: Packages,
     parents: Parents,
-    /// Rises with each change, up to the maximum.
-    version: u64,
+    versions: Versions,
     opened: OpenLocales,
     kept: KeptItems,
     hints: Hints,
@@ -74,12 +75,13 @@ impl Model for Engine {
     ghost view = { λ e. record {
       packages = e.packages;
       parents = family_pairs e.parents;
-      version = e.version;
+      version = e.versions.latest;
     } };
 
     ghost invariant = { λ e.
-        AreKept e.opened.slots.items e.packages (parent_of e.parents) e.version
-        × AreItemsKept e.kept.slots.items e.packages (parent_of e.parents) e.version };
+        AreKept e.opened.slots.items e.packages (parent_of e.parents) e.versions.groups e.versions.latest
+        × AreItemsKept e.kept.slots.items e.packages (parent_of e.parents) e.versions.groups
+        e.versions.latest × AreUpTo e.versions.groups e.versions.latest };
 }
 
 impl Engine {
@@ -101,12 +103,13 @@ impl Engine {
         ensures refused { IfErr result (IsRefused icudata.items) }
         ensures index { IfErr result (IsIndexed (length icudata.items)) }
     {
+        let version = first_version(&state);
         let mut packages = Packages::new(alloc, state);
         load_all(alloc, &mut packages, icudata)?;
         Ok(Engine {
             packages,
             parents,
-            version: 0,
+            versions: Versions::first(version),
             opened: OpenLocales::none(alloc),
             kept: KeptItems::none(alloc),
             hints: Hints::none(alloc),
@@ -200,14 +203,12 @@ impl Engine {
         let (place, bundle) = incoming.into_parts();
         match change {
             Change::Install => {
-                let reply = handle::install(&mut self.packages, &mut self.version, &place, bundle);
-                if let Reply::Done = reply {
-                    self.hints.note(&self.packages, &place);
-                }
+                let reply = handle::install(&mut self.packages, &mut self.versions, &place, bundle);
+                self.hints.note_installed(&reply, &self.packages, &place);
                 reply
             }
             Change::Replace => {
-                handle::replace(&mut self.packages, &mut self.version, &place, bundle)
+                handle::replace(&mut self.packages, &mut self.versions, &place, bundle)
             }
         }
     }
@@ -224,7 +225,7 @@ impl Engine {
         ensures unchanged { result ≢ Reply.Done → self.new ≡ self.old }
         ensures memory { result ≢ Reply.Memory }
     {
-        handle::remove(&mut self.packages, &mut self.version, app, locale)
+        handle::remove(&mut self.packages, &mut self.versions, app, locale)
     }
 
     /// Lists the names of an application's bundles, like `handle`: `Names`, `BadApp`, `Reserved` or
@@ -236,7 +237,7 @@ impl Engine {
         handle::list(&self.packages, alloc, app)
     }
 
-    /// Returns how much an application stores. Takes time linear in its number of bundles.
+    /// Returns how much an application stores.
     pub fn usage(&self, app: &App) -> Usage
         ensures bytes { result.bytes
             ≡ min (bytes_of (files_of app.now self.now.packages)) (2 ^ 64 - 1) }
@@ -297,9 +298,10 @@ impl Engine {
         ensures version { OnOk result (self.new.version ≡ next_version self.old.version) }
         ensures unchanged { OnErr result (self.new ≡ self.old) }
     {
+        let app = *draft.app();
         match self.packages.release(draft) {
             Ok(()) => {
-                self.version = self.version.saturating_add(1);
+                self.versions.rise(app.as_bytes());
                 Ok(())
             }
             Err(error) => Err(error),
@@ -333,10 +335,11 @@ impl Engine {
             ≡ answer_over (state_of self.now).start ((state_of self.now).lists app.now)
             (Looks app.now locale.now path.now) }
     {
-        if let Some(found) = self
+        let version = self.versions.of(app);
+        let kept = self
             .kept
-            .look(&self.packages, self.version, app, locale, path)
-        {
+            .look(&self.packages, version, app, locale, path, u64::MAX);
+        if let Some(found) = kept {
             return Ok(found);
         }
         match self.look_kept(app, locale, path) {
@@ -360,7 +363,7 @@ impl Engine {
         self.opened.look(
             &self.packages,
             &self.parents,
-            self.version,
+            self.versions.of(app),
             app,
             locale,
             path,
@@ -381,7 +384,7 @@ impl Engine {
         self.opened.find_item(
             &self.packages,
             &self.parents,
-            self.version,
+            self.versions.of(app),
             app,
             locale,
             path,
@@ -400,13 +403,16 @@ impl Engine {
             (Looks app.now locale.now path.now) }
     {
         let place = place_of(app, locale)?;
-        if place.app.as_bytes() != app || place.name.as_bytes() != locale {
+        let own_app = place.app.as_bytes();
+        let own_locale = place.name.as_bytes();
+        if own_app != app || own_locale != locale {
+            let version = self.versions.of(own_app);
             let opened = self.opened.look(
                 &self.packages,
                 &self.parents,
-                self.version,
-                place.app.as_bytes(),
-                place.name.as_bytes(),
+                version,
+                own_app,
+                own_locale,
                 path,
             );
             if let Some(found) = opened {
@@ -443,8 +449,53 @@ impl Engine {
         ensures more { OnErr result (takes_more steps (state_of self.now).start
             ((state_of self.now).lists app.now) (place_at app.now locale.now) path.now ≡ true) }
     {
+        let version = self.versions.of(app);
+        let kept = self
+            .kept
+            .look(&self.packages, version, app, locale, path, steps);
+        if let Some(found) = kept {
+            return Ok(Ok(found));
+        }
+        let opened = self.opened.look_within(
+            &self.packages,
+            &self.parents,
+            version,
+            app,
+            locale,
+            path,
+            steps,
+        );
+        match opened {
+            Some(found) => found,
+            None => self.look_named_within(app, locale, path, steps),
+        }
+    }
+
+    /// Looks up like `look_within` where no locale is kept open by these names.
+    fn look_named_within(
+        &self,
+        app: &[u8],
+        locale: &[u8],
+        path: &[u8],
+        steps: u64,
+    ) -> Result<Result<Found<Item<'_>>, LookFault>, TooManySteps>
+        ensures within { OnOk result (takes_more steps (state_of self.now).start
+            ((state_of self.now).lists app.now) (place_at app.now locale.now) path.now ≡ false) }
+        ensures found { IfOk result (λ found. look_response tree_seen found
+            ≡ answer_over (state_of self.now).start ((state_of self.now).lists app.now)
+            (Looks app.now locale.now path.now)) }
+        ensures more { OnErr result (takes_more steps (state_of self.now).start
+            ((state_of self.now).lists app.now) (place_at app.now locale.now) path.now ≡ true) }
+    {
         match place_of(app, locale) {
-            Ok(place) => look_in_within(&self.packages, &self.parents, &place, path, steps),
+            Ok(place) => look_in_within(
+                &self.packages,
+                &self.parents,
+                &place,
+                self.hints.next,
+                path,
+                steps,
+            ),
             Err(fault) => Ok(Err(LookFault::from(fault))),
         }
     }
@@ -468,7 +519,7 @@ impl Engine {
         ensures refused { IfErr result (RefusesAll self.now app.now locale.now) }
     {
         match place_of(app, locale) {
-            Ok(place) => open_at(&self.packages, &self.parents, &place, self.version),
+            Ok(place) => open_at(&self.packages, &self.parents, &place, self.versions.latest),
             Err(fault) => Err(LookFault::from(fault)),
         }
     }
@@ -488,13 +539,15 @@ impl Engine {
     pub fn keep_open(&mut self, app: &[u8], locale: &[u8])
         ensures { self.new ≡ self.old }
     {
-        if let Some(index) = self.opened.position(app, locale, self.version) {
+        let version = self.versions.of(app);
+        if let Some(index) = self.opened.position(app, locale, version) {
             self.opened.recent = index;
             return;
         }
         if let Ok(place) = place_of(app, locale) {
+            let version = self.versions.of(place.app.as_bytes());
             self.opened
-                .keep(&self.packages, &self.parents, self.version, &place);
+                .keep(&self.packages, &self.parents, version, &place);
         }
     }
 
@@ -507,19 +560,21 @@ impl Engine {
         Ok(())
     }
 
-    /// Keeps the place where a lookup ends, so that `look` finds the item there without a search.
+    /// Keeps the place where a lookup ends, so that `look`, and `look_within` with at least as many
+    /// steps, find the item there without a search. `steps` is `u64::MAX` if there is no limit.
     /// The first time it takes the hint where the bundle is (`keep_hints`), or opens the locale, like
     /// `keep_open`, if the locale was asked for before; once the place is kept it does nothing. A
     /// lookup is kept if it comes twice, by canonical names, and finds a String of at most 1,024
     /// units, and its path has at most 96 bytes before and after aliases. The lookups of one slot
     /// take turns, and any change forgets all of them. Allocates nothing.
-    pub fn keep_item(&mut self, app: &[u8], locale: &[u8], path: &[u8])
+    pub fn keep_item(&mut self, app: &[u8], locale: &[u8], path: &[u8], steps: u64)
         ensures { self.new ≡ self.old }
     {
-        match self.kept.ask(app, locale, path, self.version) {
+        let version = self.versions.of(app);
+        match self.kept.ask(app, locale, path, version) {
             Asked::Kept => {}
             Asked::First => self.keep_asked(app, locale),
-            Asked::Again => self.keep_found(app, locale, path),
+            Asked::Again => self.keep_found(app, locale, path, steps),
         }
     }
 
@@ -529,7 +584,8 @@ impl Engine {
         ensures { self.new ≡ self.old }
     {
         let hash = hash_of(app, locale);
-        match self.opened.ask(hash, app, locale, self.version) {
+        let version = self.versions.of(app);
+        match self.opened.ask(hash, app, locale, version) {
             Asked::Kept => {}
             Asked::Again => self.keep_open(app, locale),
             Asked::First => self.hints.prepare(&self.packages, hash, app, locale),
@@ -563,7 +619,7 @@ impl Engine {
 
     /// Keeps the place where a lookup ends, and opens its locale.
     #[tactic(auto, using(crate::proofs::Places::own_app))]
-    fn keep_found(&mut self, app: &[u8], locale: &[u8], path: &[u8])
+    fn keep_found(&mut self, app: &[u8], locale: &[u8], path: &[u8], steps: u64)
         ensures { self.new ≡ self.old }
     {
         self.keep_open(app, locale);
@@ -572,8 +628,8 @@ impl Engine {
             return;
         }
         if let Ok(place) = place_of(app, locale) {
-            self.kept
-                .keep(&self.packages, &self.parents, self.version, &place, path);
+            let version = self.versions.of(place.app.as_bytes());
+            self.kept.keep(&self.packages, &self.parents, version, &place, path, steps);
         }
     }
 
@@ -602,7 +658,7 @@ impl Engine {
             ≡ answer_over (state_of self.now).start ((state_of self.now).lists app)
             (Looks app locale path.now)) }
     {
-        if !is_current(opened.version, self.version) {
+        if !is_current(opened.version, self.versions.latest) {
             return Err(Stale);
         }
         Ok(look_opened(&self.packages, &self.parents, opened, path))
@@ -621,11 +677,17 @@ impl Engine {
             ≡ answer_over (state_of self.now).start ((state_of self.now).lists app)
             (Looks app locale path.now))) }
     {
-        if is_current(opened.version, self.version) {
+        if is_current(opened.version, self.versions.latest) {
             return Ok(find_opened(&self.packages, &self.parents, opened, path));
         }
         Err(Stale)
     }
+}
+
+/// Returns the version of a new engine. It is a hash, which differs between engines with different
+/// seeds, so that a locale that one engine opened is stale for the others.
+fn first_version(state: &RandomState) -> u64 {
+    state.build_hasher().finish() >> 1
 }
 
 impl From<LookError> for LookFault {
@@ -660,10 +722,11 @@ pub(crate) fn look_in<'a, W: Watch>(
     }
 }
 
-fn look_in_within<'a>(
+pub(crate) fn look_in_within<'a>(
     packages: &'a Packages,
     parents: &Parents,
     place: &Place,
+    hint: BundleHint,
     path: &[u8],
     steps: u64,
 ) -> Result<Result<Found<Item<'a>>, LookFault>, TooManySteps>
@@ -677,7 +740,7 @@ fn look_in_within<'a>(
         (bundle_at (list_of place.now.app packages.now)) (bundle_at (icudata_of packages.now))
         (parent_of parents.now) place.now.name path.now ≡ true) }
 {
-    let own = packages.shelf(&place.app);
+    let own = packages.shelf_near(&place.app, hint);
     match rb_fallback::look_within(own, packages.icu_shelf(), parents, &place.name, path, steps) {
         Ok(found) => Ok(Ok(found.with_node(found.node.item()))),
         Err(BoundedError::Search(error)) => Ok(Err(LookFault::from(error))),

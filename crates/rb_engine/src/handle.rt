@@ -7,18 +7,20 @@ ghost use Rattle.rb_engine.specs.Change.{Removes};
 ghost use Rattle.rb_engine.specs.Place.{place_of as place_at};
 ghost use Rattle.rb_engine.specs.Source.{Reads, Handles};
 ghost use Rattle.rb_engine.specs.Version.{next_version};
+ghost use Rattle.rb_engine.specs.inner.LastChanges.{HasChanged};
 ghost use Rattle.rb_engine.specs.declared.request.Payload.{Payload};
 ghost use Rattle.rb_engine.specs.declared.request.Request.TheVariants.{Install, Replace, Remove};
 ghost use Rattle.rb_engine.specs.declared.request.Request.TheVariants.{List as Lists};
 
 use crate::place::{Place, PlaceFault, place_of};
 use crate::request::{NameList, Reply};
+use crate::versions::Versions;
 use rb_packages::{App, PackFault, Packages};
 use rb_validator::Bundle;
 use std::alloc::Global;
 
 /// The kind of request that stores a bundle.
-#[derive(Clone, Copy, Debug, PartialEq, Eq)]
+#[derive(Clone, Copy, PartialEq, Eq)]
 pub enum Change {
     Install,
     Replace,
@@ -40,7 +42,7 @@ impl From<PackFault> for Reply {
 
 pub(crate) fn install(
     packages: &mut Packages,
-    version: &mut u64,
+    versions: &mut Versions,
     place: &Place,
     bundle: Bundle,
 ) -> Reply
@@ -54,13 +56,15 @@ pub(crate) fn install(
         → apps_of packages.new
         ≡ apps_of packages.old + more_apps (files_of place.now.app packages.old) }
     ensures others { OthersStay place.now.app packages.old packages.new }
-    ensures version { result ≡ Reply.Done → version.new ≡ next_version version.old }
+    ensures version { result ≡ Reply.Done → versions.new.latest ≡ next_version versions.old.latest }
+    ensures change { result ≡ Reply.Done
+        → HasChanged packages.old packages.new versions.old versions.new }
     ensures unchanged { result ≢ Reply.Done
-        → (packages.new ≡ packages.old) × (version.new ≡ version.old) }
+        → (packages.new ≡ packages.old) × (versions.new ≡ versions.old) }
 {
     match packages.install(&place.app, place.name, bundle) {
         Ok(()) => {
-            *version = version.saturating_add(1);
+            versions.rise(place.app.as_bytes());
             Reply::Done
         }
         Err((fault, _)) => Reply::from(fault),
@@ -69,7 +73,7 @@ pub(crate) fn install(
 
 pub(crate) fn replace(
     packages: &mut Packages,
-    version: &mut u64,
+    versions: &mut Versions,
     place: &Place,
     bundle: Bundle,
 ) -> Reply
@@ -83,26 +87,35 @@ pub(crate) fn replace(
         → apps_of packages.new
         ≡ apps_of packages.old + more_apps (files_of place.now.app packages.old) }
     ensures others { OthersStay place.now.app packages.old packages.new }
-    ensures version { result ≡ Reply.Done → version.new ≡ next_version version.old }
+    ensures version { result ≡ Reply.Done → versions.new.latest ≡ next_version versions.old.latest }
+    ensures change { result ≡ Reply.Done
+        → HasChanged packages.old packages.new versions.old versions.new }
     ensures unchanged { result ≢ Reply.Done
-        → (packages.new ≡ packages.old) × (version.new ≡ version.old) }
+        → (packages.new ≡ packages.old) × (versions.new ≡ versions.old) }
     ensures memory { result ≢ Reply.Memory }
 {
     match packages.replace(&place.app, &place.name, bundle) {
         Ok(_) => {
-            *version = version.saturating_add(1);
+            versions.rise(place.app.as_bytes());
             Reply::Done
         }
         Err(_) => Reply::Absent,
     }
 }
 
-pub(crate) fn remove(packages: &mut Packages, version: &mut u64, app: &[u8], locale: &[u8]) -> Reply
+pub(crate) fn remove(
+    packages: &mut Packages,
+    versions: &mut Versions,
+    app: &[u8],
+    locale: &[u8],
+) -> Reply
     ensures step { Handles (Remove app.now locale.now) result packages.old packages.new }
     ensures removed { Removes (place_at app.now locale.now) result packages.old packages.new }
-    ensures version { result ≡ Reply.Done → version.new ≡ next_version version.old }
+    ensures version { result ≡ Reply.Done → versions.new.latest ≡ next_version versions.old.latest }
+    ensures change { result ≡ Reply.Done
+        → HasChanged packages.old packages.new versions.old versions.new }
     ensures unchanged { result ≢ Reply.Done
-        → (packages.new ≡ packages.old) × (version.new ≡ version.old) }
+        → (packages.new ≡ packages.old) × (versions.new ≡ versions.old) }
     ensures memory { result ≢ Reply.Memory }
 {
     let place = match place_of(app, locale) {
@@ -111,7 +124,7 @@ pub(crate) fn remove(packages: &mut Packages, version: &mut u64, app: &[u8], loc
     };
     match packages.remove(&place.app, &place.name) {
         Ok(_) => {
-            *version = version.saturating_add(1);
+            versions.rise(place.app.as_bytes());
             Reply::Done
         }
         Err(_) => Reply::Absent,

@@ -1,5 +1,6 @@
 //! Hints where bundles are, so that a lookup by names finds its bundle without a search.
 use crate::place::{Place, hash_of, place_of};
+use crate::request::Reply;
 use rb_packages::{BundleHint, Packages};
 use std::alloc::{AllocError, Global};
 
@@ -146,6 +147,13 @@ impl Hints {
                 self.put(hash, hint);
             }
             _ => self.forget(hash),
+        }
+    }
+
+    /// Notes where a bundle is if the reply to its install says that it is there.
+    pub(crate) fn note_installed(&mut self, reply: &Reply, packages: &Packages, place: &Place) {
+        if let Reply::Done = reply {
+            self.note(packages, place);
         }
     }
 

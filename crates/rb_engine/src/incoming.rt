@@ -1,15 +1,19 @@
-ghost use Rattle.std.specs.Prelude.{◌≡◌, [], ◌∷◌, ◌++◌, Ok, Some, IfOk, IfErr, OnOk, OnErr, length};
+ghost use Rattle.std.specs.Prelude.{◌≡◌, [], ◌∷◌, ◌++◌, Ok, Err, Some, IfOk, IfErr, OnOk, OnErr, length};
 ghost use Rattle.std.specs.Str.{bytes_eq};
 ghost use Rattle.indexmap.specs.IndexMap.{insert_entry};
 ghost use Rattle.rb_packages.specs.Release.{put_fault, IsDraftJudged};
-ghost use Rattle.rb_engine.specs.Source.{Reads, payload_of};
+ghost use Rattle.rb_engine.specs.Answer.{refusal};
+ghost use Rattle.rb_engine.specs.Place.{place_of as placed};
+ghost use Rattle.rb_engine.specs.Source.{HasNone, Reads, payload_of};
+ghost use Rattle.rb_engine.specs.declared.place.Place.{Place};
+ghost use Rattle.rb_engine.specs.declared.place.PlaceFault.{PlaceFault};
 ghost use Rattle.rb_engine.specs.Change.{IsFileOf};
 ghost use Rattle.rb_engine.specs.ReadFaults.{IsFirstFault};
 
-use crate::judging::{ReadFault, judged_bundle};
-use crate::payload::{bundle_of, payload_bundle};
+use crate::payload::{ReadFault, bundle_of, payload_bundle};
 use crate::place::{Place, place_of};
 use crate::request::{BundleSource, Payload, Reply};
+use rb_locales::Name;
 use rb_packages::{App, Draft, DraftFault};
 use rb_validator::Bundle;
 use std::alloc::Global;
@@ -53,7 +57,7 @@ impl IncomingBundle {
     }
 
     /// Reads an incoming bundle like `read`, and reports what is wrong with a text or a file: the
-    /// first error that `compile` or `accept` finds.
+    /// first error that `compile` or `accept` finds. Invalid names are reported first.
     pub fn judge(
         alloc: Global,
         app: &[u8],
@@ -64,15 +68,32 @@ impl IncomingBundle {
             (λ incoming. Reads app.now locale.now (payload_of source.entry) (Ok incoming)) }
         ensures file { IfOk result (λ incoming. IsFileOf (payload_of source.entry) incoming.1) }
         ensures first { IfErr result (IsFirstFault (payload_of source.entry)) }
+        ensures names { (e : PlaceFault) → placed app.now locale.now ≡ Err e
+            → result ≡ Err (ReadFault.Refused (refusal e)) }
+        ensures payload { (place : Place) → placed app.now locale.now ≡ Ok place
+            → IfErr result (HasNone (payload_of source.entry)) }
     {
         let place = match place_of(app, locale) {
             Ok(place) => place,
             Err(fault) => return Err(ReadFault::Refused(Reply::from(fault))),
         };
-        match judged_bundle(alloc, source) {
+        match bundle_of(alloc, source) {
             Ok(bundle) => Ok(IncomingBundle { place, bundle }),
             Err(fault) => Err(fault),
         }
+    }
+
+    /// Names a bundle that was accepted before.
+    pub fn of(app: &App, name: &Name, bundle: Bundle) -> IncomingBundle
+        ensures app { result.0.app ≡ app.now }
+        ensures name { result.0.name ≡ name.now }
+        ensures bundle { result.1 ≡ bundle }
+    {
+        let place = Place {
+            app: *app,
+            name: *name,
+        };
+        IncomingBundle { place, bundle }
     }
 
     /// Adds the bundle to the changes of a draft, under its locale's name.

@@ -1,5 +1,6 @@
 //! The places that an engine keeps where lookups ended that came more than once.
-ghost use Rattle.std.specs.Prelude.{◌≡◌, ◌<◌, ◌≤◌, ℕ, IfOk, IfSome, Ok, length, true};
+ghost use Rattle.std.specs.Prelude.{◌≡◌, ◌<◌, ◌≤◌, ℕ, List, IfOk, IfSome, Ok, OnSome, false, length};
+ghost use Rattle.std.specs.Prelude.{true};
 ghost use Rattle.std.specs.Bool.{OnTrue};
 ghost use Rattle.rb_parents.specs.Family.{parent_of};
 ghost use Rattle.rb_parents.specs.Trail.{ParentsOf};
@@ -9,17 +10,19 @@ ghost use Rattle.rb_packages.specs.App.{app_of};
 ghost use Rattle.rb_packages.specs.Packages.{Stored};
 ghost use Rattle.rb_engine.specs.Answer.{Finds};
 ghost use Rattle.rb_engine.specs.Place.{place_of};
-ghost use Rattle.rb_engine.specs.Version.{is_current};
-ghost use Rattle.rb_engine.specs.inner.KeptItems.{AreItemsKept, IsAnswer};
-ghost use Rattle.rb_engine.specs.inner.KeptLocales.{IsAnsweredFor};
+ghost use Rattle.rb_engine.specs.Version.{is_current, last_version};
+ghost use Rattle.rb_engine.specs.inner.LastChanges.{version_in};
+ghost use Rattle.rb_engine.specs.inner.KeptItems.{AreItemsKept, IsAnswer, IsWithinSteps};
+ghost use Rattle.rb_engine.specs.inner.KeptLocales.{IsAnsweredFor, TakesMoreFor};
 
 use crate::asked::Asked;
+use crate::engine::look_in_within;
 use crate::kept_path::KeptPath;
 use crate::open_locale::is_current;
 use crate::place::Place;
 use crate::spot::{Spot, spot_of};
 use rb_fallback::Found;
-use rb_packages::Packages;
+use rb_packages::{BundleHint, Packages};
 use rb_parents::Parents;
 use rb_views::Item;
 use std::alloc::{AllocError, Global};
@@ -32,6 +35,8 @@ pub(crate) struct KeptItem {
     pub(crate) place: Place,
     pub(crate) path: KeptPath,
     pub(crate) spot: Spot,
+    /// A number of steps that suffices for the lookup.
+    pub(crate) steps: u64,
 }
 
 /// The hashes that belong to a slot.
@@ -133,8 +138,8 @@ impl KeptItem {
 
 impl KeptItems {
     pub(crate) fn none(alloc: Global) -> KeptItems
-        ensures { (packages : Stored) → (parents : ParentsOf) → (version : ℕ)
-            → AreItemsKept result.slots.items packages parents version }
+        ensures { (packages : Stored) → (parents : ParentsOf) → (versions : List ℕ)
+            → (latest : ℕ) → AreItemsKept result.slots.items packages parents versions latest }
     {
         KeptItems {
             slots: Vec::new(alloc),
@@ -146,7 +151,8 @@ impl KeptItems {
     /// Makes a table with this many empty slots.
     pub(crate) fn with_slots(alloc: Global, count: usize) -> Result<KeptItems, AllocError>
         ensures { IfOk result (λ items. (packages : Stored) → (parents : ParentsOf)
-            → (version : ℕ) → AreItemsKept items.slots.items packages parents version) }
+            → (versions : List ℕ) → (latest : ℕ)
+            → AreItemsKept items.slots.items packages parents versions latest) }
     {
         Ok(KeptItems {
             slots: vec![in alloc; None; count]?,
@@ -157,11 +163,13 @@ impl KeptItems {
 
     /// Returns the item that was kept for a lookup in this version, if it was asked for last.
     fn find(&self, app: &[u8], locale: &[u8], path: &[u8], version: u64) -> Option<&KeptItem>
-        ensures { (packages : Stored) → (parents : ParentsOf)
-            → AreItemsKept self.now.slots.items packages parents version → IfSome result
+        ensures { (packages : Stored) → (parents : ParentsOf) → (versions : List ℕ)
+            → (latest : ℕ) → version ≡ version_in versions app.now
+            → AreItemsKept self.now.slots.items packages parents versions latest → IfSome result
             (λ item. (item.now.place.app ≡ app.now) × (item.now.place.name ≡ locale.now)
             × (item.now.path ≡ path.now) × IsAnswer item.now packages parents
-            × (place_of item.now.place.app item.now.place.name ≡ Ok item.now.place)) }
+            × (place_of item.now.place.app item.now.place.name ≡ Ok item.now.place)
+            × IsWithinSteps item.now packages parents) }
     {
         if self.recent >= self.slots.len() {
             return None;
@@ -179,9 +187,9 @@ impl KeptItems {
 
     /// Asks for the item of a lookup, which `look` then finds if it is kept, and notes that.
     pub(crate) fn ask(&mut self, app: &[u8], locale: &[u8], path: &[u8], version: u64) -> Asked
-        ensures { (packages : Stored) → (parents : ParentsOf) → (now : ℕ)
-            → AreItemsKept self.old.slots.items packages parents now
-            → AreItemsKept self.new.slots.items packages parents now }
+        ensures { (packages : Stored) → (parents : ParentsOf) → (versions : List ℕ)
+            → (latest : ℕ) → AreItemsKept self.old.slots.items packages parents versions latest
+            → AreItemsKept self.new.slots.items packages parents versions latest }
     {
         let hash = hash_of(app, locale, path, version);
         let Some(index) = index_of(hash, self.tags.len()) else {
@@ -196,7 +204,8 @@ impl KeptItems {
         self.tags[index].ask(hash)
     }
 
-    /// Returns what a lookup finds whose item is kept in this version and was asked for last.
+    /// Returns what a lookup in at most this many steps finds whose item is kept in this version and
+    /// was asked for last.
     pub(crate) fn look<'a>(
         &self,
         packages: &'a Packages,
@@ -204,17 +213,32 @@ impl KeptItems {
         app: &[u8],
         locale: &[u8],
         path: &[u8],
+        steps: u64,
     ) -> Option<Found<Item<'a>>>
-        ensures { (parents : ParentsOf)
-            → AreItemsKept self.now.slots.items packages.now parents version
+        ensures within { (parents : ParentsOf) → (versions : List ℕ) → (latest : ℕ)
+            → version ≡ version_in versions app.now
+            → AreItemsKept self.now.slots.items packages.now parents versions latest
+            → OnSome result (TakesMoreFor false steps packages.now parents app.now locale.now
+            path.now) }
+        ensures found { (parents : ParentsOf) → (versions : List ℕ) → (latest : ℕ)
+            → version ≡ version_in versions app.now
+            → AreItemsKept self.now.slots.items packages.now parents versions latest
             → IfSome result (λ f. IsAnsweredFor (Finds (hit_of tree_seen f) f.valid) packages.now
             parents app.now locale.now path.now) }
     {
         let item = self.find(app, locale, path, version)?;
-        item.spot.find(packages)
+        if item.steps > steps {
+            return None;
+        }
+        let hint = BundleHint {
+            app: item.spot.app,
+            ..BundleHint::NONE
+        };
+        let own = packages.shelf_near(&item.place.app, hint);
+        item.spot.find(own, packages.icu_shelf())
     }
 
-    /// Keeps where a lookup ends, if it finds a short text.
+    /// Keeps where a lookup ends, if it finds a short text in at most this many steps.
     pub(crate) fn keep(
         &mut self,
         packages: &Packages,
@@ -222,13 +246,20 @@ impl KeptItems {
         version: u64,
         place: &Place,
         path: &[u8],
+        steps: u64,
     )
         requires { app_of place.now.app ≡ Ok place.now.app }
-        ensures { AreItemsKept self.old.slots.items packages.now (parent_of parents.now) version
-            → AreItemsKept self.new.slots.items packages.now (parent_of parents.now) version }
+        ensures { (versions : List ℕ) → (latest : ℕ)
+            → version ≡ version_in versions place.now.app
+            → (version < last_version → version ≤ latest)
+            → AreItemsKept self.old.slots.items packages.now (parent_of parents.now) versions latest
+            → AreItemsKept self.new.slots.items packages.now (parent_of parents.now) versions latest }
     {
         let hash = hash_of(place.app.as_bytes(), place.name.as_bytes(), path, version);
         let Some(index) = index_of(hash, self.slots.len()) else {
+            return;
+        };
+        let Ok(_) = look_in_within(packages, parents, place, BundleHint::NONE, path, steps) else {
             return;
         };
         let Some(path) = KeptPath::of(path) else {
@@ -240,6 +271,7 @@ impl KeptItems {
                 place: *place,
                 path,
                 spot,
+                steps,
             });
             self.recent = index;
             note_kept(&mut self.tags, index, hash);

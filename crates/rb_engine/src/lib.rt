@@ -4,13 +4,11 @@
 
 mod app_shelves;
 mod asked;
-mod compiling;
 mod engine;
 mod handle;
 mod hints;
 mod incoming;
 mod item_shelf;
-mod judging;
 mod kept_items;
 mod kept_path;
 pub mod laws;
@@ -22,16 +20,17 @@ mod request;
 mod same_name;
 mod spot;
 mod start;
+mod versions;
 mod words;
 
 pub use app_shelves::AppShelves;
-pub use compiling::compile;
 pub use engine::Engine;
 pub use handle::Change;
 pub use hints::Upcoming;
 pub use incoming::IncomingBundle;
-pub use judging::ReadFault;
 pub use open_locale::{OpenLocale, Stale};
+pub use payload::ReadFault;
+pub use rb_compiler::compile;
 pub use rb_packages::{App, AppFault, BUNDLE_LIMIT, Draft, DraftFault, Usage};
 pub use request::{BundleSource, LookFault, NameList, Payload, Reply, Request, TooManySteps};
 pub use start::StartFault;

@@ -1,6 +1,6 @@
 //! A locale of an application that is read once and looked up from often.
 ghost use Rattle.std.specs.Prelude.{◌≡◌, ◌<◌, ◌≤◌, ◌+◌, ◌∷◌, ◌++◌, [], ℕ, List, Err, IfErr, IfOk};
-ghost use Rattle.std.specs.Prelude.{length, slice_get, true};
+ghost use Rattle.std.specs.Prelude.{OnErr, OnOk, false, length, slice_get, true};
 ghost use Rattle.rb_tree.specs.Path.{is_path};
 ghost use Rattle.rb_parents.specs.Answers.{trail_of};
 ghost use Rattle.rb_parents.specs.Family.{parent_of};
@@ -12,19 +12,22 @@ ghost use Rattle.rb_packages.specs.Positions.{files_at_index};
 ghost use Rattle.rb_packages.specs.Shelf.{bundle_at};
 ghost use Rattle.rb_fallback.specs.FoundNode.{IsNodeOf};
 ghost use Rattle.rb_fallback.specs.Limits.{path_limit};
+ghost use Rattle.rb_fallback.specs.Steps.{trail_length};
 ghost use Rattle.rb_fallback.specs.Stops.{AreStopsOf};
 ghost use Rattle.rb_engine.specs.Answer.{Refuses, lookup_in};
 ghost use Rattle.rb_engine.specs.LookResponse.{look_response};
 ghost use Rattle.rb_engine.specs.OpenLocale.{opened_stop, stop_indices};
+ghost use Rattle.rb_engine.specs.Steps.{takes_more_from};
 ghost use Rattle.rb_engine.specs.Version.{is_current};
+ghost use Rattle.rb_engine.specs.inner.KeptLocales.{IsOpenOver};
 ghost use Rattle.rb_engine.specs.inner.Opening.{HasStops};
 ghost use Rattle.rb_engine.specs.declared.request.LookFault.TheVariants as Faults;
 
 use crate::item_shelf::ItemShelf;
 use crate::place::Place;
-use crate::request::LookFault;
+use crate::request::{LookFault, TooManySteps};
 use crate::same_name::same_name;
-use rb_fallback::{Found, Stops, find_from, look_from};
+use rb_fallback::{BoundedError, Found, Stops, find_from, look_from, look_from_within};
 use rb_locales::Name;
 use rb_packages::{AppShelf, Packages};
 use rb_parents::{Next, Parents, TRAIL_LIMIT, TrailFault, visit};
@@ -44,10 +47,12 @@ pub struct OpenLocale {
     pub count: usize,
     /// The indices of the stops' bundles, followed by zeros.
     pub stops: [usize; TRAIL_LIMIT],
+    /// The number of the trail's names, each of which takes steps under a limit.
+    pub names: u8,
 }
 
 /// The engine has changed since the locale was opened, so it has to be opened again.
-#[derive(Clone, Copy, Debug, PartialEq, Eq)]
+#[derive(Clone, Copy, PartialEq, Eq)]
 pub struct Stale;
 
 /// Returns true if nothing has changed since an engine had the version that was read. Of the last
@@ -107,6 +112,8 @@ fn read_stops(
         × (trail (bundles_lent own.entry) (parent_of parents.now) name.now ≡ names ns)
         × HasStops opened (files_in own.entry) ns) }
     ensures version { IfOk result (λ opened. opened.version ≡ version) }
+    ensures names { IfOk result (λ opened. opened.names
+        ≡ trail_length (trail (bundles_lent own.entry) (parent_of parents.now) name.now)) }
     ensures fault { IfErr result (λ e. trail (bundles_lent own.entry) (parent_of parents.now)
         name.now ≡ trail_of (Err e)) }
 {
@@ -115,6 +122,7 @@ fn read_stops(
         app: 0,
         count: 0,
         stops: [0; TRAIL_LIMIT],
+        names: 0,
     };
     let mut here = *name;
     for i in 0..TRAIL_LIMIT {
@@ -122,7 +130,10 @@ fn read_stops(
         opened.add_name(own, &here, stop.is_some());
         match next {
             Next::Name(name) => here = name,
-            Next::End => return Ok(opened),
+            Next::End => {
+                opened.names = i as u8 + 1;
+                return Ok(opened);
+            }
             Next::Bad => return Err(TrailFault::BadParent),
         }
     }
@@ -152,6 +163,9 @@ pub(crate) fn open_at(
         (opened_stop opened (files_of place.now.app packages.now))
         (bundle_at (list_of place.now.app packages.now)) (parent_of parents.now) place.now.name) }
     ensures version { IfOk result (λ opened. opened.version ≡ version) }
+    ensures names { IfOk result (λ opened. opened.names
+        ≡ trail_length (trail (bundle_at (list_of place.now.app packages.now))
+        (parent_of parents.now) place.now.name)) }
     ensures refused { IfErr result (λ e. (path : List ℕ) → is_path path ≡ true
         → length path ≤ path_limit
         → lookup_in (bundle_at (list_of place.now.app packages.now))
@@ -175,7 +189,93 @@ pub(crate) fn open_at(
     }
 }
 
-/// Looks a path up from an opened locale, over the bundles that its application has now.
+/// Looks a path up from an opened locale over the bundles of an application and of ICUDATA.
+pub(crate) fn look_over<'a>(
+    own: AppShelf<'a>,
+    icu: AppShelf<'a>,
+    parents: &Parents,
+    opened: &OpenLocale,
+    path: &[u8],
+) -> Result<Found<Item<'a>>, LookFault>
+    ensures { (name : List ℕ) → AreStopsOf (opened_stop opened.now (files_in own.entry))
+        (bundles_lent own.entry) (parent_of parents.now) name
+        → look_response tree_seen result ≡ lookup_in (bundles_lent own.entry)
+        (bundles_lent icu.entry) (parent_of parents.now) name path.now }
+{
+    let stops = OpenStops { own, opened };
+    let found = look_from(
+        stops,
+        ItemShelf { shelf: own },
+        ItemShelf { shelf: icu },
+        parents,
+        path,
+    );
+    match found {
+        Ok(found) => Ok(found),
+        Err(error) => Err(LookFault::from(error)),
+    }
+}
+
+/// Looks a path up as `look_over` does, in at most this many steps.
+pub(crate) fn look_over_within<'a>(
+    own: AppShelf<'a>,
+    icu: AppShelf<'a>,
+    parents: &Parents,
+    opened: &OpenLocale,
+    path: &[u8],
+    steps: u64,
+) -> Result<Result<Found<Item<'a>>, LookFault>, TooManySteps>
+    ensures within { (name : List ℕ)
+        → IsOpenOver opened.now (files_in own.entry) (parent_of parents.now) name → OnOk result
+        (takes_more_from steps (bundles_lent own.entry) (bundles_lent icu.entry)
+        (parent_of parents.now) name path.now ≡ false) }
+    ensures found { (name : List ℕ)
+        → IsOpenOver opened.now (files_in own.entry) (parent_of parents.now) name → IfOk result
+        (λ found. look_response tree_seen found ≡ lookup_in (bundles_lent own.entry)
+        (bundles_lent icu.entry) (parent_of parents.now) name path.now) }
+    ensures more { (name : List ℕ)
+        → IsOpenOver opened.now (files_in own.entry) (parent_of parents.now) name → OnErr result
+        (takes_more_from steps (bundles_lent own.entry) (bundles_lent icu.entry)
+        (parent_of parents.now) name path.now ≡ true) }
+{
+    let stops = OpenStops { own, opened };
+    let (own, icu) = (ItemShelf { shelf: own }, ItemShelf { shelf: icu });
+    match look_from_within(stops, opened.names, own, icu, parents, path, steps) {
+        Ok(found) => Ok(Ok(found)),
+        Err(BoundedError::Search(error)) => Ok(Err(LookFault::from(error))),
+        Err(BoundedError::TooManySteps) => Err(TooManySteps),
+    }
+}
+
+/// Finds the item at a path as `look_over` does, without the names of bundles.
+pub(crate) fn find_over<'a>(
+    own: AppShelf<'a>,
+    icu: AppShelf<'a>,
+    parents: &Parents,
+    opened: &OpenLocale,
+    path: &[u8],
+) -> Result<Item<'a>, LookFault>
+    ensures { IsNodeOf result (λ found. (name : List ℕ)
+        → AreStopsOf (opened_stop opened.now (files_in own.entry)) (bundles_lent own.entry)
+        (parent_of parents.now) name
+        → look_response tree_seen found ≡ lookup_in (bundles_lent own.entry)
+        (bundles_lent icu.entry) (parent_of parents.now) name path.now) }
+{
+    let stops = OpenStops { own, opened };
+    let found = find_from(
+        stops,
+        ItemShelf { shelf: own },
+        ItemShelf { shelf: icu },
+        parents,
+        path,
+    );
+    match found {
+        Ok(item) => Ok(item),
+        Err(error) => Err(LookFault::from(error)),
+    }
+}
+
+/// Looks a path up from an opened locale, over the bundles that the application at its index has.
 pub(crate) fn look_opened<'a>(
     packages: &'a Packages,
     parents: &Parents,
@@ -191,19 +291,7 @@ pub(crate) fn look_opened<'a>(
         (bundle_at (icudata_of packages.now)) (parent_of parents.now) name path.now }
 {
     let own = packages.shelf_at(opened.app);
-    let icu = packages.icu_shelf();
-    let stops = OpenStops { own, opened };
-    let found = look_from(
-        stops,
-        ItemShelf { shelf: own },
-        ItemShelf { shelf: icu },
-        parents,
-        path,
-    );
-    match found {
-        Ok(found) => Ok(found),
-        Err(error) => Err(LookFault::from(error)),
-    }
+    look_over(own, packages.icu_shelf(), parents, opened, path)
 }
 
 /// Finds the item at a path as `look_opened` does, without the names of bundles.
@@ -222,19 +310,7 @@ pub(crate) fn find_opened<'a>(
         (bundle_at (icudata_of packages.now)) (parent_of parents.now) name path.now) }
 {
     let own = packages.shelf_at(opened.app);
-    let icu = packages.icu_shelf();
-    let stops = OpenStops { own, opened };
-    let found = find_from(
-        stops,
-        ItemShelf { shelf: own },
-        ItemShelf { shelf: icu },
-        parents,
-        path,
-    );
-    match found {
-        Ok(item) => Ok(item),
-        Err(error) => Err(LookFault::from(error)),
-    }
+    find_over(own, packages.icu_shelf(), parents, opened, path)
 }
 
 /// The stops of an opened locale over some bundles.

@@ -1,22 +1,27 @@
 //! The locales that an engine keeps open for its lookups.
-ghost use Rattle.std.specs.Prelude.{◌≡◌, ◌<◌, ◌≤◌, ℕ, IfOk, IfSome, Ok, length, true};
+ghost use Rattle.std.specs.Prelude.{◌≡◌, ◌<◌, ◌≤◌, ℕ, List, IfOk, IfSome, Ok, OnErr, OnOk, length};
+ghost use Rattle.std.specs.Prelude.{false, true};
 ghost use Rattle.std.specs.Bool.{OnTrue};
 ghost use Rattle.rb_parents.specs.Family.{parent_of};
 ghost use Rattle.rb_views.specs.Seen.{tree_seen};
 ghost use Rattle.rb_packages.specs.App.{app_of};
-ghost use Rattle.rb_packages.specs.Packages.{Stored};
+ghost use Rattle.rb_packages.specs.Lent.{bundles_lent, files_in};
+ghost use Rattle.rb_packages.specs.Packages.{Stored, files_of, list_of};
+ghost use Rattle.rb_packages.specs.Shelf.{bundle_at};
 ghost use Rattle.rb_parents.specs.Trail.{ParentsOf};
 ghost use Rattle.rb_fallback.specs.FoundNode.{IsNodeOf};
 ghost use Rattle.rb_engine.specs.LookResponse.{look_response};
-ghost use Rattle.rb_engine.specs.Version.{is_current};
+ghost use Rattle.rb_engine.specs.Version.{is_current, last_version};
+ghost use Rattle.rb_engine.specs.inner.LastChanges.{version_in};
 ghost use Rattle.rb_engine.specs.inner.KeptLocales.{AreKept, IsAnsweredFor, IsOpenFor};
+ghost use Rattle.rb_engine.specs.inner.KeptLocales.{TakesMoreFor};
 
 use crate::asked::Asked;
-use crate::open_locale::{OpenLocale, find_opened, is_current, look_opened, open_at};
+use crate::open_locale::{OpenLocale, find_over, is_current, look_over, look_over_within, open_at};
 use crate::place::{Place, hash_of};
-use crate::request::LookFault;
+use crate::request::{LookFault, TooManySteps};
 use rb_fallback::Found;
-use rb_packages::Packages;
+use rb_packages::{AppShelf, BundleHint, Packages};
 use rb_parents::Parents;
 use rb_views::Item;
 use std::alloc::{AllocError, Global};
@@ -107,12 +112,25 @@ impl Slot {
             && self.place.app.as_bytes() == app
             && self.place.name.as_bytes() == locale
     }
+
+    /// Returns the bundles of the slot's application, which most often is where it was.
+    fn shelf<'a>(&self, packages: &'a Packages) -> AppShelf<'a>
+        ensures bundles { bundles_lent result
+            ≡ bundle_at (list_of self.now.place.app packages.now) }
+        ensures files { files_in result ≡ files_of self.now.place.app packages.now }
+    {
+        let hint = BundleHint {
+            app: self.opened.app,
+            ..BundleHint::NONE
+        };
+        packages.shelf_near(&self.place.app, hint)
+    }
 }
 
 impl OpenLocales {
     pub(crate) fn none(alloc: Global) -> OpenLocales
-        ensures { (packages : Stored) → (parents : ParentsOf) → (version : ℕ)
-            → AreKept result.slots.items packages parents version }
+        ensures { (packages : Stored) → (parents : ParentsOf) → (versions : List ℕ)
+            → (latest : ℕ) → AreKept result.slots.items packages parents versions latest }
     {
         OpenLocales {
             slots: Vec::new(alloc),
@@ -126,7 +144,8 @@ impl OpenLocales {
     /// Makes a table with this many empty slots.
     pub(crate) fn with_slots(alloc: Global, count: usize) -> Result<OpenLocales, AllocError>
         ensures { IfOk result (λ locales. (packages : Stored) → (parents : ParentsOf)
-            → (version : ℕ) → AreKept locales.slots.items packages parents version) }
+            → (versions : List ℕ) → (latest : ℕ)
+            → AreKept locales.slots.items packages parents versions latest) }
     {
         Ok(OpenLocales {
             slots: vec![in alloc; None; count]?,
@@ -167,9 +186,9 @@ impl OpenLocales {
 
     /// Asks for a locale by its names and their hash, which `look` then finds if it is open.
     pub(crate) fn ask(&mut self, hash: u64, app: &[u8], locale: &[u8], version: u64) -> Asked
-        ensures { (packages : Stored) → (parents : ParentsOf) → (now : ℕ)
-            → AreKept self.old.slots.items packages parents now
-            → AreKept self.new.slots.items packages parents now }
+        ensures { (packages : Stored) → (parents : ParentsOf) → (versions : List ℕ)
+            → (latest : ℕ) → AreKept self.old.slots.items packages parents versions latest
+            → AreKept self.new.slots.items packages parents versions latest }
     {
         if let Some(index) = self.position_of(hash, app, locale, version) {
             self.recent = index;
@@ -187,10 +206,11 @@ impl OpenLocales {
     }
 
     /// Returns the locale of a slot, if it is the one by these names and open in this version.
-    fn at(&self, index: usize, app: &[u8], locale: &[u8], version: u64) -> Option<&OpenLocale>
-        ensures { (packages : Stored) → (parents : ParentsOf)
-            → AreKept self.now.slots.items packages parents version → IfSome result
-            (λ opened. IsOpenFor opened.now packages parents app.now locale.now) }
+    fn at(&self, index: usize, app: &[u8], locale: &[u8], version: u64) -> Option<&Slot>
+        ensures { (packages : Stored) → (parents : ParentsOf) → (versions : List ℕ)
+            → (latest : ℕ) → version ≡ version_in versions app.now
+            → AreKept self.now.slots.items packages parents versions latest → IfSome result
+            (λ slot. IsOpenFor slot.now packages parents app.now locale.now) }
     {
         if index >= self.slots.len() {
             return None;
@@ -198,7 +218,7 @@ impl OpenLocales {
         match &self.slots[index] {
             Some(slot) => {
                 if slot.has(app, locale, version) {
-                    return Some(&slot.opened);
+                    return Some(slot);
                 }
                 None
             }
@@ -207,13 +227,14 @@ impl OpenLocales {
     }
 
     /// Returns the locale by these names, if it is open in this version.
-    fn find(&self, app: &[u8], locale: &[u8], version: u64) -> Option<&OpenLocale>
-        ensures { (packages : Stored) → (parents : ParentsOf)
-            → AreKept self.now.slots.items packages parents version → IfSome result
-            (λ opened. IsOpenFor opened.now packages parents app.now locale.now) }
+    fn find(&self, app: &[u8], locale: &[u8], version: u64) -> Option<&Slot>
+        ensures { (packages : Stored) → (parents : ParentsOf) → (versions : List ℕ)
+            → (latest : ℕ) → version ≡ version_in versions app.now
+            → AreKept self.now.slots.items packages parents versions latest → IfSome result
+            (λ slot. IsOpenFor slot.now packages parents app.now locale.now) }
     {
         match self.at(self.recent, app, locale, version) {
-            Some(opened) => Some(opened),
+            Some(slot) => Some(slot),
             None => {
                 let hash = hash_of(app, locale);
                 if hash == self.absent {
@@ -254,12 +275,45 @@ impl OpenLocales {
         locale: &[u8],
         path: &[u8],
     ) -> Option<Result<Found<Item<'a>>, LookFault>>
-        ensures { AreKept self.now.slots.items packages.now (parent_of parents.now) version
+        ensures { (versions : List ℕ) → (latest : ℕ) → version ≡ version_in versions app.now
+            → AreKept self.now.slots.items packages.now (parent_of parents.now) versions latest
             → IfSome result (λ found. IsAnsweredFor (look_response tree_seen found) packages.now
             (parent_of parents.now) app.now locale.now path.now) }
     {
-        let opened = self.find(app, locale, version)?;
-        Some(look_opened(packages, parents, opened, path))
+        let slot = self.find(app, locale, version)?;
+        let own = slot.shelf(packages);
+        let icu = packages.icu_shelf();
+        Some(look_over(own, icu, parents, &slot.opened, path))
+    }
+
+    /// Looks a path up as `look` does, in at most this many steps.
+    pub(crate) fn look_within<'a>(
+        &self,
+        packages: &'a Packages,
+        parents: &Parents,
+        version: u64,
+        app: &[u8],
+        locale: &[u8],
+        path: &[u8],
+        steps: u64,
+    ) -> Option<Result<Result<Found<Item<'a>>, LookFault>, TooManySteps>>
+        ensures within { (versions : List ℕ) → (latest : ℕ) → version ≡ version_in versions app.now
+            → AreKept self.now.slots.items packages.now (parent_of parents.now) versions latest
+            → IfSome result (λ r. OnOk r (TakesMoreFor false steps packages.now
+            (parent_of parents.now) app.now locale.now path.now)) }
+        ensures found { (versions : List ℕ) → (latest : ℕ) → version ≡ version_in versions app.now
+            → AreKept self.now.slots.items packages.now (parent_of parents.now) versions latest
+            → IfSome result (λ r. IfOk r (λ found. IsAnsweredFor (look_response tree_seen found)
+            packages.now (parent_of parents.now) app.now locale.now path.now)) }
+        ensures more { (versions : List ℕ) → (latest : ℕ) → version ≡ version_in versions app.now
+            → AreKept self.now.slots.items packages.now (parent_of parents.now) versions latest
+            → IfSome result (λ r. OnErr r (TakesMoreFor true steps packages.now
+            (parent_of parents.now) app.now locale.now path.now)) }
+    {
+        let slot = self.find(app, locale, version)?;
+        let own = slot.shelf(packages);
+        let icu = packages.icu_shelf();
+        Some(look_over_within(own, icu, parents, &slot.opened, path, steps))
     }
 
     /// Finds the item at a path as `look` does, without the names of bundles.
@@ -272,13 +326,16 @@ impl OpenLocales {
         locale: &[u8],
         path: &[u8],
     ) -> Option<Result<Item<'a>, LookFault>>
-        ensures { AreKept self.now.slots.items packages.now (parent_of parents.now) version
+        ensures { (versions : List ℕ) → (latest : ℕ) → version ≡ version_in versions app.now
+            → AreKept self.now.slots.items packages.now (parent_of parents.now) versions latest
             → IfSome result (λ item. IsNodeOf item (λ found. IsAnsweredFor
             (look_response tree_seen found) packages.now (parent_of parents.now) app.now locale.now
             path.now)) }
     {
-        let opened = self.find(app, locale, version)?;
-        Some(find_opened(packages, parents, opened, path))
+        let slot = self.find(app, locale, version)?;
+        let own = slot.shelf(packages);
+        let icu = packages.icu_shelf();
+        Some(find_over(own, icu, parents, &slot.opened, path))
     }
 
     /// Opens a locale over the bundles of this version, unless it is open. An error leaves the slot
@@ -291,8 +348,11 @@ impl OpenLocales {
         place: &Place,
     )
         requires { app_of place.now.app ≡ Ok place.now.app }
-        ensures { AreKept self.old.slots.items packages.now (parent_of parents.now) version
-            → AreKept self.new.slots.items packages.now (parent_of parents.now) version }
+        ensures { (versions : List ℕ) → (latest : ℕ)
+            → version ≡ version_in versions place.now.app
+            → (version < last_version → version ≤ latest)
+            → AreKept self.old.slots.items packages.now (parent_of parents.now) versions latest
+            → AreKept self.new.slots.items packages.now (parent_of parents.now) versions latest }
     {
         let app = place.app.as_bytes();
         let locale = place.name.as_bytes();

@@ -1,75 +1,62 @@
-ghost use Rattle.std.specs.Prelude.{◌≡◌, IfOk};
-ghost use Rattle.rb_engine.specs.Compiled.{IsCompiled};
+//! Reads a payload as a bundle, or reports the first error of its text or file.
+ghost use Rattle.std.specs.Prelude.{◌≡◌, IfOk, IfErr};
+ghost use Rattle.rb_compiler.specs.Compiled.{IsCompiled};
 ghost use Rattle.rb_engine.specs.Source.{BundleOrFault, payload_of};
 ghost use Rattle.rb_engine.specs.Change.{IsFileOf};
+ghost use Rattle.rb_engine.specs.ReadFaults.{IsFirstFault};
 ghost use Rattle.rb_engine.specs.declared.request.Payload.TheVariants.{Text, File};
 
-use crate::compiling::compile;
 use crate::request::{BundleSource, Payload, Reply};
-use crate::same_name::same_name;
+use rb_compiler::compile;
 use rb_format::FileFault;
 use rb_lexer::{SourceFault, SourceKind};
 use rb_tree::ByteList;
 use rb_validator::{Bundle, accept};
-use std::alloc::{AllocError, Global};
+use std::alloc::Global;
 
-/// The reason why a payload isn't a bundle.
-#[derive(Clone, Copy, Debug, PartialEq, Eq)]
-pub(crate) enum PayloadFault {
-    BadText,
-    BadFile,
-    Memory,
+/// The reason why an incoming bundle isn't read.
+#[derive(Debug, Drop)]
+pub enum ReadFault {
+    /// The names are invalid, or out of memory.
+    Refused(Reply),
+    /// The first error of the text, which isn't a valid bundle text.
+    BadText(SourceFault),
+    /// The first error of the file, which isn't a valid bundle.
+    BadFile(FileFault),
 }
 
-impl From<AllocError> for PayloadFault {
-    ghost use Rattle.rb_engine.specs.declared.payload.PayloadFault.TheVariants as faults;
-
-    ghost from_gives = { λ _ f. f ≡ faults.Memory };
-
-    fn from(_: AllocError) -> Self {
-        PayloadFault::Memory
-    }
-}
-
-impl From<SourceFault> for PayloadFault {
-    ghost use Rattle.rb_engine.specs.Source.{IsTextFault};
-
-    ghost from_gives = { λ e f. IsTextFault e.kind f };
-
-    fn from(fault: SourceFault) -> Self {
-        match fault.kind {
-            SourceKind::Memory => PayloadFault::Memory,
-            _ => PayloadFault::BadText,
-        }
-    }
-}
-
-impl From<FileFault> for PayloadFault {
-    ghost use Rattle.rb_engine.specs.Source.{IsFileFault};
-
-    ghost from_gives = { λ e f. IsFileFault e f };
-
-    fn from(fault: FileFault) -> Self {
-        match fault {
-            FileFault::Memory => PayloadFault::Memory,
-            _ => PayloadFault::BadFile,
-        }
-    }
-}
-
-impl From<PayloadFault> for Reply {
+impl From<ReadFault> for Reply {
     ghost use Rattle.rb_engine.specs.Source.{unread_reply};
 
     ghost from_gives = { λ e r. r ≡ unread_reply e };
 
-    fn from(fault: PayloadFault) -> Self {
-        same_name!(fault: PayloadFault => Reply { BadText, BadFile, Memory })
+    fn from(fault: ReadFault) -> Self {
+        match fault {
+            ReadFault::Refused(reply) => reply,
+            ReadFault::BadText(_) => Reply::BadText,
+            ReadFault::BadFile(_) => Reply::BadFile,
+        }
+    }
+}
+
+impl From<SourceFault> for ReadFault {
+    ghost use Rattle.rb_engine.specs.Source.{IsTextFault};
+
+    ghost from_gives = { λ e f. IsTextFault e f };
+
+    /// Converts the error of a text: out of memory isn't one of the text.
+    fn from(fault: SourceFault) -> Self {
+        match fault.kind {
+            SourceKind::Memory => ReadFault::Refused(Reply::Memory),
+            _ => ReadFault::BadText(fault),
+        }
     }
 }
 
 /// Parses a text, writes it as a file and accepts that.
-fn text_bundle(alloc: Global, text: &[u8]) -> Result<Bundle, PayloadFault>
+fn text_bundle(alloc: Global, text: &[u8]) -> Result<Bundle, ReadFault>
     ensures bundle { BundleOrFault (Text text.now) result }
+    ensures first { IfErr result (IsFirstFault (Text text.now)) }
     ensures file { IfOk result (λ file. IsCompiled text.now file) }
 {
     rb_format::laws::a_tree_or_a_fault();
@@ -79,25 +66,28 @@ fn text_bundle(alloc: Global, text: &[u8]) -> Result<Bundle, PayloadFault>
         Err((fault, _)) => {
             let is_memory = fault == FileFault::Memory;
             prove!(is_memory);
-            Err(PayloadFault::Memory)
+            Err(ReadFault::Refused(Reply::Memory))
         }
     }
 }
 
-fn file_bundle(alloc: Global, file: ByteList) -> Result<Bundle, PayloadFault>
+fn file_bundle(alloc: Global, file: ByteList) -> Result<Bundle, ReadFault>
     ensures bundle { BundleOrFault (File file) result }
+    ensures first { IfErr result (IsFirstFault (File file)) }
     ensures file { IfOk result (λ bundle. bundle ≡ file) }
 {
     rb_format::laws::a_tree_or_a_fault();
     match accept(alloc, file.into_vec()) {
         Ok(bundle) => Ok(bundle),
-        Err((fault, _)) => Err(PayloadFault::from(fault)),
+        Err((FileFault::Memory, _)) => Err(ReadFault::Refused(Reply::Memory)),
+        Err((fault, _)) => Err(ReadFault::BadFile(fault)),
     }
 }
 
-/// Reads a bundle, or returns `BadText`, `BadFile` or `Memory`.
-pub(crate) fn bundle_of(alloc: Global, source: BundleSource<'_>) -> Result<Bundle, PayloadFault>
+/// Reads a bundle, or returns its first error.
+pub(crate) fn bundle_of(alloc: Global, source: BundleSource<'_>) -> Result<Bundle, ReadFault>
     ensures bundle { BundleOrFault (payload_of source.entry) result }
+    ensures first { IfErr result (IsFirstFault (payload_of source.entry)) }
     ensures file { IfOk result (IsFileOf (payload_of source.entry)) }
 {
     match source {
@@ -106,9 +96,8 @@ pub(crate) fn bundle_of(alloc: Global, source: BundleSource<'_>) -> Result<Bundl
     }
 }
 
-pub(crate) fn payload_bundle(alloc: Global, payload: Payload) -> Result<Bundle, PayloadFault>
+pub(crate) fn payload_bundle(alloc: Global, payload: Payload) -> Result<Bundle, ReadFault>
     ensures bundle { BundleOrFault payload result }
-    ensures file { IfOk result (IsFileOf payload) }
 {
     match payload {
         Payload::Text(text) => text_bundle(alloc, text.as_slice()),

@@ -5,7 +5,7 @@ use rb_tree::ByteList;
 use std::marker::Model;
 
 /// The payload of a request, from which a bundle is read.
-#[derive(Debug, Drop)]
+#[derive(Drop)]
 pub enum Payload {
     Text(ByteList),
     File(ByteList),
@@ -19,7 +19,7 @@ pub enum BundleSource<'a> {
 }
 
 /// A request of an application, with unchecked names.
-#[derive(Debug, Drop)]
+#[derive(Drop)]
 pub enum Request {
     Install {
         app: ByteList,

@@ -3,9 +3,9 @@ ghost use Rattle.std.specs.Prelude.{◌≡◌, ℕ, List, IfSome};
 ghost use Rattle.std.specs.Bool.{OnTrue};
 ghost use Rattle.rb_fallback.specs.Answers.{hit_of};
 ghost use Rattle.rb_views.specs.Seen.{tree_seen, units_seen};
-ghost use Rattle.rb_engine.specs.inner.KeptItems.{IsAtSpot, spot_files};
+ghost use Rattle.rb_engine.specs.inner.KeptItems.{IsAtSpot};
 ghost use Rattle.rb_packages.specs.Lent.{files_in};
-ghost use Rattle.rb_packages.specs.Packages.{icudata_of, list_of};
+ghost use Rattle.rb_packages.specs.Packages.{files_of, icudata_files, icudata_of, list_of};
 ghost use Rattle.rb_packages.specs.Shelf.{bundle_at};
 ghost use Rattle.rb_parents.specs.Family.{parent_of};
 ghost use Rattle.rb_fallback.specs.Search.{Hit};
@@ -26,7 +26,7 @@ use rb_views::{Item, Units};
 pub(crate) struct Spot {
     /// True if the item is in a bundle of ICUDATA, and not of the application.
     pub(crate) icudata: bool,
-    /// The index of the application.
+    /// The index of the application then.
     pub(crate) app: usize,
     /// The index of the bundle with the item.
     pub(crate) actual: usize,
@@ -37,28 +37,18 @@ pub(crate) struct Spot {
 }
 
 impl Spot {
-    fn shelf<'a>(&self, packages: &'a Packages) -> AppShelf<'a>
-        ensures { files_in result ≡ spot_files self.now packages.now }
+    /// Finds the item that is there now, among the bundles of the application or of ICUDATA.
+    pub(crate) fn find<'a>(&self, own: AppShelf<'a>, icu: AppShelf<'a>) -> Option<Found<Item<'a>>>
+        ensures { IfSome result (λ f. IsAtSpot self.now (files_in own.entry) (files_in icu.entry)
+            (hit_of tree_seen f) f.valid) }
     {
-        if self.icudata {
-            packages.icu_shelf()
-        } else {
-            packages.shelf_at(self.app)
-        }
-    }
-
-    /// Finds the item that is there now.
-    pub(crate) fn find<'a>(&self, packages: &'a Packages) -> Option<Found<Item<'a>>>
-        ensures { IfSome result
-            (λ f. IsAtSpot self.now packages.now (hit_of tree_seen f) f.valid) }
-    {
-        let shelf = self.shelf(packages);
+        let shelf = if self.icudata { icu } else { own };
         let root = shelf.root_at(self.actual)?;
         let Ending::End(node) = walk(root.item(), self.path.as_slice()) else {
             return None;
         };
         let actual = shelf.name_at(self.actual)?;
-        let valid = packages.shelf_at(self.app).name_at(self.valid)?;
+        let valid = own.name_at(self.valid)?;
         Some(Found {
             node,
             actual,
@@ -139,7 +129,7 @@ pub(crate) fn spot_of(
     path: &KeptPath,
 ) -> Option<Spot>
     ensures { IfSome result (λ spot. (hit : Hit) → (valid : List ℕ)
-        → IsAtSpot spot packages.now hit valid
+        → IsAtSpot spot (files_of place.now.app packages.now) (icudata_files packages.now) hit valid
         → lookup_in (bundle_at (list_of place.now.app packages.now))
         (bundle_at (icudata_of packages.now)) (parent_of parents.now) place.now.name path.now
         ≡ Finds hit valid) }
@@ -153,11 +143,8 @@ pub(crate) fn spot_of(
         return None;
     };
     let own = packages.shelf(&place.app);
-    let shelf = if last.icudata {
-        packages.icu_shelf()
-    } else {
-        own
-    };
+    let icu = packages.icu_shelf();
+    let shelf = if last.icudata { icu } else { own };
     let spot = Spot {
         icudata: last.icudata,
         app: packages.app_index(&place.app)?,
@@ -165,7 +152,7 @@ pub(crate) fn spot_of(
         valid: own.index_of(&found.valid)?,
         path: last.path?,
     };
-    match spot.find(packages) {
+    match spot.find(own, icu) {
         Some(there) if is_same_found(&there, &found) => Some(spot),
         _ => None,
     }

@@ -3,7 +3,7 @@ ghost use Rattle.rb_packages.specs.Packages.{icudata_of, list_of};
 ghost use Rattle.rb_engine.specs.Start.{Loads, IsRefused};
 ghost use Rattle.rb_engine.specs.Source.{Adds};
 
-use crate::payload::{PayloadFault, payload_bundle};
+use crate::payload::{ReadFault, payload_bundle};
 use crate::request::Payload;
 use rb_locales::Name;
 use rb_packages::{PackFault, Packages};
@@ -37,9 +37,9 @@ fn load(
 {
     let bundle = match payload_bundle(alloc, payload) {
         Ok(bundle) => bundle,
-        Err(PayloadFault::BadText) => return Err(StartFault::BadText(index)),
-        Err(PayloadFault::BadFile) => return Err(StartFault::BadFile(index)),
-        Err(PayloadFault::Memory) => return Err(StartFault::Memory),
+        Err(ReadFault::BadText(_)) => return Err(StartFault::BadText(index)),
+        Err(ReadFault::BadFile(_)) => return Err(StartFault::BadFile(index)),
+        Err(ReadFault::Refused(_)) => return Err(StartFault::Memory),
     };
     match packages.load(name, bundle) {
         Ok(()) => Ok(()),

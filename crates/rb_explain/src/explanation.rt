@@ -8,7 +8,7 @@ use crate::words::{
 use std::fmt;
 
 /// The subject of an error code: an input, a step or memory.
-#[derive(Clone, Copy, Debug, PartialEq, Eq)]
+#[derive(Clone, Copy, PartialEq, Eq)]
 pub enum Of {
     /// A bundle text.
     Text,
@@ -35,28 +35,31 @@ pub enum Of {
 }
 
 impl Of {
-    pub fn explanations(self) -> &'static [Explanation] {
+    /// Returns the explanations of the error codes of this subject, a line each, which
+    /// `Explanation::read` reads.
+    pub fn explanations(self) -> &'static str {
         match self {
-            Of::Text => &OF_TEXT,
-            Of::File => &OF_FILE,
-            Of::Path => &OF_PATH,
-            Of::Printing => &OF_PRINTING,
-            Of::Value => &OF_VALUE,
-            Of::Json => &OF_JSON,
-            Of::Start => &OF_START,
-            Of::Request => &OF_REQUEST,
-            Of::Lookup => &OF_LOOKUP,
-            Of::Serving => &OF_SERVING,
-            Of::Memory => &OF_MEMORY,
+            Of::Text => OF_TEXT,
+            Of::File => OF_FILE,
+            Of::Path => OF_PATH,
+            Of::Printing => OF_PRINTING,
+            Of::Value => OF_VALUE,
+            Of::Json => OF_JSON,
+            Of::Start => OF_START,
+            Of::Request => OF_REQUEST,
+            Of::Lookup => OF_LOOKUP,
+            Of::Serving => OF_SERVING,
+            Of::Memory => OF_MEMORY,
         }
     }
 
     /// Finds the explanation of an error code of this subject, ignoring case.
-    pub fn explanation(self, word: &str) -> Option<&'static Explanation>
+    pub fn explanation(self, word: &str) -> Option<Explanation>
         ensures { IfSome result
-            (λ e. map to_ascii_lowercase e.now.word.now ≡ map to_ascii_lowercase word.now) }
+            (λ e. map to_ascii_lowercase e.word.now ≡ map to_ascii_lowercase word.now) }
     {
-        for explanation in self.explanations() {
+        for line in self.explanations().lines() {
+            let explanation = Explanation::read(self, line);
             if explanation.word.eq_ignore_ascii_case(word) {
                 return Some(explanation);
             }
@@ -84,7 +87,7 @@ impl fmt::Display for Of {
 }
 
 /// The explanation of an error code.
-#[derive(Clone, Copy, Debug)]
+#[derive(Clone, Copy)]
 pub struct Explanation {
     pub word: &'static str,
     pub of: Of,
@@ -92,6 +95,30 @@ pub struct Explanation {
     pub meaning: &'static str,
     pub cause: &'static str,
     pub remedy: &'static str,
+}
+
+/// Splits a text at its first tab.
+fn split(text: &'static str) -> (&'static str, &'static str) {
+    match text.split_once('\t') {
+        Some(parts) => parts,
+        None => (text, ""),
+    }
+}
+
+impl Explanation {
+    /// Reads a line of a subject's explanations.
+    pub fn read(of: Of, line: &'static str) -> Explanation {
+        let (word, rest) = split(line);
+        let (meaning, rest) = split(rest);
+        let (cause, remedy) = split(rest);
+        Explanation {
+            word,
+            of,
+            meaning,
+            cause,
+            remedy,
+        }
+    }
 }
 
 impl fmt::Display for Explanation {

@@ -1,850 +1,493 @@
-//! The explanations: the rows of docs/TROUBLESHOOTING.md, with a line of meaning.
-use crate::explanation::{Explanation, Of};
+//! The explanations: the rows of docs/TROUBLESHOOTING.md, with a line of meaning. A line is a word, its
+//! meaning, cause and remedy, with tabs between. As one text a table takes the prover a second; as an array
+//! of rows, a time that grows with the square of their number.
 
-pub(crate) const OF_TEXT: [Explanation; 14] = [
-    Explanation {
-        word: "NotUtf8",
-        of: Of::Text,
-        meaning: "the text has a byte at which no character of UTF-8 can be read",
-        cause: "the text is in another encoding, often Latin-1 or UTF-16",
-        remedy: "iconv -f LATIN1 -t UTF-8, or -f UTF-16",
-    },
-    Explanation {
-        word: "BadEscape",
-        of: Of::Text,
-        meaning: "a backslash begins no escape",
-        cause: "a backslash that is meant as itself, as in a Windows path; \\u with too few digits; \\x{..} or \\c",
-        remedy: "write \\\\; write four digits after \\u, eight after \\U, one or two after \\x",
-    },
-    Explanation {
-        word: "OpenQuote",
-        of: Of::Text,
-        meaning: "a quoted piece is never closed",
-        cause: "a missing \", or one that a \\ escapes",
-        remedy: "the line is the last of the text; resb lint says where the quote was lost",
-    },
-    Explanation {
-        word: "OpenComment",
-        of: Of::Text,
-        meaning: "a comment that begins with /* is never closed",
-        cause: "a missing */; /*/ isn't a whole comment",
-        remedy: "the line is the last of the text",
-    },
-    Explanation {
-        word: "Unexpected",
-        of: Of::Text,
-        meaning: "a token stands where the grammar has none, or the text ends too early",
-        cause: "a missing brace or body; at the last line, a brace that was never closed; :table(nofallback) below the top, or another type at the top",
-        remedy: "resb lint says where a brace was lost; else compare with the grammar of LANGUAGE.md at that line",
-    },
-    Explanation {
-        word: "UnknownType",
-        of: Of::Text,
-        meaning: "the word after a colon is no type",
-        cause: "a type of genrb that isn't read here: import, include, process(..); a misspelled one; a key with a colon that isn't in quotes, as Africa:Abidjan",
-        remedy: "put the data itself in the text, or compile it with genrb --formatVersion 1, whose file is read; put the key in quotes",
-    },
-    Explanation {
-        word: "BadKey",
-        of: Of::Text,
-        meaning: "a key is empty, or has a character that isn't printable ASCII",
-        cause: "a key that isn't printable ASCII, or an empty one; at line 1, a text in UTF-16 without a byte order mark",
-        remedy: "keys are names, texts are values; iconv -f UTF-16LE -t UTF-8",
-    },
-    Explanation {
-        word: "DuplicateKey",
-        of: Of::Text,
-        meaning: "a table has one key twice",
-        cause: "an entry that was copied and not renamed",
-        remedy: "the line is the second one's",
-    },
-    Explanation {
-        word: "BadInt",
-        of: Of::Text,
-        meaning: "a text is no integer, or the integer is outside its limits",
-        cause: "leading zeros (09 is a bad octal number), an empty text, a fraction, a number past 28 bits of an int or 32 of an intvector; a vector without commas",
-        remedy: "drop the zeros; write a large number as a String or in an intvector",
-    },
-    Explanation {
-        word: "BadHex",
-        of: Of::Text,
-        meaning: "a binary isn't an even number of hexadecimal digits",
-        cause: "an odd number of digits, or another character",
-        remedy: "two digits for each byte",
-    },
-    Explanation {
-        word: "TooDeep",
-        of: Of::Text,
-        meaning: "a value is nested deeper than 64 levels",
-        cause: "a missing brace; more than 64 levels",
-        remedy: "join some levels into one key",
-    },
-    Explanation {
-        word: "TrailingText",
-        of: Of::Text,
-        meaning: "something follows the bundle's last brace",
-        cause: "one } too many, or a second bundle in the text",
-        remedy: "a text is one bundle",
-    },
-    Explanation {
-        word: "TooLarge",
-        of: Of::Text,
-        meaning: "the tree weighs more than 33,554,432",
-        cause: "the tree's weight is above 33,554,432",
-        remedy: "split the bundle",
-    },
-    Explanation {
-        word: "TooLong",
-        of: Of::Text,
-        meaning: "the text has more than 8,388,608 bytes",
-        cause: "the text has more than 8,388,608 bytes",
-        remedy: "split the bundle; is it a bundle text?",
-    },
-];
+pub(crate) const OF_TEXT: &str = "\
+NotUtf8\t\
+the text has a byte at which no character of UTF-8 can be read\t\
+the text is in another encoding, often Latin-1 or UTF-16\t\
+iconv -f LATIN1 -t UTF-8, or -f UTF-16
+BadEscape\t\
+a backslash begins no escape\t\
+a backslash that is meant as itself, as in a Windows path; \\u with too few digits; \\x{..} or \\c\t\
+write \\\\; write four digits after \\u, eight after \\U, one or two after \\x
+OpenQuote\t\
+a quoted piece is never closed\t\
+a missing \", or one that a \\ escapes\t\
+the line is the last of the text; resb lint says where the quote was lost
+OpenComment\t\
+a comment that begins with /* is never closed\t\
+a missing */; /*/ isn't a whole comment\t\
+the line is the last of the text
+Unexpected\t\
+a token stands where the grammar has none, or the text ends too early\t\
+a missing brace or body; at the last line, a brace that was never closed; :table(nofallback) below the top, or another type at the top\t\
+resb lint says where a brace was lost; else compare with the grammar of LANGUAGE.md at that line
+UnknownType\t\
+the word after a colon is no type\t\
+a type of genrb that isn't read here: import, include, process(..); a misspelled one; a key with a colon that isn't in quotes, as Africa:Abidjan\t\
+put the data itself in the text, or compile it with genrb --formatVersion 1, whose file is read; put the key in quotes
+BadKey\t\
+a key is empty, or has a character that isn't printable ASCII\t\
+a key that isn't printable ASCII, or an empty one; at line 1, a text in UTF-16 without a byte order mark\t\
+keys are names, texts are values; iconv -f UTF-16LE -t UTF-8
+DuplicateKey\t\
+a table has one key twice\t\
+an entry that was copied and not renamed\t\
+the line is the second one's
+BadInt\t\
+a text is no integer, or the integer is outside its limits\t\
+leading zeros (09 is a bad octal number), an empty text, a fraction, a number past 28 bits of an int or 32 of an intvector; a vector without commas\t\
+drop the zeros; write a large number as a String or in an intvector
+BadHex\t\
+a binary isn't an even number of hexadecimal digits\t\
+an odd number of digits, or another character\t\
+two digits for each byte
+TooDeep\t\
+a value is nested deeper than 64 levels\t\
+a missing brace; more than 64 levels\t\
+join some levels into one key
+TrailingText\t\
+something follows the bundle's last brace\t\
+one } too many, or a second bundle in the text\t\
+a text is one bundle
+TooLarge\t\
+the tree weighs more than 33,554,432\t\
+the tree's weight is above 33,554,432\t\
+split the bundle
+TooLong\t\
+the text has more than 8,388,608 bytes\t\
+the text has more than 8,388,608 bytes\t\
+split the bundle; is it a bundle text?";
 
-pub(crate) const OF_FILE: [Explanation; 15] = [
-    Explanation {
-        word: "Header",
-        of: Of::File,
-        meaning: "the file has no header of a resource bundle",
-        cause: "not a .res file but a bundle text, say; an empty or cut file",
-        remedy: "resb compile reads texts, check and get read files",
-    },
-    Explanation {
-        word: "FormatVersion",
-        of: Of::File,
-        meaning: "the file has another format than 1.1",
-        cause: "a file that genrb wrote by default, of format 2 or 3",
-        remedy: "genrb --formatVersion 1, or resb compile on its text; if there is no text, as of ICU's own files, tools/icu2text writes it (ICU.md), and derb -A a damaged one",
-    },
-    Explanation {
-        word: "BigEndian",
-        of: Of::File,
-        meaning: "the file is big-endian",
-        cause: "made by genrb on a big-endian machine, or by ICU for Java",
-        remedy: "compile the text again, or the text that tools/icu2text writes (ICU.md)",
-    },
-    Explanation {
-        word: "Family",
-        of: Of::File,
-        meaning: "the file's characters aren't of the family of ASCII",
-        cause: "an EBCDIC file",
-        remedy: "compile the text again",
-    },
-    Explanation {
-        word: "Attributes",
-        of: Of::File,
-        meaning: "the file's attributes aren't those of a bundle by itself",
-        cause: "a pool bundle, or a file whose keys are in one",
-        remedy: "genrb without --writePoolBundle and --usePoolBundle; of the latter tools/icu2text writes the text (ICU.md)",
-    },
-    Explanation {
-        word: "Indexes",
-        of: Of::File,
-        meaning: "the file's lengths don't agree with each other or with the file",
-        cause: "a file that was cut, or copied in part",
-        remedy: "copy it again, and compare the lengths",
-    },
-    Explanation {
-        word: "Root",
-        of: Of::File,
-        meaning: "the root item isn't a table",
-        cause: "the root item isn't a table",
-        remedy: "the file was damaged",
-    },
-    Explanation {
-        word: "ItemType",
-        of: Of::File,
-        meaning: "an item has a type that there isn't",
-        cause: "the file was damaged, or made by a faulty writer",
-        remedy: "compile the text again",
-    },
-    Explanation {
-        word: "Offset",
-        of: Of::File,
-        meaning: "an item leads out of the file",
-        cause: "the file was damaged, or made by a faulty writer",
-        remedy: "compile the text again",
-    },
-    Explanation {
-        word: "Length",
-        of: Of::File,
-        meaning: "an item ends after its file",
-        cause: "the file was damaged, or made by a faulty writer",
-        remedy: "compile the text again",
-    },
-    Explanation {
-        word: "NotTerminated",
-        of: Of::File,
-        meaning: "a string isn't ended by a zero",
-        cause: "the file was damaged, or made by a faulty writer",
-        remedy: "compile the text again",
-    },
-    Explanation {
-        word: "KeyOrder",
-        of: Of::File,
-        meaning: "a table's keys don't ascend",
-        cause: "the file was damaged, or made by a faulty writer",
-        remedy: "compile the text again",
-    },
-    Explanation {
-        word: "Key",
-        of: Of::File,
-        meaning: "a key is no key, or leads out of the keys",
-        cause: "the file was damaged; or a key of genrb that is empty or isn't printable ASCII",
-        remedy: "rename the key",
-    },
-    Explanation {
-        word: "TooDeep",
-        of: Of::File,
-        meaning: "an item is nested deeper than 64 levels",
-        cause: "more than 64 levels, or an item that leads back to itself",
-        remedy: "compile the text again, with fewer levels",
-    },
-    Explanation {
-        word: "TooLong",
-        of: Of::File,
-        meaning: "the file has more than 67,108,864 bytes",
-        cause: "more than 67,108,864 bytes",
-        remedy: "split the bundle",
-    },
-];
+pub(crate) const OF_FILE: &str = "\
+Header\t\
+the file has no header of a resource bundle\t\
+not a .res file but a bundle text, say; an empty or cut file\t\
+resb compile reads texts, check and get read files
+FormatVersion\t\
+the file has another format than 1.1\t\
+a file that genrb wrote by default, of format 2 or 3\t\
+genrb --formatVersion 1, or resb compile on its text; if there is no text, as of ICU's own files, tools/icu2text writes it (ICU.md), and derb -A a damaged one
+BigEndian\t\
+the file is big-endian\t\
+made by genrb on a big-endian machine, or by ICU for Java\t\
+compile the text again, or the text that tools/icu2text writes (ICU.md)
+Family\t\
+the file's characters aren't of the family of ASCII\t\
+an EBCDIC file\t\
+compile the text again
+Attributes\t\
+the file's attributes aren't those of a bundle by itself\t\
+a pool bundle, or a file whose keys are in one\t\
+genrb without --writePoolBundle and --usePoolBundle; of the latter tools/icu2text writes the text (ICU.md)
+Indexes\t\
+the file's lengths don't agree with each other or with the file\t\
+a file that was cut, or copied in part\t\
+copy it again, and compare the lengths
+Root\t\
+the root item isn't a table\t\
+the root item isn't a table\t\
+the file was damaged
+ItemType\t\
+an item has a type that there isn't\t\
+the file was damaged, or made by a faulty writer\t\
+compile the text again
+Offset\t\
+an item leads out of the file\t\
+the file was damaged, or made by a faulty writer\t\
+compile the text again
+Length\t\
+an item ends after its file\t\
+the file was damaged, or made by a faulty writer\t\
+compile the text again
+NotTerminated\t\
+a string isn't ended by a zero\t\
+the file was damaged, or made by a faulty writer\t\
+compile the text again
+KeyOrder\t\
+a table's keys don't ascend\t\
+the file was damaged, or made by a faulty writer\t\
+compile the text again
+Key\t\
+a key is no key, or leads out of the keys\t\
+the file was damaged; or a key of genrb that is empty or isn't printable ASCII\t\
+rename the key
+TooDeep\t\
+an item is nested deeper than 64 levels\t\
+more than 64 levels, or an item that leads back to itself\t\
+compile the text again, with fewer levels
+TooLong\t\
+the file has more than 67,108,864 bytes\t\
+more than 67,108,864 bytes\t\
+split the bundle";
 
-pub(crate) const OF_PATH: [Explanation; 3] = [
-    Explanation {
-        word: "Missing",
-        of: Of::Path,
-        meaning: "the file has no item at the path",
-        cause: "another key; an index past the end, or with a leading zero; a path that goes on below a String; an item that is in a parent's bundle",
-        remedy: "resb get FILE '' and resb get FILE menu print the keys there are",
-    },
-    Explanation {
-        word: "BadPath",
-        of: Of::Path,
-        meaning: "the path has an empty segment, or a character that isn't printable ASCII",
-        cause: "a slash at the front, at the end, or two in a row; a character that isn't printable ASCII",
-        remedy: "mend the path",
-    },
-    Explanation {
-        word: "PathTooLong",
-        of: Of::Path,
-        meaning: "the path has more than 1,024 bytes",
-        cause: "more than 1,024 bytes",
-        remedy: "use shorter keys",
-    },
-];
+pub(crate) const OF_PATH: &str = "\
+Missing\t\
+the file has no item at the path\t\
+another key; an index past the end, or with a leading zero; a path that goes on below a String; an item that is in a parent's bundle\t\
+resb get FILE '' and resb get FILE menu print the keys there are
+BadPath\t\
+the path has an empty segment, or a character that isn't printable ASCII\t\
+a slash at the front, at the end, or two in a row; a character that isn't printable ASCII\t\
+mend the path
+PathTooLong\t\
+the path has more than 1,024 bytes\t\
+more than 1,024 bytes\t\
+use shorter keys";
 
-pub(crate) const OF_PRINTING: [Explanation; 1] = [Explanation {
-    word: "TooLarge",
-    of: Of::Printing,
-    meaning: "the text would have more than 8,388,608 bytes",
-    cause: "a file with more items than a text may have, or with items that it shares; it can still be checked, served and looked up",
-    remedy: "print the parts that you want with resb get",
-}];
+pub(crate) const OF_PRINTING: &str = "\
+TooLarge\t\
+the text would have more than 8,388,608 bytes\t\
+a file with more items than a text may have, or with items that it shares; it can still be checked, served and looked up\t\
+print the parts that you want with resb get";
 
-pub(crate) const OF_VALUE: [Explanation; 2] = [
-    Explanation {
-        word: "Missing",
-        of: Of::Value,
-        meaning: "the path leads on from an alias",
-        cause: "an alias stands before the path's end; json follows none",
-        remedy: "resb get FILE PATH prints the alias and the rest of the path; ask for the rest where the alias leads",
-    },
-    Explanation {
-        word: "TooLarge",
-        of: Of::Value,
-        meaning: "the item has more than 64 levels, or a weight above 33,554,432",
-        cause: "a file in which many items share others, so that it spells a far larger tree; no bundle that compile makes is refused",
-        remedy: "print a part: resb json FILE PATH; get prints any item",
-    },
-];
+pub(crate) const OF_VALUE: &str = "\
+Missing\t\
+the path leads on from an alias\t\
+an alias stands before the path's end; json follows none\t\
+resb get FILE PATH prints the alias and the rest of the path; ask for the rest where the alias leads
+TooLarge\t\
+the item has more than 64 levels, or a weight above 33,554,432\t\
+a file in which many items share others, so that it spells a far larger tree; no bundle that compile makes is refused\t\
+print a part: resb json FILE PATH; get prints any item";
 
-pub(crate) const OF_JSON: [Explanation; 14] = [
-    Explanation {
-        word: "NotUtf8",
-        of: Of::Json,
-        meaning: "the JSON has a byte at which no character of UTF-8 can be read",
-        cause: "the JSON is in another encoding, often Latin-1 or UTF-16",
-        remedy: "iconv -f LATIN1 -t UTF-8, or -f UTF-16",
-    },
-    Explanation {
-        word: "NotJson",
-        of: Of::Json,
-        meaning: "the text is no JSON from this token on, or it ends too early",
-        cause: "a comma or a bracket too many or too few, a comment, single quotes, a lone surrogate by its escape; at column 1, a byte order mark",
-        remedy: "jq . FILE says more; write a lone surrogate as in :units",
-    },
-    Explanation {
-        word: "TrailingText",
-        of: Of::Json,
-        meaning: "something follows the JSON value",
-        cause: "two values in one file, as lines of JSON, or a bracket too many",
-        remedy: "a file is one value",
-    },
-    Explanation {
-        word: "NotTable",
-        of: Of::Json,
-        meaning: "the whole value is no object, or one with a tag",
-        cause: "an item that resb json FILE PATH printed, in place of a whole bundle",
-        remedy: "put it into an object, under a key",
-    },
-    Explanation {
-        word: "UnknownValue",
-        of: Of::Json,
-        meaning: "the value is true, false or null, which no item has",
-        cause: "JSON that was not printed by resb json",
-        remedy: "write 1 and 0, or a string; leave a key out in place of null",
-    },
-    Explanation {
-        word: "BadTag",
-        of: Of::Json,
-        meaning: "a key that begins with one colon is no tag, isn't alone in its object, or has a value of another form",
-        cause: "a key that begins with a colon and has no second one; a misspelled :alias, :bin, :intvector or :units",
-        remedy: "write ::key for a key that begins with a colon; JSON.md has each tag's form",
-    },
-    Explanation {
-        word: "BadKey",
-        of: Of::Json,
-        meaning: "a key is empty, or has a character that isn't printable ASCII",
-        cause: "a key that isn't printable ASCII, or an empty one",
-        remedy: "keys are names, texts are values",
-    },
-    Explanation {
-        word: "DuplicateKey",
-        of: Of::Json,
-        meaning: "an object has one key twice",
-        cause: "a member that was copied and not renamed",
-        remedy: "the place is the second one's",
-    },
-    Explanation {
-        word: "BadNumber",
-        of: Of::Json,
-        meaning: "a number is no integer, or is outside its limits",
-        cause: "a fraction or an exponent, -0, a number past 28 bits of an Int, 32 of :intvector or 16 of :units, or a string there",
-        remedy: "write a large number as a string or in :intvector",
-    },
-    Explanation {
-        word: "BadBinary",
-        of: Of::Json,
-        meaning: "a :bin isn't an even number of lower-case hexadecimal digits",
-        cause: "an odd number of digits, upper case, or another character",
-        remedy: "two digits of 0 to 9 and a to f for each byte",
-    },
-    Explanation {
-        word: "BadUnits",
-        of: Of::Json,
-        meaning: "the units are those of a text, which has its own form",
-        cause: "units without a lone surrogate",
-        remedy: "write them as a string",
-    },
-    Explanation {
-        word: "TooDeep",
-        of: Of::Json,
-        meaning: "a value is nested deeper than 64 levels",
-        cause: "a missing bracket; more than 64 levels",
-        remedy: "join some levels into one key",
-    },
-    Explanation {
-        word: "TooLarge",
-        of: Of::Json,
-        meaning: "the tree's weight is above 33,554,432 at this value",
-        cause: "the tree's weight is above 33,554,432",
-        remedy: "split the bundle",
-    },
-    Explanation {
-        word: "TooLong",
-        of: Of::Json,
-        meaning: "the JSON has more than 134,217,728 bytes",
-        cause: "the JSON has more than 134,217,728 bytes",
-        remedy: "print it without --pretty; split the bundle",
-    },
-];
+pub(crate) const OF_JSON: &str = "\
+NotUtf8\t\
+the JSON has a byte at which no character of UTF-8 can be read\t\
+the JSON is in another encoding, often Latin-1 or UTF-16\t\
+iconv -f LATIN1 -t UTF-8, or -f UTF-16
+NotJson\t\
+the text is no JSON from this token on, or it ends too early\t\
+a comma or a bracket too many or too few, a comment, single quotes, a lone surrogate by its escape; at column 1, a byte order mark\t\
+jq . FILE says more; write a lone surrogate as in :units
+TrailingText\t\
+something follows the JSON value\t\
+two values in one file, as lines of JSON, or a bracket too many\t\
+a file is one value
+NotTable\t\
+the whole value is no object, or one with a tag\t\
+an item that resb json FILE PATH printed, in place of a whole bundle\t\
+put it into an object, under a key
+UnknownValue\t\
+the value is true, false or null, which no item has\t\
+JSON that was not printed by resb json\t\
+write 1 and 0, or a string; leave a key out in place of null
+BadTag\t\
+a key that begins with one colon is no tag, isn't alone in its object, or has a value of another form\t\
+a key that begins with a colon and has no second one; a misspelled :alias, :bin, :intvector or :units\t\
+write ::key for a key that begins with a colon; JSON.md has each tag's form
+BadKey\t\
+a key is empty, or has a character that isn't printable ASCII\t\
+a key that isn't printable ASCII, or an empty one\t\
+keys are names, texts are values
+DuplicateKey\t\
+an object has one key twice\t\
+a member that was copied and not renamed\t\
+the place is the second one's
+BadNumber\t\
+a number is no integer, or is outside its limits\t\
+a fraction or an exponent, -0, a number past 28 bits of an Int, 32 of :intvector or 16 of :units, or a string there\t\
+write a large number as a string or in :intvector
+BadBinary\t\
+a :bin isn't an even number of lower-case hexadecimal digits\t\
+an odd number of digits, upper case, or another character\t\
+two digits of 0 to 9 and a to f for each byte
+BadUnits\t\
+the units are those of a text, which has its own form\t\
+units without a lone surrogate\t\
+write them as a string
+TooDeep\t\
+a value is nested deeper than 64 levels\t\
+a missing bracket; more than 64 levels\t\
+join some levels into one key
+TooLarge\t\
+the tree's weight is above 33,554,432 at this value\t\
+the tree's weight is above 33,554,432\t\
+split the bundle
+TooLong\t\
+the JSON has more than 134,217,728 bytes\t\
+the JSON has more than 134,217,728 bytes\t\
+print it without --pretty; split the bundle";
 
-pub(crate) const OF_START: [Explanation; 6] = [
-    Explanation {
-        word: "BadText",
-        of: Of::Start,
-        meaning: "a bundle text that was given isn't one",
-        cause: "an error in a bundle text, which is a file whose name ends in .txt",
-        remedy: "resb compile FILE out.res prints the line and the word",
-    },
-    Explanation {
-        word: "BadFile",
-        of: Of::Start,
-        meaning: "a file that was given is no bundle",
-        cause: "an error in a .res file; a text whose name doesn't end in .txt, in these letters",
-        remedy: "resb check FILE prints the word",
-    },
-    Explanation {
-        word: "Twice",
-        of: Of::Start,
-        meaning: "a locale was given twice",
-        cause: "two arguments have the same locale, - and _ and the case of letters aside",
-        remedy: "give one of them",
-    },
-    Explanation {
-        word: "Shape",
-        of: Of::Start,
-        meaning: "the explicit parents aren't a table of strings and of arrays of strings",
-        cause: "the parents' text has no table parentLocales, or a value in it is neither a String nor an array of Strings; without a type, {} is an array",
-        remedy: "write parentLocales:table{} for none",
-    },
-    Explanation {
-        word: "BadLocale",
-        of: Of::Start,
-        meaning: "an explicit parent or its child is no locale's name",
-        cause: "a parent or a child there isn't a valid name",
-        remedy: "LOOKUP.md, \"How a locale is read\"",
-    },
-    Explanation {
-        word: "TwoParents",
-        of: Of::Start,
-        meaning: "a locale has two explicit parents",
-        cause: "a child is named twice there, under two parents or one",
-        remedy: "name it once",
-    },
-];
+pub(crate) const OF_START: &str = "\
+BadText\t\
+a bundle text that was given isn't one\t\
+an error in a bundle text, which is a file whose name ends in .txt\t\
+resb compile FILE out.res prints the line and the word
+BadFile\t\
+a file that was given is no bundle\t\
+an error in a .res file; a text whose name doesn't end in .txt, in these letters\t\
+resb check FILE prints the word
+Twice\t\
+a locale was given twice\t\
+two arguments have the same locale, - and _ and the case of letters aside\t\
+give one of them
+Shape\t\
+the explicit parents aren't a table of strings and of arrays of strings\t\
+the parents' text has no table parentLocales, or a value in it is neither a String nor an array of Strings; without a type, {} is an array\t\
+write parentLocales:table{} for none
+BadLocale\t\
+an explicit parent or its child is no locale's name\t\
+a parent or a child there isn't a valid name\t\
+LOOKUP.md, \"How a locale is read\"
+TwoParents\t\
+a locale has two explicit parents\t\
+a child is named twice there, under two parents or one\t\
+name it once";
 
-pub(crate) const OF_REQUEST: [Explanation; 44] = [
-    Explanation {
-        word: "BadLine",
-        of: Of::Request,
-        meaning: "the line is no request",
-        cause: "not JSON, or not UTF-8; a member is missing, misspelled, or not a string; both text and file; hexadecimal with another character or an odd number of digits; an empty line; a byte order mark in front of the first line",
-        remedy: "compare with the forms of SERVER.md",
-    },
-    Explanation {
-        word: "BadApp",
-        of: Of::Request,
-        meaning: "the application's name is none",
-        cause: "the application's name is empty, longer than 64 bytes, or has other characters than ASCII letters, digits, _, - and .",
-        remedy: "choose another name",
-    },
-    Explanation {
-        word: "Reserved",
-        of: Of::Request,
-        meaning: "the application's name is that of the common bundles",
-        cause: "the name ICUDATA",
-        remedy: "common bundles are given only at the start",
-    },
-    Explanation {
-        word: "BadLocale",
-        of: Of::Request,
-        meaning: "the locale is no name",
-        cause: "a character set after a dot, an empty part, a part of more than 8 characters, a language of one letter",
-        remedy: "LOOKUP.md, \"How a locale is read\"",
-    },
-    Explanation {
-        word: "BadText",
-        of: Of::Request,
-        meaning: "the bundle text isn't one",
-        cause: "the text isn't a valid bundle text",
-        remedy: "write the text to a file, and resb compile it",
-    },
-    Explanation {
-        word: "BadFile",
-        of: Of::Request,
-        meaning: "the file is no bundle",
-        cause: "the file isn't a valid bundle",
-        remedy: "write its bytes to a file, and resb check it",
-    },
-    Explanation {
-        word: "Exists",
-        of: Of::Request,
-        meaning: "there is a bundle already",
-        cause: "the application has a bundle for this locale",
-        remedy: "replace puts another one in its place",
-    },
-    Explanation {
-        word: "Absent",
-        of: Of::Request,
-        meaning: "there is no bundle",
-        cause: "it has none",
-        remedy: "install; list prints the names",
-    },
-    Explanation {
-        word: "Full",
-        of: Of::Request,
-        meaning: "the application has as many bundles as it may",
-        cause: "it has 4,096 bundles",
-        remedy: "remove one",
-    },
-    Explanation {
-        word: "TooLarge",
-        of: Of::Request,
-        meaning: "the text of the bundle would have more than 8,388,608 bytes",
-        cause: "an export as a text, of a file that resb text doesn't print either",
-        remedy: "export the file",
-    },
-    Explanation {
-        word: "LineTooLong",
-        of: Of::Request,
-        meaning: "the line has more bytes than --line-bytes allows",
-        cause: "a line above the limit of this server, often a text or a file within it; it was passed over to its end, and nothing was done",
-        remedy: "split the bundle, or serve with a larger --line-bytes",
-    },
-    Explanation {
-        word: "BundleTooLong",
-        of: Of::Request,
-        meaning: "the text, the file or what the text compiles to has more bytes than --bundle-bytes allows",
-        cause: "a text or a file above the limit of this server, or a text whose compiled file is",
-        remedy: "split the bundle; resb compile prints the length of a text's file",
-    },
-    Explanation {
-        word: "OverQuota",
-        of: Of::Request,
-        meaning: "the application's files would have more bytes than --app-bytes allows",
-        cause: "the files of the application's other bundles leave too little room for this one",
-        remedy: "remove bundles, or install a smaller one; usage says what the files have",
-    },
-    Explanation {
-        word: "TooManyApps",
-        of: Of::Request,
-        meaning: "as many applications have bundles as --apps allows",
-        cause: "it would be the first bundle of one application more",
-        remedy: "another application has to remove all its bundles, or serve with a larger --apps",
-    },
-    Explanation {
-        word: "ReplyTooLong",
-        of: Of::Request,
-        meaning: "the line of the names would have more bytes than --reply-bytes allows",
-        cause: "a list of more names than the limit of this server has room for; of an item see the lookups",
-        remedy: "serve with a larger --reply-bytes",
-    },
-    Explanation {
-        word: "Memory",
-        of: Of::Request,
-        meaning: "the server was out of memory for this request, and the bundles are as before (--keep-serving)",
-        cause: "memory that other bundles fill, or a text, a file or an item that is large for it",
-        remedy: "ask again later, or ask for less; if it stays so, the server needs more memory",
-    },
-    Explanation {
-        word: "NeedsTLS",
-        of: Of::Request,
-        meaning: "the gateway speaks TLS, and the request came without",
-        cause: "http:// in place of https://",
-        remedy: "ask the address by https://",
-    },
-    Explanation {
-        word: "Unauthorized",
-        of: Of::Request,
-        meaning: "there is no token, or the gateway doesn't know it",
-        cause: "no header Authorization: Bearer TOKEN; a token that was revoked, has expired, or has fewer than 20 characters",
-        remedy: "resb-gateway token list says which tokens there are",
-    },
-    Explanation {
-        word: "Forbidden",
-        of: Of::Request,
-        meaning: "the token isn't for this application, or only reads",
-        cause: "another application's token; a change, or the history, with a token that reads",
-        remedy: "resb-gateway token add makes one that may",
-    },
-    Explanation {
-        word: "NotFound",
-        of: Of::Request,
-        meaning: "the gateway has no such page",
-        cause: "a misspelled address; a version without .txt, .res or .json",
-        remedy: "GET /openapi.json describes all addresses",
-    },
-    Explanation {
-        word: "NotAllowed",
-        of: Of::Request,
-        meaning: "the address doesn't have this method",
-        cause: "a change of an item in place of its bundle, or a patch of an item",
-        remedy: "the header Allow names the methods",
-    },
-    Explanation {
-        word: "BadQuery",
-        of: Of::Request,
-        meaning: "the query isn't one of this address",
-        cause: "a number that is none or too large; DELETE of an application without ?erase",
-        remedy: "GET /openapi.json describes each query",
-    },
-    Explanation {
-        word: "BadRevision",
-        of: Of::Request,
-        meaning: "the value of ?after= is no revision",
-        cause: "a revision of another log, or none",
-        remedy: "send the header Resb-Revision of a reply",
-    },
-    Explanation {
-        word: "BadType",
-        of: Of::Request,
-        meaning: "neither the name's suffix nor the type says what the body is, or it is encoded",
-        cause: "curl --data-binary without a suffix, which says that the body is a form; Content-Encoding",
-        remedy: "put LOCALE.txt or LOCALE.res, or give the Content-Type; a release is application/x-tar, application/zip or application/x-ndjson",
-    },
-    Explanation {
-        word: "BadLength",
-        of: Of::Request,
-        meaning: "a request gives the length of its body twice",
-        cause: "a client or a proxy that sends both Content-Length and Transfer-Encoding",
-        remedy: "send one of them",
-    },
-    Explanation {
-        word: "BadRelease",
-        of: Of::Request,
-        meaning: "a part of a release can't be read, and nothing was changed",
-        cause: "another file in the archive; two files of one locale; a link; an archive that is cut off",
-        remedy: "the reply names the file or the line and says what is wrong",
-    },
-    Explanation {
-        word: "BadPatch",
-        of: Of::Request,
-        meaning: "a patch isn't JSON, or makes no bundle of the stored one, and nothing was changed",
-        cause: "another form than that of resb json; a fraction; a key twice; a tag beside others",
-        remedy: "the reply has the code, the place in the patch and the path of the item",
-    },
-    Explanation {
-        word: "OtherName",
-        of: Of::Request,
-        meaning: "the text has another name than the locale, with ?strict",
-        cause: "a text that was copied from another locale, or put under the wrong name",
-        remedy: "compare the first line of the text with the address",
-    },
-    Explanation {
-        word: "PreconditionFailed",
-        of: Of::Request,
-        meaning: "a condition of the request, as If-Match, doesn't hold, and nothing was changed",
-        cause: "another writer changed the bundle meanwhile; If-None-Match: * where a bundle is",
-        remedy: "get the bundle again, make the change in it, and put it with its new tag",
-    },
-    Explanation {
-        word: "NoVersion",
-        of: Of::Request,
-        meaning: "the history doesn't have this change, or what was submitted isn't kept",
-        cause: "one of another application; a version past the 64 MB that are kept; a removal, which has no text",
-        remedy: "GET /v1/APP/_history says which versions are kept",
-    },
-    Explanation {
-        word: "CutOff",
-        of: Of::Request,
-        meaning: "the body ended early",
-        cause: "a client that gave up; a wrong Content-Length",
-        remedy: "send it again",
-    },
-    Explanation {
-        word: "Slow",
-        of: Of::Request,
-        meaning: "the header or the body didn't come in time",
-        cause: "a slow connection",
-        remedy: "-header-time and -read-time of the gateway are the limits",
-    },
-    Explanation {
-        word: "TooMany",
-        of: Of::Request,
-        meaning: "the application has too many requests, bodies or replies on their way",
-        cause: "more connections than the gateway admits for one application; a caller that doesn't read its replies",
-        remedy: "ask again after Retry-After; ask many lookups in one request; -each and -body-bytes are the limits",
-    },
-    Explanation {
-        word: "OverRate",
-        of: Of::Request,
-        meaning: "the application has used the requests of this second, or the bytes of this day",
-        cause: "more than -rate or -day-bytes of the gateway",
-        remedy: "ask again after Retry-After",
-    },
-    Explanation {
-        word: "Failed",
-        of: Of::Request,
-        meaning: "the gateway failed",
-        cause: "a fault of the gateway or of its disk",
-        remedy: "its log says why",
-    },
-    Explanation {
-        word: "NotOffered",
-        of: Of::Request,
-        meaning: "the stream in NATS doesn't permit that entries are purged",
-        cause: "?erase, where somebody made the stream with deny_purge",
-        remedy: "remove the bundles one by one; the earlier ones may stay in the stream",
-    },
-    Explanation {
-        word: "Busy",
-        of: Of::Request,
-        meaning: "there are too many requests or connections at once",
-        cause: "many callers; -all and -connections of the gateway are the limits",
-        remedy: "ask again after Retry-After",
-    },
-    Explanation {
-        word: "Replaying",
-        of: Of::Request,
-        meaning: "no server answers now: the bundles are being installed",
-        cause: "the gateway or the server starts",
-        remedy: "ask again after Retry-After; /readyz says when it answers",
-    },
-    Explanation {
-        word: "Behind",
-        of: Of::Request,
-        meaning: "the gateway doesn't have the revision of ?after= yet",
-        cause: "a gateway that doesn't reach NATS; a slow disk",
-        remedy: "ask again after Retry-After, or another gateway",
-    },
-    Explanation {
-        word: "ShardEnded",
-        of: Of::Request,
-        meaning: "the server ended while it had this request",
-        cause: "a text that takes all its memory; the end of the process",
-        remedy: "ask again; if it stays so, the log says how the server ended",
-    },
-    Explanation {
-        word: "Unreached",
-        of: Of::Request,
-        meaning: "the gateway doesn't reach NATS, so no change can be made",
-        cause: "a stopped nats-server; most of its servers are down",
-        remedy: "ask again after Retry-After; lookups are answered meanwhile",
-    },
-    Explanation {
-        word: "NotKept",
-        of: Of::Request,
-        meaning: "the change could not be stored, and was taken back",
-        cause: "a disk that fails",
-        remedy: "the log says why; after a failed sync resb_shard_writes is 0 until a restart",
-    },
-    Explanation {
-        word: "Timeout",
-        of: Of::Request,
-        meaning: "no reply came in time",
-        cause: "expensive changes of other applications; a change that may still be made",
-        remedy: "ask whether it was made before you ask again; -patience is the limit",
-    },
-    Explanation {
-        word: "NoRoom",
-        of: Of::Request,
-        meaning: "the disk, or the stream of changes, is full",
-        cause: "a full disk",
-        remedy: "remove bundles, which works on a full disk, or make space",
-    },
-];
+pub(crate) const OF_REQUEST: &str = "\
+BadLine\t\
+the line is no request\t\
+not JSON, or not UTF-8; a member is missing, misspelled, or not a string; both text and file; hexadecimal with another character or an odd number of digits; an empty line; a byte order mark in front of the first line\t\
+compare with the forms of SERVER.md
+BadApp\t\
+the application's name is none\t\
+the application's name is empty, longer than 64 bytes, or has other characters than ASCII letters, digits, _, - and .\t\
+choose another name
+Reserved\t\
+the application's name is that of the common bundles\t\
+the name ICUDATA\t\
+common bundles are given only at the start
+BadLocale\t\
+the locale is no name\t\
+a character set after a dot, an empty part, a part of more than 8 characters, a language of one letter\t\
+LOOKUP.md, \"How a locale is read\"
+BadText\t\
+the bundle text isn't one\t\
+the text isn't a valid bundle text\t\
+write the text to a file, and resb compile it
+BadFile\t\
+the file is no bundle\t\
+the file isn't a valid bundle\t\
+write its bytes to a file, and resb check it
+Exists\t\
+there is a bundle already\t\
+the application has a bundle for this locale\t\
+replace puts another one in its place
+Absent\t\
+there is no bundle\t\
+it has none\t\
+install; list prints the names
+Full\t\
+the application has as many bundles as it may\t\
+it has 4,096 bundles\t\
+remove one
+TooLarge\t\
+the text of the bundle would have more than 8,388,608 bytes\t\
+an export as a text, of a file that resb text doesn't print either\t\
+export the file
+LineTooLong\t\
+the line has more bytes than --line-bytes allows\t\
+a line above the limit of this server, often a text or a file within it; it was passed over to its end, and nothing was done\t\
+split the bundle, or serve with a larger --line-bytes
+BundleTooLong\t\
+the text, the file or what the text compiles to has more bytes than --bundle-bytes allows\t\
+a text or a file above the limit of this server, or a text whose compiled file is\t\
+split the bundle; resb compile prints the length of a text's file
+OverQuota\t\
+the application's files would have more bytes than --app-bytes allows\t\
+the files of the application's other bundles leave too little room for this one\t\
+remove bundles, or install a smaller one; usage says what the files have
+TooManyApps\t\
+as many applications have bundles as --apps allows\t\
+it would be the first bundle of one application more\t\
+another application has to remove all its bundles, or serve with a larger --apps
+ReplyTooLong\t\
+the line of the names would have more bytes than --reply-bytes allows\t\
+a list of more names than the limit of this server has room for; of an item see the lookups\t\
+serve with a larger --reply-bytes
+Memory\t\
+the server was out of memory for this request, and the bundles are as before (--keep-serving)\t\
+memory that other bundles fill, or a text, a file or an item that is large for it\t\
+ask again later, or ask for less; if it stays so, the server needs more memory
+NeedsTLS\t\
+the gateway speaks TLS, and the request came without\t\
+http:// in place of https://\t\
+ask the address by https://
+Unauthorized\t\
+there is no token, or the gateway doesn't know it\t\
+no header Authorization: Bearer TOKEN; a token that was revoked, has expired, or has fewer than 20 characters\t\
+resb-gateway token list says which tokens there are
+Forbidden\t\
+the token isn't for this application, or only reads\t\
+another application's token; a change, or the history, with a token that reads\t\
+resb-gateway token add makes one that may
+NotFound\t\
+the gateway has no such page\t\
+a misspelled address; a version without .txt, .res or .json\t\
+GET /openapi.json describes all addresses
+NotAllowed\t\
+the address doesn't have this method\t\
+a change of an item in place of its bundle, or a patch of an item\t\
+the header Allow names the methods
+BadQuery\t\
+the query isn't one of this address\t\
+a number that is none or too large; DELETE of an application without ?erase\t\
+GET /openapi.json describes each query
+BadRevision\t\
+the value of ?after= is no revision\t\
+a revision of another log, or none\t\
+send the header Resb-Revision of a reply
+BadType\t\
+neither the name's suffix nor the type says what the body is, or it is encoded\t\
+curl --data-binary without a suffix, which says that the body is a form; Content-Encoding\t\
+put LOCALE.txt or LOCALE.res, or give the Content-Type; a release is application/x-tar, application/zip or application/x-ndjson
+BadLength\t\
+a request gives the length of its body twice\t\
+a client or a proxy that sends both Content-Length and Transfer-Encoding\t\
+send one of them
+BadRelease\t\
+a part of a release can't be read, and nothing was changed\t\
+another file in the archive; two files of one locale; a link; an archive that is cut off\t\
+the reply names the file or the line and says what is wrong
+BadPatch\t\
+a patch isn't JSON, or makes no bundle of the stored one, and nothing was changed\t\
+another form than that of resb json; a fraction; a key twice; a tag beside others\t\
+the reply has the code, the place in the patch and the path of the item
+OtherName\t\
+the text has another name than the locale, with ?strict\t\
+a text that was copied from another locale, or put under the wrong name\t\
+compare the first line of the text with the address
+PreconditionFailed\t\
+a condition of the request, as If-Match, doesn't hold, and nothing was changed\t\
+another writer changed the bundle meanwhile; If-None-Match: * where a bundle is\t\
+get the bundle again, make the change in it, and put it with its new tag
+NoVersion\t\
+the history doesn't have this change, or what was submitted isn't kept\t\
+one of another application; a version past the 64 MB that are kept; a removal, which has no text\t\
+GET /v1/APP/_history says which versions are kept
+CutOff\t\
+the body ended early\t\
+a client that gave up; a wrong Content-Length\t\
+send it again
+Slow\t\
+the header or the body didn't come in time\t\
+a slow connection\t\
+-header-time and -read-time of the gateway are the limits
+TooMany\t\
+the application has too many requests, bodies or replies on their way\t\
+more connections than the gateway admits for one application; a caller that doesn't read its replies\t\
+ask again after Retry-After; ask many lookups in one request; -each and -body-bytes are the limits
+OverRate\t\
+the application has used the requests of this second, or the bytes of this day\t\
+more than -rate or -day-bytes of the gateway\t\
+ask again after Retry-After
+Failed\t\
+the gateway failed\t\
+a fault of the gateway or of its disk\t\
+its log says why
+NotOffered\t\
+the stream in NATS doesn't permit that entries are purged\t\
+?erase, where somebody made the stream with deny_purge\t\
+remove the bundles one by one; the earlier ones may stay in the stream
+Busy\t\
+there are too many requests or connections at once\t\
+many callers; -all and -connections of the gateway are the limits\t\
+ask again after Retry-After
+Replaying\t\
+no server answers now: the bundles are being installed\t\
+the gateway or the server starts\t\
+ask again after Retry-After; /readyz says when it answers
+Behind\t\
+the gateway doesn't have the revision of ?after= yet\t\
+a gateway that doesn't reach NATS; a slow disk\t\
+ask again after Retry-After, or another gateway
+ServerEnded\t\
+the server ended while it had this request\t\
+a text that takes all its memory; the end of the process\t\
+ask again; if it stays so, the log says how the server ended
+Unreached\t\
+the gateway doesn't reach NATS, so no change can be made\t\
+a stopped nats-server; most of its servers are down\t\
+ask again after Retry-After; lookups are answered meanwhile
+NotKept\t\
+the change could not be stored, and was taken back\t\
+a disk that fails\t\
+the log says why; after a failed sync resb_writes is 0 until a restart
+Timeout\t\
+no reply came in time\t\
+expensive changes of other applications; a change that may still be made\t\
+ask whether it was made before you ask again; -patience is the limit
+NoRoom\t\
+the disk, or the stream of changes, is full\t\
+a full disk\t\
+remove bundles, which works on a full disk, or make space";
 
-pub(crate) const OF_LOOKUP: [Explanation; 13] = [
-    Explanation {
-        word: "BadPath",
-        of: Of::Lookup,
-        meaning: "the path has an empty segment, or a character that isn't printable ASCII",
-        cause: "a slash too many; a character that isn't printable ASCII",
-        remedy: "mend the path",
-    },
-    Explanation {
-        word: "PathTooLong",
-        of: Of::Lookup,
-        meaning: "a path has more than 1,024 bytes",
-        cause: "a path of more than 1,024 bytes, perhaps one that aliases made longer at each step",
-        remedy: "resb get FILE PATH prints an alias without following it",
-    },
-    Explanation {
-        word: "NoBundle",
-        of: Of::Lookup,
-        meaning: "no name on the way has a bundle",
-        cause: "the application has no bundle for the locale, any of its parents or root; another application has it; it was installed in an earlier run of the server; the target of an alias has none",
-        remedy: "list prints the names; install a root",
-    },
-    Explanation {
-        word: "Missing",
-        of: Of::Lookup,
-        meaning: "no bundle on the way has the item",
-        cause: "no bundle on the way has the item; a bundle without fallback ends the way; an alias decides, and its target doesn't have the item",
-        remedy: "look with a shorter path, and read the keys",
-    },
-    Explanation {
-        word: "Chain",
-        of: Of::Lookup,
-        meaning: "the way of locales has no end within 32 names",
-        cause: "%%Parent or %%ALIAS go round in a circle, or there are more than 32 names; a root bundle with a %%Parent. It is reported for every path, also if an early bundle has the item",
-        remedy: "look reports it for each locale that leads there",
-    },
-    Explanation {
-        word: "BadParent",
-        of: Of::Lookup,
-        meaning: "a bundle on the way names a parent that is no locale's name",
-        cause: "the text at %%Parent or %%ALIAS of a bundle on the way isn't a valid name",
-        remedy: "LOOKUP.md, \"How a locale is read\"",
-    },
-    Explanation {
-        word: "AliasText",
-        of: Of::Lookup,
-        meaning: "the text of an alias leads nowhere",
-        cause: "the text of an alias is empty, has no valid locale, an empty segment, or a character that isn't printable ASCII",
-        remedy: "resb get FILE PATH prints an alias without following it",
-    },
-    Explanation {
-        word: "AliasPackage",
-        of: Of::Lookup,
-        meaning: "an alias leads to a package that there isn't",
-        cause: "an alias that begins with a slash and anything but LOCALE or ICUDATA",
-        remedy: "an application can refer only to its own bundles and to ICUDATA",
-    },
-    Explanation {
-        word: "TooManyAliases",
-        of: Of::Lookup,
-        meaning: "more than 255 aliases lead from one to another",
-        cause: "aliases that lead to each other in a circle, or more than 255 in a row",
-        remedy: "follow them one by one with resb get",
-    },
-    Explanation {
-        word: "TooManySteps",
-        of: Of::Lookup,
-        meaning: "the lookup takes more steps than --steps allows",
-        cause: "many aliases on the way, each with a long trail, or a long path; a step is a name of the trail times one more than the segments of the path",
-        remedy: "resb look --trace counts the levels; use fewer aliases, or shorter paths",
-    },
-    Explanation {
-        word: "TreeTooLarge",
-        of: Of::Lookup,
-        meaning: "the tree of a locale with all that it inherits has more than 33,554,432 bytes, or takes more than 268,435,456 steps",
-        cause: "aliases that lead to tables with more aliases, so that tables are repeated again and again",
-        remedy: "print a smaller part: resb json --inherit LOCALE --path PATH, or path in the request tree",
-    },
-    Explanation {
-        word: "TooDeep",
-        of: Of::Lookup,
-        meaning: "an item of a tree is more than 63 segments below the one that is printed",
-        cause: "an alias that leads to a table around itself, or to one so deep that there are more than 63 segments",
-        remedy: "look at the path with resb look, or let the alias lead elsewhere",
-    },
-    Explanation {
-        word: "ReplyTooLong",
-        of: Of::Lookup,
-        meaning: "the line of the item would have more bytes than --reply-bytes allows",
-        cause: "an item that is long: a String, a vector, a binary, or a table of many keys",
-        remedy: "look further down, or serve with a larger --reply-bytes",
-    },
-];
+pub(crate) const OF_LOOKUP: &str = "\
+BadPath\t\
+the path has an empty segment, or a character that isn't printable ASCII\t\
+a slash too many; a character that isn't printable ASCII\t\
+mend the path
+PathTooLong\t\
+a path has more than 1,024 bytes\t\
+a path of more than 1,024 bytes, perhaps one that aliases made longer at each step\t\
+resb get FILE PATH prints an alias without following it
+NoBundle\t\
+no name on the way has a bundle\t\
+the application has no bundle for the locale, any of its parents or root; another application has it; it was installed in an earlier run of the server; the target of an alias has none\t\
+list prints the names; install a root
+Missing\t\
+no bundle on the way has the item\t\
+no bundle on the way has the item; a bundle without fallback ends the way; an alias decides, and its target doesn't have the item\t\
+look with a shorter path, and read the keys
+Chain\t\
+the way of locales has no end within 32 names\t\
+%%Parent or %%ALIAS go round in a circle, or there are more than 32 names; a root bundle with a %%Parent. It is reported for every path, also if an early bundle has the item\t\
+look reports it for each locale that leads there
+BadParent\t\
+a bundle on the way names a parent that is no locale's name\t\
+the text at %%Parent or %%ALIAS of a bundle on the way isn't a valid name\t\
+LOOKUP.md, \"How a locale is read\"
+AliasText\t\
+the text of an alias leads nowhere\t\
+the text of an alias is empty, has no valid locale, an empty segment, or a character that isn't printable ASCII\t\
+resb get FILE PATH prints an alias without following it
+AliasPackage\t\
+an alias leads to a package that there isn't\t\
+an alias that begins with a slash and anything but LOCALE or ICUDATA\t\
+an application can refer only to its own bundles and to ICUDATA
+TooManyAliases\t\
+more than 255 aliases lead from one to another\t\
+aliases that lead to each other in a circle, or more than 255 in a row\t\
+follow them one by one with resb get
+TooManySteps\t\
+the lookup takes more steps than --steps allows\t\
+many aliases on the way, each with a long trail, or a long path; a step is a name of the trail times one more than the segments of the path\t\
+resb look --trace counts the levels; use fewer aliases, or shorter paths
+TreeTooLarge\t\
+the tree of a locale with all that it inherits has more than 33,554,432 bytes, or takes more than 268,435,456 steps\t\
+aliases that lead to tables with more aliases, so that tables are repeated again and again\t\
+print a smaller part: resb json --inherit LOCALE --path PATH, or path in the request tree
+TooDeep\t\
+an item of a tree is more than 63 segments below the one that is printed\t\
+an alias that leads to a table around itself, or to one so deep that there are more than 63 segments\t\
+look at the path with resb look, or let the alias lead elsewhere
+ReplyTooLong\t\
+the line of the item would have more bytes than --reply-bytes allows\t\
+an item that is long: a String, a vector, a binary, or a table of many keys\t\
+look further down, or serve with a larger --reply-bytes";
 
-pub(crate) const OF_SERVING: [Explanation; 4] = [
-    Explanation {
-        word: "Read",
-        of: Of::Serving,
-        meaning: "standard input can't be read",
-        cause: "standard input can't be read, as a folder",
-        remedy: "give a file or a pipe",
-    },
-    Explanation {
-        word: "Write",
-        of: Of::Serving,
-        meaning: "standard output can't be written",
-        cause: "the program that read the replies has ended, or the disk is full",
-        remedy: "the request whose reply was cut has taken effect",
-    },
-    Explanation {
-        word: "LineTooLong",
-        of: Of::Serving,
-        meaning: "a line has more than 268,435,456 bytes",
-        cause: "a line has more than 268,435,456 bytes; often a missing line feed",
-        remedy: "it ends serving for all applications; with --line-bytes such a line is passed over, and serving goes on",
-    },
-    Explanation {
-        word: "LineLimit",
-        of: Of::Serving,
-        meaning: "more lines came than one run serves",
-        cause: "1,099,511,627,776 lines were served",
-        remedy: "start again",
-    },
-];
+pub(crate) const OF_SERVING: &str = "\
+Read\t\
+standard input can't be read\t\
+standard input can't be read, as a folder\t\
+give a file or a pipe
+Write\t\
+standard output can't be written\t\
+the program that read the replies has ended, or the disk is full\t\
+the request whose reply was cut has taken effect
+LineTooLong\t\
+a line has more than 268,435,456 bytes\t\
+a line has more than 268,435,456 bytes; often a missing line feed\t\
+it ends serving for all applications; with --line-bytes such a line is passed over, and serving goes on
+LineLimit\t\
+more lines came than one run serves\t\
+1,099,511,627,776 lines were served\t\
+start again";
 
-pub(crate) const OF_MEMORY: [Explanation; 1] = [Explanation {
-    word: "Memory",
-    of: Of::Memory,
-    meaning: "the program is out of memory",
-    cause: "a limit on memory, of the process or its container, or a text, a file or bundles that are too large for it",
-    remedy: "give it more memory, or less to hold: a text takes 8 to 26 times its length while it is compiled",
-}];
+pub(crate) const OF_MEMORY: &str = "\
+Memory\t\
+the program is out of memory\t\
+a limit on memory, of the process or its container, or a text, a file or bundles that are too large for it\t\
+give it more memory, or less to hold: a text takes 8 to 26 times its length while it is compiled";

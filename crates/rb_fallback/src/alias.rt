@@ -16,7 +16,7 @@ use rb_locales::Name;
 use rb_tree::Node;
 
 /// Describes where an alias leads.
-#[derive(Clone, Copy, Debug)]
+#[derive(Clone, Copy)]
 pub struct Target {
     /// True if the text names ICUDATA; otherwise the alias stays in its own package.
     pub icudata: bool,

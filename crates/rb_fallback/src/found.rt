@@ -3,7 +3,7 @@ ghost use Rattle.std.specs.Prelude.{◌≡◌};
 use rb_locales::Name;
 
 /// Stores what a lookup found.
-#[derive(Clone, Copy, Debug)]
+#[derive(Clone, Copy)]
 pub struct Found<N> {
     /// The node to which the path leads.
     pub node: N,

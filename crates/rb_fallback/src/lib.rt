@@ -23,6 +23,6 @@ pub use find::find_from;
 pub use found::Found;
 pub use limits::{LEVEL_LIMIT, PATH_LIMIT};
 pub use path::rest_behind;
-pub use search::{look, look_from, look_watched, look_within};
+pub use search::{look, look_from, look_from_within, look_watched, look_within};
 pub use stops::Stops;
 pub use watch::{Visit, Watch};

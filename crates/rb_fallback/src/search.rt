@@ -31,7 +31,7 @@ use crate::limits::{LEVEL_LIMIT, PATH_LIMIT};
 use crate::path::is_path;
 use crate::path_buffer::PathBuffer;
 use crate::steps::left_after;
-use crate::stops::{Stops, first_ending, with_names};
+use crate::stops::{Stops, first_ending, level_from, with_names};
 use crate::watch::Watch;
 use rb_locales::Name;
 use rb_parents::{Parents, Shelf};
@@ -401,4 +401,46 @@ pub fn look_from<'a, T: Stops<'a>, S: Shelf<'a, N = T::N>, I: Shelf<'a, N = T::N
     }
     let decided = with_names(stops, &reached);
     search_after_given(stops, own, icu, parents, decided, path)
+}
+
+/// Looks a path up as `look_from` does, in at most this many steps, from the name whose stops are
+/// given and whose trail has this many names.
+///
+/// The errors are those of `look_within` from a name whose trail is valid. Allocates nothing.
+///
+/// ```rust
+/// let found = look_from_within(stops, names, shelf, shelf, &parents, b"menu/open", 10_000)?;
+/// // What `look_within` finds from the name whose stops these are.
+/// ```
+pub fn look_from_within<'a, T: Stops<'a>, S: Shelf<'a, N = T::N>, I: Shelf<'a, N = T::N>>(
+    stops: T,
+    names: u8,
+    own: S,
+    icu: I,
+    parents: &Parents,
+    path: &[u8],
+    steps: u64,
+) -> Result<Found<T::N>, BoundedError>
+    ensures bad_path { (IsPath path.now → ⊥) → result ≡ Err (Bounded.Search Faults.BadPath) }
+    ensures answer { (name : List ℕ)
+        → AreStopsOf (T.stop stops) (S.bundles own) (parent_of parents.now) name
+        → names ≡ trail_length (trail (S.bundles own) (parent_of parents.now) name)
+        → IsPath path.now → bounded_answer_of T.N.tree result
+        ≡ look_up_within steps (S.bundles own) (I.bundles icu) (parent_of parents.now) name
+        (segments path.now) }
+    ensures valid { (name : List ℕ)
+        → AreStopsOf (T.stop stops) (S.bundles own) (parent_of parents.now) name
+        → IfOk result (λ f. first_stop (S.bundles own) (parent_of parents.now) name
+        ≡ Some f.valid) }
+{
+    if !is_path(path) {
+        return Err(BoundedError::Search(LookError::BadPath));
+    }
+    if path.len() > PATH_LIMIT {
+        return Err(BoundedError::Search(LookError::PathTooLong));
+    }
+    let reached = level_from(stops, path);
+    let left = left_after(Some(steps), names, path)?;
+    let decided = reached?;
+    search_after(own, icu, parents, decided, path, left, &mut ())
 }

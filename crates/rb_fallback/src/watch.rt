@@ -7,7 +7,7 @@ use rb_parents::Next;
 use rb_tree::{Ending, Node};
 
 /// Describes what a search does at a name of a trail.
-#[derive(Clone, Copy, Debug)]
+#[derive(Clone, Copy)]
 pub enum Visit<N> {
     /// The name is no stop: it has no bundle, or its bundle names another by `%%ALIAS`.
     NoStop,

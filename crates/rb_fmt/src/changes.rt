@@ -4,7 +4,7 @@ use std::alloc::{AllocError, Global};
 
 /// Lines of a text and the lines that replace them, each by the index of the first and the index
 /// after the last.
-#[derive(Clone, Copy, Debug)]
+#[derive(Clone, Copy)]
 pub(crate) struct Change {
     pub(crate) old: usize,
     pub(crate) old_past: usize,

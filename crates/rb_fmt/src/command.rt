@@ -1,8 +1,13 @@
 //! `resb fmt`.
 use crate::difference::difference;
-use rb_console::{CommandError, Console, each, failed, printed, read_text, replace_text};
-use rb_layout::{FormatFault, format};
+use rb_console::{
+    CommandError, Console, ShownName, StartError, each, failed, not_started_on, print_bytes,
+    printed, read_text, replace_text,
+};
+use rb_layout::{FormatFault, Style, format_in};
 use rb_lexer::{SourceFault, SourceKind};
+use rb_project::{Configured, Modules, Project, Text, names_of, open_project, texts_of};
+use rb_settings::Section;
 use std::alloc::{AllocError, Global};
 use std::io;
 use std::process::ExitCode;
@@ -10,7 +15,7 @@ use std::random::RandomSource;
 use std::rt::{Clock, Files};
 
 /// The way to treat a text that formatting changes.
-#[derive(Clone, Copy, Debug, PartialEq, Eq)]
+#[derive(Clone, Copy, PartialEq, Eq)]
 pub enum FormatMode {
     /// It is replaced, or printed if it came from standard input.
     Write,
@@ -18,6 +23,15 @@ pub enum FormatMode {
     Check,
     /// The difference is printed.
     Difference,
+}
+
+/// The words of the command line of `resb fmt`.
+#[derive(Clone, Copy)]
+pub struct FormatWords<'a> {
+    pub mode: FormatMode,
+    pub config: Configured<'a>,
+    /// Texts, and folders of modules.
+    pub names: &'a [&'a str],
 }
 
 /// Returns the error of a command for that of formatting a text.
@@ -66,7 +80,7 @@ fn replace<R: Files + RandomSource + AllocGlobal + Print + Eprint>(
 /// Returns the difference of a text and the formatted one, with the lines that name the text.
 fn named_difference(
     alloc: Global,
-    name: &str,
+    name: ShownName<'_>,
     text: &[u8],
     formatted: &[u8],
 ) -> Result<(String, Vec<u8>), AllocError> {
@@ -83,13 +97,14 @@ fn print_difference<R: AllocGlobal + Print + Eprint>(
     text: &[u8],
     formatted: &[u8],
 ) -> ExitCode {
-    let Ok((head, lines)) = named_difference(rt.alloc(), name, text, formatted) else {
+    let shown = console.on_stdout(name);
+    let Ok((head, lines)) = named_difference(rt.alloc(), shown, text, formatted) else {
         return failed(rt, console, command_error(name, FormatFault::Memory));
     };
-    if rt.write_all(head.as_bytes()).is_err() {
-        return printed(rt, Err(io::Error::from(io::ErrorKind::Other)));
+    if let Err(error) = rt.write_all(head.as_bytes()) {
+        return printed(rt, Err(error));
     }
-    unformatted(rt, rt.write_all(&lines))
+    unformatted(rt, print_bytes(rt, console, &lines))
 }
 
 /// Does with a text and the formatted one what the mode says.
@@ -102,7 +117,7 @@ fn finish_one<R: Files + RandomSource + AllocGlobal + Print + Eprint>(
     formatted: &[u8],
 ) -> ExitCode {
     if mode == FormatMode::Write && name == "-" {
-        return printed(rt, rt.write_all(formatted));
+        return printed(rt, print_bytes(rt, console, formatted));
     }
     if text == formatted {
         return ExitCode::SUCCESS;
@@ -121,7 +136,7 @@ fn finish_one<R: Files + RandomSource + AllocGlobal + Print + Eprint>(
 fn format_one<R: Files + RandomSource + Input + AllocGlobal + Print + Eprint>(
     rt: &R,
     console: Console,
-    mode: FormatMode,
+    (mode, style): (FormatMode, Style),
     name: &str,
 ) -> ExitCode {
     let text = match read_text(rt, name) {
@@ -130,30 +145,70 @@ fn format_one<R: Files + RandomSource + Input + AllocGlobal + Print + Eprint>(
             return failed(rt, console, CommandError::Unread(name, ":0", error.kind()));
         }
     };
-    match format(rt.alloc(), &text) {
+    match format_in(rt.alloc(), &text, style) {
         Ok(formatted) => finish_one(rt, console, mode, name, &text, &formatted),
         Err(fault) => failed(rt, console, command_error(name, fault)),
+    }
+}
+
+/// Returns the style that the settings of a project ask for, by their table of it.
+fn style_of(section: Section<'_>) -> Style {
+    let standard = Style::standard();
+    Style {
+        indent: section
+            .number("indent")
+            .map_or(standard.indent, |n| n as usize),
+        width: section
+            .number("width")
+            .map_or(standard.width, |n| n as usize),
+    }
+}
+
+/// Finds the texts of a command. Returns its status if a folder has none, once that is reported.
+fn project_texts<R: Files + AllocGlobal + Eprint>(
+    rt: &R,
+    console: Console,
+    project: &Project,
+    names: &[&str],
+) -> Result<Vec<Text>, ExitCode> {
+    match Modules::of(rt.alloc(), project) {
+        Ok(modules) => texts_of(rt, console, &modules, names),
+        Err(_) => Err(not_started_on(rt, console, StartError::Memory)),
     }
 }
 
 /// Formats each bundle text in place, or does with those that formatting changes what the mode
 /// says. A text `-` is standard input, and is printed formatted. A text that is formatted already
 /// is left alone, and so is one with an error, which is a line like that of `compile`; the other
-/// texts are formatted. A file is written beside its place and renamed, a link leads to the file
-/// that is replaced, and a file that changed since it was read is left alone.
+/// texts are formatted. A file is written beside its place and renamed, or in place if it would
+/// else lose its owner, its group or a further name. A link leads to the file that is replaced, and
+/// a file that changed since it was read is left alone. A folder stands for the texts of its
+/// modules, and the settings of the project choose the style.
 ///
 /// The status is 0; 1 if a text is refused, can't be read or written, or in another mode than
-/// `Write` would change; 2 as soon as standard output can't be written.
+/// `Write` would change; 2 if the settings are refused or a folder has no text of a module, and
+/// as soon as standard output can't be written.
 pub fn format_all<R: Files + RandomSource + Clock + Input + AllocGlobal + Print + Eprint>(
     rt: &R,
     console: Console,
-    mode: FormatMode,
-    names: &[&str],
+    words: &FormatWords<'_>,
 ) -> ExitCode {
+    let project = match open_project(rt, console, words.config, &[]) {
+        Ok(project) => project,
+        Err(status) => return status,
+    };
+    let texts = match project_texts(rt, console, &project, words.names) {
+        Ok(texts) => texts,
+        Err(status) => return status,
+    };
+    let Ok(names) = names_of(rt.alloc(), &texts) else {
+        return not_started_on(rt, console, StartError::Memory);
+    };
+    let (mode, style) = (words.mode, style_of(project.settings.section("fmt")));
     each(
         rt,
         console,
-        names,
-        |name| format_one(rt, console, mode, name),
+        &names,
+        |name| format_one(rt, console, (mode, style), name),
     )
 }

@@ -6,7 +6,7 @@ ghost use Rattle.rb_format.specs.Place as places;
 use crate::place::{half_at, word_at};
 
 /// The position of a table's first key offset, in half words or in words.
-#[derive(Clone, Copy, Debug, PartialEq, Eq)]
+#[derive(Clone, Copy, PartialEq, Eq)]
 pub enum KeyPlaces {
     Halves(usize),
     Words(usize),
@@ -25,7 +25,7 @@ impl KeyPlaces {
     }
 }
 
-#[derive(Clone, Copy, Debug, PartialEq, Eq)]
+#[derive(Clone, Copy, PartialEq, Eq)]
 pub struct TableParts {
     pub keys: KeyPlaces,
     /// The index of the first item's word.

@@ -3,7 +3,7 @@ ghost use Rattle.rb_format.specs.Item as items;
 ghost use Rattle.rb_format.specs.Item.{kind_of, type_of, offset_of};
 
 /// The kinds of items and their type numbers.
-#[derive(Clone, Copy, Debug, PartialEq, Eq)]
+#[derive(Clone, Copy, PartialEq, Eq)]
 pub enum ItemKind {
     String = 0,
     Binary = 1,

@@ -6,7 +6,7 @@ use crate::constants::INDEX_COUNT;
 use crate::place::word_at;
 
 /// The bounds that a file's indexes give, in words from the root item.
-#[derive(Clone, Copy, Debug, PartialEq, Eq)]
+#[derive(Clone, Copy, PartialEq, Eq)]
 pub struct Layout {
     /// The number of indexes, which follow the root item.
     pub indexes: u32,

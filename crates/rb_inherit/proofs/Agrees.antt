@@ -1,4 +1,4 @@
--- What a tree has is what lookups find: from a place to the one below it, and to the lookup of its path.
+-- Proves that a tree has what lookups find: from a place to the one below it, and to the lookup of its path.
 use Rattle.std.proofs.Common.{◌≡◌, ◌+◌, ◌-◌, ◌<◌, ◌≤◌, ◌++◌, ℕ, zero, suc, List, [], ◌∷◌, Bool, true, false, cond, Option, Some, None, Result, Ok, Err, codes, decimal, encode_utf8_all, length, map, nat_lt, refl, sym, ap, subst, ◌∙◌, append_assoc, append-nil, arith, option_and_then, slice_get, zero-add}
 use Rattle.std.specs.Option.{ok_or}
 use Rattle.std.specs.List.{AllByRecursion, join_with_byte}

@@ -1,4 +1,4 @@
--- What layers have at a key, as they are asked one after another.
+-- Follows what layers have at a key, as they are asked one after another.
 use Rattle.std.proofs.Common.{◌≡◌, ◌+◌, ◌<◌, ◌≤◌, ◌++◌, ℕ, suc, List, [], ◌∷◌, true, false, Option, Some, length, map, take, drop, refl, sym, ap, subst, ◌∙◌, append_assoc, append-nil, arith, slice_get, zero, option_and_then}
 use Rattle.std.proofs.Math.ListN.{set}
 use Rattle.std.proofs.Math.Seq.{set-append_seam}

@@ -263,7 +263,7 @@ ends_here tree used (Tables false) ls = refl
 ends_here tree used (Item n level) ls = refl
 ends_here tree used (Failed e) ls = refl
 
--- ---- the same of what a call returned
+-- ---- the cases above, for what a call returned
 pub ok_table_adds : {N : Type 0} {G : Ghosts N} (tree : N → Resource) (used : ℕ) (n : N) (level : Level) (before : Found N) (old : List (Layer N G))
     (r : Result (Found N) TreeError) (new : List (Layer N G)) → nat_lt level.keys_most used ≡ false → kind_of (tree n) ≡ kind.Table → is_open_of before ≡ true
     → IfOk r (λ after. after ≡ and_table before) → IfOk r (λ _. AddsLayer tree n level old new)

@@ -22,7 +22,7 @@ use Rattle.rb_inherit.proofs.Layers.{all_moved, end_least, has_least, next_least
 use Rattle.rb_inherit.proofs.Members.{Merging, Total, items_some, members_some, merging_all, merging_more, merging_none, merging_rest}
 use Rattle.rb_inherit.proofs.Texts.{entries_skipped, entry_more}
 
--- of the layers from `from` on, as they were at first, so many entries were written
+-- of the layers from `from` on, as they were at first, `i` entries were written
 pub record Entered {N : Type 0} {G : Ghosts N} (tree : N → Resource) (Takes : List ℕ → Type 0) (Is : ℕ → Here → Data → Type 0) (used from : ℕ)
     (old now : List (Layer N G)) (i : ℕ) : Type 0 where
   pub members : List (List ℕ × Data)
@@ -58,7 +58,7 @@ drop_front f from now le =
     subst (λ (n : ℕ). drop n (take from now ++ map f (drop from now)) ≡ map f (drop from now)) (length-take-le from now le) (drop-append_seam (take from now) (map f (drop from now)))
 
 -- ---- the items of an array
--- so many items were written
+-- `i` items were written
 pub record ItemsSoFar (Takes : List ℕ → Type 0) (Is : ℕ → Here → Data → Type 0) (used most : ℕ) (ts : List Resource) (i : ℕ) : Type 0 where
   pub items : List Data
   pub takes : Takes (listed compact_text items)

@@ -8,7 +8,6 @@ pub mod Earliest
 pub mod Entries
 pub mod Keys
 pub mod Layers
-pub mod Leaves
 pub mod Members
 pub mod Merges
 pub mod Nexts

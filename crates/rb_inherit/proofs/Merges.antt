@@ -1,4 +1,4 @@
--- The first layer with the least next key, as the layers are asked in order.
+-- Finds the first layer with the least next key, asking the layers in order.
 use Rattle.std.proofs.Common.{◌≡◌, ◌+◌, ◌≤◌, ℕ, List, true, false, Option, Some, None, refl, sym, ap, ◌∙◌, arith}
 use Rattle.std.proofs.lemmas.Cmp.{nat_list_cmp_total, tied_itself}
 use Rattle.std.specs.Ordering.{is_lt, nat_cmp, ordering_reverse}

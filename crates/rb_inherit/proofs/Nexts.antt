@@ -1,4 +1,4 @@
--- What the next child of a layer adds to what was found.
+-- Shows what the next child of a layer adds to what was found.
 use Rattle.std.proofs.Common.{◌≡◌, ℕ, List, false, Some, Result, Ok, Err, ap, sym, subst, ◌∙◌, slice_get}
 use Rattle.std.proofs.Math.ListN.{set}
 use Rattle.std.proofs.lemmas.Option.{same_Some}

@@ -1,4 +1,4 @@
--- What lookups find is in a tree, where no earlier stop hides it.
+-- Proves that a tree has what lookups find, where no earlier stop hides it.
 use Rattle.std.proofs.Common.{◌≡◌, ◌⊎◌, inl, inr, ◌+◌, ◌<◌, ◌≤◌, ◌++◌, ℕ, zero, suc, List, [], ◌∷◌, Bool, true, false, cond, Option, Some, None, Result, Ok, Err, decimal, length, map, nat_lt, refl, sym, ap, subst, ◌∙◌, append_assoc, append-nil, arith, option_and_then, slice_get, zero-add}
 use Rattle.std.specs.List.{AllByRecursion}
 use Rattle.std.specs.Map.{lookup}

@@ -165,7 +165,7 @@ IsValue Is used (tables ls) d =
     (es : List (List ℕ × Data)) × ((d ≡ object (members_data es))
     × (AllByRecursion Ascends ls → AreMembers Is used ls es))
 
--- the value of a place, with at most so many levels
+-- the value of a place, with at most the given number of levels
 unfoldable pub IsTree : ℕ → ℕ → Here → Data → Type 0
 IsTree zero used h d = d ≡ error_data (codes "TooDeep")
 IsTree (suc n) used h d = IsValue (λ u g e. IsTree n u g e) used h d

@@ -31,7 +31,7 @@ pub(crate) struct Link<N> {
     rest: usize,
 }
 
-/// What a place has after a level, and the alias at which the level ends.
+/// The content of a place after a level, and the alias at which the level ends.
 #[derive(Clone, Copy)]
 pub(crate) struct After<N> {
     found: Found<N>,

@@ -1,9 +1,9 @@
-//! What a place of the tree has, as the stops are asked in order.
+//! Combines what the stops have at a place of the tree, asking them in order.
 
 use crate::place::Level;
 use rb_fallback::LookError;
 
-/// What the stops that were asked have at a place.
+/// The content of a place in the stops that were asked.
 #[derive(Clone, Copy)]
 pub(crate) enum Found<N> {
     /// Nothing so far.

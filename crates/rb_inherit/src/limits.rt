@@ -8,7 +8,7 @@ pub const TREE_LIMIT: u64 = 33_554_432;
 pub const STEP_LIMIT: u64 = 268_435_456;
 
 /// The limits that a caller sets to a tree.
-#[derive(Clone, Copy, Debug)]
+#[derive(Clone, Copy)]
 pub struct TreeLimits {
     /// The maximum number of steps; `None` is `STEP_LIMIT`.
     pub steps: Option<u64>,

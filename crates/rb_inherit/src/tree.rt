@@ -15,12 +15,11 @@ ghost use Rattle.rb_inherit.specs.Merged.{Writes};
 use crate::error::TreeError;
 use crate::follow::add_child;
 use crate::found::Found;
-use crate::leaf::{put_error, put_key, put_leaf};
+use crate::leaf::{put_error, put_leaf};
 use crate::place::{Level, Place};
 use crate::shelves::Stops;
-use rb_json::{Outlet, skips_items};
+use rb_json::{Outlet, put_key, skips_items};
 use rb_tree::{Kind, Node};
-use std::alloc::Global;
 
 /// Adds the next child of a layer to what the place has, unless that is final.
 fn take_at<T: Stops>(
@@ -74,19 +73,14 @@ fn spend_at<N: Node>(place: &mut Place<N>, layers: usize, key: &[u8]) -> Result<
 }
 
 /// Writes the key of an entry.
-fn put_name<O: Outlet>(out: &mut O, alloc: Global, key: &[u8]) -> Result<(), TreeError>
-    ensures { IfOk result (λ _. O.takes out.old out.new (quoted (key_text key.now) ++ 58 ∷ [])) }
+fn put_name<O: Outlet>(out: &mut O, key: &[u8])
+    ensures { O.takes out.old out.new (quoted (key_text key.now) ++ 58 ∷ []) }
 {
-    match put_key(out, alloc, key) {
-        Ok(()) => {
-            out.put(b":");
-            Ok(())
-        }
-        Err(_) => Err(TreeError::Memory),
-    }
+    put_key(out, key);
+    out.put(b":")
 }
 
-/// Writes what the layers from an index on have at a key, with at most so many levels.
+/// Writes what the layers from an index on have at a key, with at most `levels` levels.
 #[cycle(tree)]
 fn put_at<T: Stops, O: Outlet>(
     shelves: T,
@@ -165,7 +159,7 @@ fn put_entries<T: Stops, O: Outlet>(
             return Ok(());
         }
         spend_at(place, to.saturating_sub(first), key)?;
-        put_name(out, place.alloc, key)?;
+        put_name(out, key);
         put_at(shelves, place, out, from, key, levels)?;
     }
     if place.has_key(from, to) {
@@ -248,7 +242,7 @@ fn put_array<T: Stops, O: Outlet>(
     Ok(())
 }
 
-/// Writes what a place has, with at most so many levels. Its tables are the layers from an index
+/// Writes what a place has, with at most `levels` levels. Its tables are the layers from an index
 /// on.
 #[cycle(tree)]
 pub(crate) fn put_found<T: Stops, O: Outlet>(

@@ -27,7 +27,7 @@ use rb_tree::{HEIGHT_LIMIT, Kind, Node};
 use std::alloc::Global;
 
 /// The length of a tree as JSON, and its locales.
-#[derive(Clone, Copy, Debug)]
+#[derive(Clone, Copy)]
 pub struct TreeSize {
     /// The name of the first bundle that has the item at the path.
     pub actual: Name,
@@ -115,10 +115,10 @@ fn put_from<'a, S: Shelf<'a>, I: Shelf<'a, N = S::N>, O: Outlet>(
 }
 
 /// Writes the item at a path with everything that it inherits as one JSON value, in the form of
-/// `json_text`. The tables of the stops are merged key by key: the earliest stop that has something
-/// at a key decides, unless that is a table. Aliases are followed as a lookup follows them; one
-/// that can't be followed becomes `{":error":"Missing"}`, with the error code of a lookup, and an
-/// item below 64 levels `{":error":"TooDeep"}`.
+/// `rb_json::put_value`. The tables of the stops are merged key by key: the earliest stop that has
+/// something at a key decides, unless that is a table. Aliases are followed as a lookup follows
+/// them; one that can't be followed becomes `{":error":"Missing"}`, with the error code of a
+/// lookup, and an item below 64 levels `{":error":"TooDeep"}`.
 ///
 /// Errors: `Look` if a lookup of the path finds nothing; `TooManySteps` or `TreeTooLarge` once the
 /// steps run out; `Memory`. It doesn't limit the length: `tree_size` counts it.

@@ -1,4 +1,4 @@
--- What a lookup finds, as its answer says it.
+-- Compares what a lookup finds with its answer.
 use Rattle.std.proofs.Common.{◌≡◌, ◌∙◌, ℕ, List, Option, true, is_ok, Result, Ok, Err, inl, inr, refl, ap}
 use Rattle.rb_tree.specs.Resource.{Resource}
 use Rattle.rb_engine.specs.Answer.{Response}

@@ -1,6 +1,6 @@
 //! `resb explain`.
 use rb_console::{Console, printed};
-use rb_explain::Of;
+use rb_explain::{Explanation, Of};
 use std::io;
 use std::process::ExitCode;
 
@@ -22,7 +22,8 @@ const KINDS: [Of; 11] = [
 /// Prints the codes of one kind of errors, each with its meaning.
 fn list_kind<R: Print>(rt: &R, of: Of) -> io::Result<()> {
     println!(rt; "{of}:")?;
-    for explanation in of.explanations() {
+    for line in of.explanations().lines() {
+        let explanation = Explanation::read(of, line);
         let (word, meaning) = (explanation.word, explanation.meaning);
         println!(rt; "  {word}: {meaning}")?;
     }

@@ -30,7 +30,7 @@ fn put_json<R: AllocGlobal + Print + Eprint>(
     let Ok(writer) = BufWriter::new(rt.alloc(), io::writer(rt)) else {
         return refused_on(rt, console, name, "Memory");
     };
-    let mut out = Printing::new(writer, console.is_output_terminal);
+    let mut out = Printing::new(writer, console.escapes());
     match put_at(&mut out, root(bundle), path.as_bytes()) {
         Ok(()) => printed(rt, out.end_line()),
         Err(error) => refused_on(rt, console, path, error.word()),

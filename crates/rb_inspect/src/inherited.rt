@@ -2,8 +2,8 @@
 
 use crate::lookup::file_of;
 use rb_console::{
-    CommandError, Console, Form, Given, ParentsSource, Printing, StartError, all_given, ended,
-    finish, made_of_each, parents_of, printed,
+    CommandError, Console, Escapes, Form, Given, ParentsSource, Printing, StartError, all_given,
+    ended, finish, made_of_each, parents_of, printed,
 };
 use rb_engine::App;
 use rb_inherit::{TreeError, TreeLimits, put_tree, tree_size};
@@ -24,7 +24,7 @@ use std::rt::Files;
 const APP: &str = "json";
 
 /// The arguments of a tree with inheritance.
-#[derive(Clone, Copy, Debug)]
+#[derive(Clone, Copy)]
 pub struct Inheritance<'a> {
     /// The place of explicit parents, if they are given.
     pub parents: Option<ParentsSource<'a>>,
@@ -105,6 +105,7 @@ fn print_inherited<'a, R: AllocGlobal + Print + Eprint>(
     app: &App,
     parents: &Parents,
     asked: Inheritance<'a>,
+    escapes: Escapes,
 ) -> Result<ExitCode, CommandError<'a>> {
     let Ok(name) = Name::read(asked.locale.as_bytes()) else {
         return Err(CommandError::Refused(asked.locale, "BadLocale"));
@@ -112,7 +113,7 @@ fn print_inherited<'a, R: AllocGlobal + Print + Eprint>(
     let Ok(writer) = BufWriter::new(rt.alloc(), io::writer(rt)) else {
         return Err(CommandError::NotStarted(StartError::Memory));
     };
-    let mut out = Printing::new(writer, true);
+    let mut out = Printing::new(writer, escapes);
     let place = (&name, asked.path.as_bytes());
     match put_inherited(&mut out, rt.alloc(), packages, app, parents, place) {
         Ok(()) => Ok(printed(rt, out.end_line())),
@@ -125,6 +126,7 @@ fn print_inherited<'a, R: AllocGlobal + Print + Eprint>(
 fn print_over<'a, R: Files + RandomSource + AllocGlobal + Print + Eprint>(
     rt: &R,
     asked: Inheritance<'a>,
+    escapes: Escapes,
     bundles: &[Given<'a>],
 ) -> Result<ExitCode, CommandError<'a>> {
     let alloc = rt.alloc();
@@ -141,7 +143,7 @@ fn print_over<'a, R: Files + RandomSource + AllocGlobal + Print + Eprint>(
     let files = made_of_each(rt, bundles, |name, bytes| file_of(alloc, name, bytes))?;
     let mut packages = Packages::new(alloc, state);
     install_all(alloc, &mut packages, &app, bundles, &files)?;
-    print_inherited(rt, &packages, &app, &parents, asked)
+    print_inherited(rt, &packages, &app, &parents, asked, escapes)
 }
 
 /// Prints the item at a path of a locale, with everything that it inherits from the bundles of
@@ -160,5 +162,6 @@ pub fn print_tree<R: Files + RandomSource + AllocGlobal + Print + Eprint>(
         Ok(bundles) => bundles,
         Err(error) => return finish(rt, console, CommandError::NotStarted(error)),
     };
-    ended(rt, console, print_over(rt, asked, &bundles))
+    let escapes = console.json_escapes();
+    ended(rt, console, print_over(rt, asked, escapes, &bundles))
 }

@@ -32,7 +32,7 @@ use std::rt::Files;
 const APP: &str = "look";
 
 /// The arguments of a lookup.
-#[derive(Clone, Copy, Debug)]
+#[derive(Clone, Copy)]
 pub struct Lookup<'a> {
     /// The place of explicit parents, if they are given.
     pub parents: Option<ParentsSource<'a>>,
@@ -137,7 +137,7 @@ fn answer<R: AllocGlobal + Print + Eprint>(
     let Ok(writer) = BufWriter::new(rt.alloc(), io::writer(rt)) else {
         return not_started_on(rt, console, StartError::Memory);
     };
-    let mut out = Printing::new(writer, console.is_output_terminal);
+    let mut out = Printing::new(writer, console.escapes());
     let is_found = put_answer(&mut out, engine, lookup);
     status_of(rt, is_found, out.end())
 }
@@ -198,6 +198,7 @@ fn say_search<'a, R: Eprint>(
     let (own, icu) = (packages.shelf(app), packages.icu_shelf());
     let mut trace = Trace {
         rt,
+        console,
         bundles,
         parents,
         own,

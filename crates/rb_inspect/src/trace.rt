@@ -7,7 +7,7 @@ ghost use Rattle.rb_inspect.specs.inner.ShownUnits.{shown_unit};
 
 use crate::trace_steps::{next_after, reached_at, shown};
 use arrayvec::ArrayVec;
-use rb_console::Given;
+use rb_console::{Console, Given};
 use rb_fallback::{LEVEL_LIMIT, Visit, Watch};
 use rb_locales::Name;
 use rb_packages::AppShelf;
@@ -66,6 +66,7 @@ fn package(icudata: bool) -> &'static str {
 #[derive(Drop)]
 pub(crate) struct Trace<'a, R: Eprint> {
     pub(crate) rt: &'a R,
+    pub(crate) console: Console,
     pub(crate) bundles: &'a [Given<'a>],
     pub(crate) parents: &'a Parents,
     pub(crate) own: AppShelf<'a>,
@@ -88,7 +89,8 @@ impl<'a, R: Eprint> Watch for Trace<'a, R> {
         let shelf = if self.icudata { self.icu } else { self.own };
         let bundle = shelf.bundle(name);
         let reached = reached_at(visit, bundle.is_some(), path);
-        let reached = reached.text(file_named(self.bundles, name), path);
+        let file = self.console.on_stderr(file_named(self.bundles, name));
+        let reached = reached.text(file, path);
         let next = next_after(*next, bundle, self.parents, name);
         let name = shown(name.as_bytes());
         let _ = eprintln!(self.rt; "  {name}: {reached}; {next}");

@@ -8,6 +8,7 @@ ghost use Rattle.rb_parents.specs.Trail.{bundle_next, text_at};
 ghost use Rattle.rb_inspect.specs.inner.Causes.{IsNextBy, cause, cause_words, plain_cause};
 ghost use Rattle.rb_inspect.specs.inner.Reached.{IsHas, IsReach, IsReached, leads};
 
+use rb_console::ShownName;
 use rb_explain::kind_word;
 use rb_fallback::{Visit, rest_behind};
 use rb_locales::Name;
@@ -21,7 +22,7 @@ pub(crate) fn shown(bytes: &[u8]) -> &str {
 }
 
 /// Says what decided on the name that follows another.
-#[derive(Clone, Copy, Debug, PartialEq, Eq)]
+#[derive(Clone, Copy, PartialEq, Eq)]
 pub(crate) enum Cause {
     /// The text at `%%ALIAS` of its bundle.
     Alias,
@@ -142,7 +143,7 @@ impl fmt::Display for NextName {
 }
 
 /// Says how far a path leads in the bundle of a name.
-#[derive(Clone, Copy, Debug, PartialEq, Eq)]
+#[derive(Clone, Copy, PartialEq, Eq)]
 pub(crate) enum Reached {
     /// The name has no bundle.
     NoBundle,
@@ -223,7 +224,7 @@ fn first_segment(path: &[u8]) -> &str {
 
 impl Reached {
     /// Returns a text that says this of a file and a path.
-    pub(crate) fn text<'a>(self, file: &'a str, path: &'a [u8]) -> ReachedText<'a> {
+    pub(crate) fn text<'a>(self, file: ShownName<'a>, path: &'a [u8]) -> ReachedText<'a> {
         ReachedText {
             reached: self,
             file,
@@ -236,7 +237,7 @@ impl Reached {
 #[derive(Clone, Copy)]
 pub(crate) struct ReachedText<'a> {
     reached: Reached,
-    file: &'a str,
+    file: ShownName<'a>,
     path: &'a [u8],
 }
 

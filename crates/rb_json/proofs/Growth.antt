@@ -1,8 +1,7 @@
 -- The tokens of lists, element by element.
-use Rattle.std.proofs.Common.{◌≡◌, ◌≤◌, ◌+◌, ℕ, zero, suc, List, [], ◌∷◌, ◌++◌, Some, Result, Ok, Err, take, drop, length, map, refl, ap, sym, ◌∙◌, append_assoc, append-nil, arith}
+use Rattle.std.proofs.Common.{◌≡◌, ℕ, zero, suc, List, [], ◌∷◌, ◌++◌, Some, drop, map, refl, ap, sym, ◌∙◌, append_assoc}
 use Rattle.std.specs.List.{slice_get}
 use Rattle.std.specs.Map.{keys_of, values_of}
-use Rattle.std.proofs.lemmas.List.{take_all}
 use Rattle.json.specs.Token.{Token, begin_array, end_array, begin_object, end_object, key}
 use Rattle.serde_json.specs.Data.{Data, array}
 use Rattle.serde_json.specs.View.{items_of}
@@ -10,41 +9,12 @@ use Rattle.rb_tree.specs.Resource.{Resource, array as array_tree, table, Resourc
 use Rattle.rb_tree.specs.Keys.{items, pairs}
 use Rattle.rb_tree.specs.Parts.{children_of, kind_of, pairs_of}
 use Rattle.rb_tree.specs.declared.kind.Kind.TheVariants as Kinds
-use Rattle.rb_json.specs.Tokens.{Adds, data_tokens}
+use Rattle.rb_json.specs.Tokens.{data_tokens}
 use Rattle.rb_json.specs.Value.{value_of, key_text}
 
 abbrev pub each : {A : Type 0} → (A → List Token) → List A → List Token
 each f [] = []
 each f (x ∷ xs) = f x ++ each f xs
-
--- an opening bracket and the first elements are written
-abbrev pub SoFar : {A : Type 0} → (A → List Token) → List A → ℕ → Token → List Token → List Token → Type 0
-SoFar f xs i bracket old now = now ≡ old ++ bracket ∷ each f (take i xs)
-
-one_more : {A : Type 0} (f : A → List Token) (xs : List A) (i : ℕ) (x : A) → Some x ≡ slice_get xs i
-    → each f (take (suc i) xs) ≡ each f (take i xs) ++ f x
-one_more f [] i x h = absurd cc
-one_more f (y ∷ xs) zero x h = let same : x ≡ y = cc in append-nil (f y) ∙ ap f (sym same)
-one_more f (y ∷ xs) (suc i) x h = ap (λ (ts : List Token). f y ++ ts) (one_more f xs i x h) ∙ sym (append_assoc (f y) (each f (take i xs)) (f x))
-
-pub more : {A : Type 0} (f : A → List Token) (xs : List A) (i : ℕ) (x : A) (bracket : Token) (old now new : List Token) → SoFar f xs i bracket old now
-    → new ≡ now ++ f x → Some x ≡ slice_get xs i → SoFar f xs (i + 1) bracket old new
-more f xs i x bracket old now new so_far t h =
-    let n : suc i ≡ i + 1 = omega arith in
-    t ∙ ap (λ (ts : List Token). ts ++ f x) so_far ∙ append_assoc old (bracket ∷ each f (take i xs)) (f x)
-    ∙ ap (λ (ts : List Token). old ++ bracket ∷ ts) (sym (one_more f xs i x h) ∙ ap (λ (m : ℕ). each f (take m xs)) n)
-
-whole : {A : Type 0} (f : A → List Token) (xs : List A) (i : ℕ) (bracket close : Token) (old now new all : List Token) → SoFar f xs i bracket old now
-    → length xs ≤ i → new ≡ now ++ close ∷ [] → all ≡ bracket ∷ (each f xs ++ close ∷ []) → new ≡ old ++ all
-whole f xs i bracket close old now new all so_far h t is =
-    let done = so_far ∙ ap (λ ys. old ++ bracket ∷ each f ys) (take_all i xs h) in
-    t ∙ ap (λ (ts : List Token). ts ++ close ∷ []) done ∙ append_assoc old (bracket ∷ each f xs) (close ∷ [])
-    ∙ ap (λ (ts : List Token). old ++ ts) (sym is)
-
-pub wholly : {A E : Type 0} (f : A → List Token) (xs : List A) (i : ℕ) (bracket close : Token) (r : Result (Unit {0}) E) (old now new all : List Token)
-    → SoFar f xs i bracket old now → length xs ≤ i → Adds r now new (close ∷ []) → all ≡ bracket ∷ (each f xs ++ close ∷ []) → Adds r old new all
-wholly f xs i bracket close (Ok x) old now new all so_far h t is = whole f xs i bracket close old now new all so_far h t is
-wholly f xs i bracket close (Err x) old now new all so_far h t is = tt
 
 pub array_tokens : {A : Type 0} (f : A → Data) (xs : List A)
     → data_tokens (array (items_of (map f xs))) ≡ begin_array ∷ (each (λ x. data_tokens (f x)) xs ++ end_array ∷ [])
@@ -90,7 +60,3 @@ pub entry_at : (t : Resource) (i : ℕ) (k : List ℕ) (u : Resource) → kind_o
     → Some u ≡ slice_get (children_of t) i → Some (k, u) ≡ slice_get (pairs_of t) i
 entry_at (table es) i k u kind h e = entry_here (pairs es) i k u h e
 entry_at _ i k u kind h e = absurd cc
-
-pub entry_put : (old mid new : List Token) (k : List ℕ) (t : Resource) → mid ≡ old ++ key (key_text k) ∷ [] → new ≡ mid ++ tree_tokens t
-    → new ≡ old ++ entry_tokens (k, t)
-entry_put old mid new k t p q = q ∙ ap (λ (ts : List Token). ts ++ tree_tokens t) p ∙ append_assoc old (key (key_text k) ∷ []) (tree_tokens t)

@@ -20,9 +20,6 @@ character_more text more bytes i c d so_far is same h =
     is ∙ ap (λ t. t ++ encode_utf8 c) so_far ∙ sym (encodes-append front c)
     ∙ ap (λ x. encode_utf8_all (front ++ x ∷ [])) same ∙ ap encode_utf8_all step
 
-pub all_characters : (text bytes : List ℕ) (i : ℕ) → text ≡ encode_utf8_all (take i bytes) → length bytes ≤ i → text ≡ encode_utf8_all bytes
-all_characters text bytes i so_far h = so_far ∙ ap encode_utf8_all (take_all i bytes h)
-
 pub ascii_text : (text bytes : List ℕ) → text ≡ bytes → IsAscii bytes → text ≡ encode_utf8_all bytes
 ascii_text text bytes same h = same ∙ sym (encodes-IsAscii bytes h)
 

@@ -7,11 +7,13 @@ pub mod Surrogates
 pub mod Runs
 pub mod Plain
 pub mod Rooms
-pub mod Tagged
 pub mod SameValues
 pub mod Spelling
 pub mod Lengths
 pub mod Lists
+pub mod Laid
+pub mod Indented
+pub mod Leaves
 pub mod ItemKinds
 pub mod Objects
 pub mod AtLeast

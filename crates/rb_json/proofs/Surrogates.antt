@@ -49,10 +49,6 @@ ascii_read text (b ∷ bs) rest us r h =
     let one : Reads (text ++ b ∷ []) (bs ++ rest) us = (rw (append_assoc) (rw (step, byte) at r.0), rw step at r.1) in
     subst (λ (t : List ℕ). Reads t rest us) (append_assoc text (b ∷ []) bs) (ascii_read (text ++ b ∷ []) bs rest us one (λ (i : ℕ). h (suc i)))
 
-pub read_more : (text more us : List ℕ) (at next c : ℕ) → ReadSoFar text us at → utf16_chars (drop at us) ≡ Some c ∷ utf16_chars (drop next us)
-    → more ≡ text ++ encode_utf8 c → ReadSoFar more us next
-read_more text more us at next c so_far step pushed = (rw (pushed, append_assoc) (rw step at so_far.0), rw step at so_far.1)
-
 pub all_read : (text us : List ℕ) (at : ℕ) → ReadSoFar text us at → length us ≤ at
     → (true ≡ not (has_unpaired_surrogate us)) × (text ≡ encode_utf8_all (utf16_lossy_chars us))
 all_read text us at so_far h =

@@ -1,5 +1,6 @@
 pub mod Leaf
 pub mod Value
+pub mod Laid
 pub mod Tokens
 pub mod Printed
 pub mod Sound

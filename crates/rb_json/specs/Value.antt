@@ -47,3 +47,9 @@ abbrev mutual
   pub members_value : tree.Members → Members
   members_value no_entries = no_members
   members_value (entry_and k t es) = member (key_text k) (value_of t) (members_value es)
+
+-- an item without its children
+abbrev pub leaf_value : Resource → Data
+leaf_value (tree.array ts) = array no_items
+leaf_value (table es) = object no_members
+leaf_value t = value_of t

@@ -1,98 +1,32 @@
 //! Items as JSON, written piece by piece into an outlet: no text is in memory whole.
-ghost use Rattle.std.specs.Prelude.{◌≡◌, Some, codes, decimal, encode_utf8_all, false, true};
+ghost use Rattle.std.specs.Prelude.{◌≡◌, Some, codes, encode_utf8_all, false, true};
 ghost use Rattle.std.specs.Prelude.{IfOk, IfSome, option_map, string_bytes};
 ghost use Rattle.std.specs.Char.Utf16.{has_unpaired_surrogate, utf16_lossy_chars};
 ghost use Rattle.std.specs.Map.{keys_of};
 ghost use Rattle.json.specs.Print.{escape, quoted};
 ghost use Rattle.serde_json.specs.Data.{put, string};
-ghost use Rattle.serde_json.specs.Find.{of_integer};
-ghost use Rattle.serde_json.specs.Written.{comma_if, compact_text, number_text};
+ghost use Rattle.serde_json.specs.Written.{comma_if, compact_text};
 ghost use Rattle.rb_tree.specs.Path.{IsPath};
-ghost use Rattle.rb_tree.specs.Parts.{HasUnits, kind_of, numbers_of, pairs_of, units_of};
+ghost use Rattle.rb_tree.specs.Parts.{HasUnits, kind_of, pairs_of, units_of};
 ghost use Rattle.rb_tree.specs.declared.kind.Kind.TheVariants as Kinds;
 ghost use Rattle.rb_tree.specs.Resource.{int};
-ghost use Rattle.rb_json.specs.Item.{found_data, item_data, item_members, numbers_data, of_type};
+ghost use Rattle.rb_json.specs.Item.{found_data, item_data, item_members, of_type};
 ghost use Rattle.rb_json.specs.Item.{texts_data, units_data, with_text};
 ghost use Rattle.rb_json.specs.inner.Listed.{listed};
-ghost use Rattle.rb_json.specs.Parts.{SkipsItems, comma_before, name_text, rest_text};
-ghost use Rattle.rb_json.specs.Parts.{valid_text};
+ghost use Rattle.rb_json.specs.Parts.{name_text, rest_text, valid_text};
 
 use crate::buffer::Buffer;
-use crate::leaf::signed;
+use crate::layout::Layout;
+use crate::list::{put_numbers, put_units, skips_items};
 use crate::outlet::Outlet;
 use crate::spell::{
     is_well_formed, plain_run, put_latin, put_runs, spell_bytes, spell_hex, spell_integer,
     spell_text, spell_units, spell_unsigned,
 };
 use crate::units::RUN;
+use crate::value::signed;
 use rb_tree::{Kind, Node};
 use std::alloc::{AllocError, Global};
-
-/// Writes a comma before any item of an array except the first.
-fn put_item_comma<O: Outlet>(out: &mut O, i: usize)
-    ensures { O.takes out.old out.new (comma_before i) }
-{
-    if i > 0 {
-        out.put(b",")
-    }
-}
-
-/// Returns true if the outlet needs no more items of an array. If not, the next item may follow:
-/// the comma before it is written.
-pub fn skips_items<O: Outlet>(out: &mut O, i: usize) -> bool
-    ensures { SkipsItems (O.takes out.old out.new) i result }
-{
-    if out.skips(0) {
-        return true;
-    }
-    put_item_comma(out, i);
-    false
-}
-
-fn put_unit_items<O: Outlet, N: Node>(out: &mut O, node: N)
-    requires { HasUnits (kind_of (N.tree node)) }
-    ensures { O.takes out.old out.new (listed decimal (units_of (N.tree node))) }
-{
-    let len = node.len();
-    for i in 0..len {
-        if skips_items(out, i) {
-            return;
-        }
-        spell_unsigned(out, u64::from(node.unit(i)));
-    }
-}
-
-fn put_units<O: Outlet, N: Node>(out: &mut O, node: N)
-    requires { HasUnits (kind_of (N.tree node)) }
-    ensures { O.takes out.old out.new (compact_text (units_data (units_of (N.tree node)))) }
-{
-    out.put(b"[");
-    put_unit_items(out, node);
-    out.put(b"]")
-}
-
-fn put_number_items<O: Outlet, N: Node>(out: &mut O, node: N)
-    requires { kind_of (N.tree node) ≡ Kinds.Ints }
-    ensures { O.takes out.old out.new
-        (listed (λ z. number_text (of_integer z)) (numbers_of (N.tree node))) }
-{
-    let len = node.len();
-    for i in 0..len {
-        if skips_items(out, i) {
-            return;
-        }
-        spell_integer(out, i64::from(node.number(i)));
-    }
-}
-
-fn put_numbers<O: Outlet, N: Node>(out: &mut O, node: N)
-    requires { kind_of (N.tree node) ≡ Kinds.Ints }
-    ensures { O.takes out.old out.new (compact_text (numbers_data (numbers_of (N.tree node)))) }
-{
-    out.put(b"[");
-    put_number_items(out, node);
-    out.put(b"]")
-}
 
 fn put_key_items<O: Outlet, N: Node>(out: &mut O, node: N)
     requires { kind_of (N.tree node) ≡ Kinds.Table }
@@ -172,7 +106,7 @@ fn put_ill_formed<O: Outlet, N: Node>(
     put_name(out, later, "type");
     spell_text(out, word);
     put_name(out, true, "units");
-    put_units(out, node);
+    put_units(out, node, Layout::Compact, 0);
     put_valid(out, valid);
     out.put(b"}")
 }
@@ -263,7 +197,7 @@ fn put_ints<O: Outlet, N: Node>(out: &mut O, later: bool, node: N, valid: Option
     spell_text(out, "intvector");
     put_valid(out, valid);
     put_name(out, true, "values");
-    put_numbers(out, node);
+    put_numbers(out, node, Layout::Compact, 0);
     out.put(b"}")
 }
 
@@ -325,7 +259,7 @@ fn put_found_members<O: Outlet, N: Node>(out: &mut O, actual: &[u8], valid: &[u8
 
 /// Writes the characters of a String: those in `plain`, if they are given, in one piece.
 #[inline(always)]
-fn put_value<O: Outlet, N: Node>(out: &mut O, node: N, plain: Option<&[u8]>)
+fn put_characters<O: Outlet, N: Node>(out: &mut O, node: N, plain: Option<&[u8]>)
     requires units { HasUnits (kind_of (N.tree node)) }
     requires plain { IfSome plain (λ text. text.now
         ≡ escape (encode_utf8_all (utf16_lossy_chars (units_of (N.tree node))))) }
@@ -360,7 +294,7 @@ fn put_found_text<O: Outlet, N: Node>(
     out.put(b"\",\"type\":\"string\",\"valid\":\"");
     put_latin(out, valid);
     out.put(b"\",\"value\":\"");
-    put_value(out, node, plain);
+    put_characters(out, node, plain);
     out.put(b"\"}")
 }
 

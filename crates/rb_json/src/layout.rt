@@ -1,5 +1,5 @@
 /// The layout of a JSON value, whose tokens are the same in each.
-#[derive(Clone, Copy, Debug, PartialEq, Eq)]
+#[derive(Clone, Copy, PartialEq, Eq)]
 pub enum Layout {
     /// One line, with no space.
     Compact,

@@ -10,7 +10,7 @@ pub enum JsonFaultKind {
     NotUtf8,
     /// The text is no JSON from this token on, or it ends too early.
     NotJson,
-    /// The text goes on after the value.
+    /// The text continues after the value.
     TrailingText,
     /// The whole value is not a table.
     NotTable,

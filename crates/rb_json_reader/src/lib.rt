@@ -1,5 +1,5 @@
-//! Reads the JSON form of a tree back (docs/JSON.md), from a reader of tokens: no value of the
-//! text is in memory besides its tree.
+//! Reads the JSON form of a tree back (docs/JSON.md), from a reader of tokens: only the tree is in
+//! memory, no value of the text.
 #![tactic(auto)]
 
 mod fault;

@@ -5,9 +5,6 @@ use crate::window::Window;
 use bstr::ByteSlice;
 use std::alloc::AllocError;
 
-/// The columns of a line.
-pub(crate) const LINE: usize = 100;
-
 /// The deepest level at which lines are broken by their length.
 pub(crate) const DEEPEST: usize = 12;
 
@@ -71,8 +68,9 @@ impl Body {
         !self.has_break && !(self.is_list && self.begins_line)
     }
 
-    /// Decides at the right brace, given the column of the left one and the level inside.
-    fn is_inline(&self, end: &Piece, column: usize, level: usize) -> bool {
+    /// Decides at the right brace, given the column of the left one, the level inside and the
+    /// columns of a line.
+    fn is_inline(&self, end: &Piece, column: usize, level: usize, line: usize) -> bool {
         if self.texts > 0 && !self.is_list {
             return true;
         }
@@ -80,17 +78,18 @@ impl Body {
             return false;
         }
         let is_short = !self.is_other && self.texts <= FEW;
-        is_short || level > DEEPEST || column.saturating_add(self.columns).saturating_add(3) <= LINE
+        is_short || level > DEEPEST || column.saturating_add(self.columns).saturating_add(3) <= line
     }
 }
 
 /// Checks whether the body whose left brace was taken is on one line. Its brace ends at this
-/// column; the level is that inside the body.
+/// column; the level is that inside the body, and `line` the columns of a line.
 pub(crate) fn is_inline(
     text: &[u8],
     window: &mut Window<'_>,
     column: usize,
     level: usize,
+    line: usize,
 ) -> Result<bool, AllocError> {
     let mut body = Body::new();
     for i in 0..MOST {
@@ -98,7 +97,7 @@ pub(crate) fn is_inline(
             return Ok(false);
         };
         if piece.kind == PieceKind::RightBrace {
-            return Ok(body.is_inline(&piece, column, level));
+            return Ok(body.is_inline(&piece, column, level, line));
         }
         if !body.add(text, &piece, i == 0) {
             return Ok(false);

@@ -2,7 +2,7 @@
 use crate::piece::{Piece, PieceKind};
 
 /// The white space before a piece.
-#[derive(Clone, Copy, Debug, PartialEq, Eq)]
+#[derive(Clone, Copy, PartialEq, Eq)]
 pub(crate) enum Gap {
     Nothing,
     Space,
@@ -11,7 +11,7 @@ pub(crate) enum Gap {
 }
 
 /// The context of a piece: the piece before it, and the body around it.
-#[derive(Clone, Copy, Debug)]
+#[derive(Clone, Copy)]
 pub(crate) struct Before {
     /// The piece before it, or none at the start of the text.
     pub(crate) kind: Option<PieceKind>,

@@ -2,23 +2,25 @@
 ghost use Rattle.std.specs.Prelude.{IfErr};
 ghost use Rattle.rb_layout.specs.Formatted.{IsOwnFault};
 
-use crate::body::{DEEPEST, LINE, is_inline};
+use crate::body::{DEEPEST, is_inline};
 use crate::fault::FormatFault;
 use crate::gap::{Before, Gap};
 use crate::piece::{Piece, PieceKind};
+use crate::style::Style;
 use crate::widths::columns;
 use crate::window::Window;
 use rb_lexer::SOURCE_LIMIT;
 use std::alloc::{AllocError, Global};
 
-/// The levels whose spaces are written at once.
-const LEVELS: usize = 16;
+/// The most spaces that are written at once.
+const SPAN: usize = 64;
 
-static SPACES: [u8; 4 * LEVELS] = [b' '; 4 * LEVELS];
+static SPACES: [u8; SPAN] = [b' '; SPAN];
 
 #[derive(Drop)]
 struct Layout<'a> {
     text: &'a [u8],
+    style: Style,
     window: Window<'a>,
     out: Vec<u8>,
     level: usize,
@@ -28,10 +30,11 @@ struct Layout<'a> {
 }
 
 impl<'a> Layout<'a> {
-    fn new(alloc: Global, text: &'a [u8]) -> Result<Layout<'a>, AllocError> {
+    fn new(alloc: Global, text: &'a [u8], style: Style) -> Result<Layout<'a>, AllocError> {
         let capacity = text.len().saturating_add(text.len() / 8).min(SOURCE_LIMIT);
         Ok(Layout {
             text,
+            style,
             window: Window::new(alloc, text),
             out: Vec::with_capacity(alloc, capacity)?,
             level: 0,
@@ -47,24 +50,25 @@ impl<'a> Layout<'a> {
     /// Begins a line at a level.
     fn begin_line(&mut self, level: usize) -> Result<(), AllocError> {
         self.out.push(b'\n')?;
-        let mut left = level;
-        for _ in 0..level {
+        self.column = level.saturating_mul(self.style.indent);
+        let mut left = self.column;
+        for _ in 0..self.column {
             if left == 0 {
                 break;
             }
-            let levels = left.min(LEVELS);
-            let spaces = SPACES.get(..levels.saturating_mul(4)).unwrap_or(&[]);
+            let width = left.min(SPAN);
+            let spaces = SPACES.get(..width).unwrap_or(&[]);
             self.out.extend_from_slice(spaces)?;
-            left -= levels;
+            left -= width;
         }
-        self.column = level.saturating_mul(4);
         self.before.owes_line = false;
         Ok(())
     }
 
     /// Checks whether a text and a comma fit into the current line, after a space.
     fn fits(&self, width: usize) -> bool {
-        self.level > DEEPEST || self.column.saturating_add(width).saturating_add(2) <= LINE
+        let past = self.column.saturating_add(width).saturating_add(2);
+        self.level > DEEPEST || past <= self.style.width
     }
 
     /// Returns the gap before a piece of a width.
@@ -101,7 +105,8 @@ impl<'a> Layout<'a> {
         match piece.kind {
             PieceKind::LeftBrace => {
                 self.level = self.level.saturating_add(1);
-                let is_inline = is_inline(self.text, &mut self.window, self.column, self.level)?;
+                let (column, line) = (self.column, self.style.width);
+                let is_inline = is_inline(self.text, &mut self.window, column, self.level, line)?;
                 self.before.is_inline = is_inline;
                 self.before.owes_line = !is_inline;
             }
@@ -136,10 +141,10 @@ impl<'a> Layout<'a> {
 
 /// Lays a text out. Errors: `TooLarge` as soon as the laid out text is longer than any source;
 /// `Memory`.
-pub(crate) fn lay_out(alloc: Global, text: &[u8]) -> Result<Vec<u8>, FormatFault>
+pub(crate) fn lay_out(alloc: Global, text: &[u8], style: Style) -> Result<Vec<u8>, FormatFault>
     ensures error { IfErr result IsOwnFault }
 {
-    let mut layout = Layout::new(alloc, text)?;
+    let mut layout = Layout::new(alloc, text, style)?;
     for _ in 0..text.len() {
         let Some(piece) = layout.window.take() else {
             break;

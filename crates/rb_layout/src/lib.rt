@@ -10,9 +10,11 @@ pub mod laws;
 mod layout;
 mod piece;
 mod scan;
+mod style;
 mod tokens;
 mod widths;
 mod window;
 
 pub use fault::FormatFault;
-pub use formatting::format;
+pub use formatting::{format, format_in};
+pub use style::Style;

@@ -1,4 +1,4 @@
-#[derive(Clone, Copy, Debug, PartialEq, Eq)]
+#[derive(Clone, Copy, PartialEq, Eq)]
 pub(crate) enum PieceKind {
     LeftBrace,
     RightBrace,
@@ -12,7 +12,7 @@ pub(crate) enum PieceKind {
 }
 
 /// A piece of a text, a punctuation character or a comment. A line comment is without its line end.
-#[derive(Clone, Copy, Debug)]
+#[derive(Clone, Copy)]
 pub(crate) struct Piece {
     pub(crate) kind: PieceKind,
     /// The first byte; `past` is the byte after the last.

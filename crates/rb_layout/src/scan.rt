@@ -5,7 +5,7 @@ use crate::widths::{
 };
 
 /// The handling of comments inside unquoted pieces.
-#[derive(Clone, Copy, Debug, PartialEq, Eq)]
+#[derive(Clone, Copy, PartialEq, Eq)]
 pub(crate) enum Inside {
     /// They are part of the piece.
     Joined,

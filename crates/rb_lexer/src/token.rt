@@ -1,6 +1,6 @@
 use rb_tree::UnitList;
 
-#[derive(Debug, Drop)]
+#[derive(Drop)]
 pub enum Mark {
     Text(UnitList),
     LeftBrace,
@@ -10,7 +10,7 @@ pub enum Mark {
 }
 
 /// A text or a punctuation mark, its byte range, and the line in which it begins.
-#[derive(Debug, Drop)]
+#[derive(Drop)]
 pub struct Token {
     pub what: Mark,
     pub first: usize,

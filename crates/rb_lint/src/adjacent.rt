@@ -4,7 +4,7 @@ use crate::warning::Doubt;
 use std::alloc::{AllocError, Global};
 
 /// The body after an open brace.
-#[derive(Clone, Copy, Debug)]
+#[derive(Clone, Copy)]
 struct OpenBody {
     /// It is an array or a vector: it has a comma, or the type says so.
     is_list: bool,
@@ -12,6 +12,16 @@ struct OpenBody {
     is_vector: bool,
     /// The length of `noted` before it.
     noted: u32,
+    has_quoted: bool,
+    /// The second word of the first text without quotes in it.
+    loose: Option<u32>,
+}
+
+/// Checks whether a text is meant to continue the one before it: a comment is between them, or it is in a
+/// line of its own, further right than the line that the other one begins.
+fn is_continued(text: &[u8], a: &Piece, b: &Piece) -> bool {
+    let gap = text.get(a.past..b.first).unwrap_or(&[]);
+    gap.contains(&b'/') || a.begins_line && b.begins_line && b.column > a.column
 }
 
 /// Reports each quoted piece next to an unquoted one, and adjacent texts in an array or a vector.
@@ -36,6 +46,8 @@ impl AdjacentSearch {
             is_list: is_vector || of_type == b"array".as_slice(),
             is_vector,
             noted: narrow(self.noted.len() as u64),
+            has_quoted: false,
+            loose: None,
         })?;
         Ok(())
     }
@@ -52,7 +64,26 @@ impl AdjacentSearch {
             }
         }
         self.noted.truncate(first);
-        Ok(())
+        match open.loose {
+            Some(at) if open.is_list && open.has_quoted => {
+                warnings.add(at as usize, Doubt::LooseItem)
+            }
+            _ => Ok(()),
+        }
+    }
+
+    /// Notes quotes in the innermost body.
+    fn note_kind(&mut self, piece: &Piece) {
+        if let Some(open) = self.open.last_mut() {
+            open.has_quoted = open.has_quoted || piece.kind == PieceKind::Quoted;
+        }
+    }
+
+    /// Notes two words without quotes in the innermost body.
+    fn note_loose(&mut self, piece: &Piece) {
+        if let Some(open) = self.open.last_mut() {
+            open.loose = open.loose.or(Some(narrow(piece.first as u64)));
+        }
     }
 
     fn comma(&mut self) {
@@ -61,8 +92,10 @@ impl AdjacentSearch {
         }
     }
 
+    /// Takes two texts side by side.
     fn meet(
         &mut self,
+        text: &[u8],
         a: &Piece,
         b: &Piece,
         warnings: &mut Collector<'_>,
@@ -77,7 +110,10 @@ impl AdjacentSearch {
             Some(open) => open.is_vector,
             None => false,
         };
-        if a.kind == PieceKind::Quoted || is_vector {
+        if a.kind == PieceKind::Unquoted {
+            self.note_loose(a);
+        }
+        if (a.kind == PieceKind::Quoted || is_vector) && !is_continued(text, a, b) {
             self.noted.push(narrow(a.past as u64))?;
         }
         Ok(())
@@ -91,6 +127,7 @@ impl AdjacentSearch {
         piece: &Piece,
         warnings: &mut Collector<'_>,
     ) -> Result<(), AllocError> {
+        self.note_kind(piece);
         match piece.kind {
             PieceKind::LeftBrace if before.is_text() => {
                 self.enter(text.get(before.first..before.past).unwrap_or(&[]))
@@ -103,7 +140,7 @@ impl AdjacentSearch {
             }
             PieceKind::Colon => Ok(()),
             PieceKind::Quoted | PieceKind::Unquoted if before.is_text() => self.meet(
-                before, piece, warnings,
+                text, before, piece, warnings,
             ),
             PieceKind::Quoted | PieceKind::Unquoted => Ok(()),
         }

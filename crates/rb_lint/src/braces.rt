@@ -10,7 +10,7 @@ use std::alloc::{AllocError, Global};
 const HANGING: u32 = u32::MAX;
 
 /// An open brace, or the whole text with column and line 0.
-#[derive(Clone, Copy, Debug)]
+#[derive(Clone, Copy)]
 struct OpenBrace {
     /// The column of the line that opened it.
     column: u32,

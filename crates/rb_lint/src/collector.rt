@@ -45,7 +45,7 @@ impl<'a> Collector<'a> {
 
     /// Checks whether warnings of a rule are left out at a place.
     pub(crate) fn is_allowed(&self, at: usize, rule: Rule) -> bool {
-        self.levels.allowed.has(rule) || self.allowances.at(at).has(rule)
+        self.levels.leaves_out(rule) || self.allowances.at(at).has(rule)
     }
 
     pub(crate) fn push(

@@ -1,11 +1,13 @@
 use crate::rule::Rule;
 use crate::uses::ValueKind;
 use rb_explain::kind_word;
+use rb_messages::MessageFault;
+use rb_strings::{Edge, MarkKind};
 use rb_tree::Kind;
 use std::fmt;
 
 /// The differences between an item and the root's.
-#[derive(Debug, Drop)]
+#[derive(Drop)]
 pub enum Change {
     /// Only the root has it.
     Absent,
@@ -26,10 +28,27 @@ pub enum Change {
         here: ValueKind,
         root: ValueKind,
     },
+    /// It has another number of items.
+    OtherLength {
+        here: usize,
+        root: usize,
+    },
+    /// It can't be read as a message, and the root's has arguments.
+    Unreadable(MessageFault),
+    /// It lacks a part that a translation keeps.
+    LacksMark(MarkKind, Vec<u8>),
+    /// It has a part that the root's item hasn't.
+    AddsMark(MarkKind, Vec<u8>),
+    /// It has other blanks than the root's item.
+    Blanks(Edge),
+    /// It is empty, and the root's item isn't.
+    Empty,
+    /// It is the root's text.
+    Same,
 }
 
-/// How an item differs from the root's.
-#[derive(Debug, Drop)]
+/// A difference between an item and the root's.
+#[derive(Drop)]
 pub struct Difference {
     /// The keys and indexes of the item, with slashes between them.
     pub path: Vec<u8>,
@@ -43,7 +62,35 @@ impl Change {
             Change::Additional => Rule::UnusedKey,
             Change::OtherKind { .. } => Rule::OtherType,
             Change::Lacks(_) | Change::Adds(_) | Change::OtherUse { .. } => Rule::OtherArguments,
+            Change::OtherLength { .. } => Rule::OtherLength,
+            Change::Unreadable(_) => Rule::BrokenMessage,
+            Change::LacksMark(kind, _) | Change::AddsMark(kind, _) => mark_rule(*kind),
+            Change::Blanks(Edge::Spelled(_)) => Rule::DoubledBackslash,
+            Change::Blanks(_) => Rule::OtherBlanks,
+            Change::Empty => Rule::EmptyText,
+            Change::Same => Rule::SameText,
         }
+    }
+}
+
+fn mark_rule(kind: MarkKind) -> Rule {
+    match kind {
+        MarkKind::Placeholder => Rule::OtherPlaceholders,
+        MarkKind::Tag => Rule::OtherTags,
+        MarkKind::Address => Rule::OtherAddresses,
+        MarkKind::Number => Rule::OtherNumbers,
+    }
+}
+
+/// Says how the blanks of an item differ from those of the root's.
+fn edge_text(edge: Edge) -> &'static str {
+    match edge {
+        Edge::First { is_lost: true } => "begins with no blank, and with one in the root",
+        Edge::First { is_lost: false } => "begins with a blank, and with none in the root",
+        Edge::Last { is_lost: true } => "ends with no blank, and with one in the root",
+        Edge::Last { is_lost: false } => "ends with a blank, and with none in the root",
+        Edge::Spelled(_) =>
+            "has a backslash and n where the root has a line feed; is a line feed meant?",
     }
 }
 
@@ -84,6 +131,29 @@ impl fmt::Display for Difference {
                     shown(name)
                 )
             }
+            Change::OtherLength { here, root } => {
+                write!(f, "'{path}' has {here} items, and {root} in the root")
+            }
+            Change::Unreadable(fault) => {
+                write!(
+                    f,
+                    "'{path}' is a message in the root, and can't be formatted here: {fault}"
+                )
+            }
+            Change::LacksMark(_, mark) => {
+                let mark = shown(mark);
+                write!(f, "'{path}' has no {mark}, which it has in the root")
+            }
+            Change::AddsMark(_, mark) => {
+                let mark = shown(mark);
+                write!(f, "'{path}' has {mark}, which it hasn't in the root")
+            }
+            Change::Blanks(edge) => {
+                let text = edge_text(*edge);
+                write!(f, "'{path}' {text}")
+            }
+            Change::Empty => write!(f, "'{path}' is empty, and not in the root"),
+            Change::Same => write!(f, "'{path}' is the root's text; is it to be translated?"),
             Change::OtherUse { name, here, root } => {
                 let (here, root) = (value_word(*here), value_word(*root));
                 let name = shown(name);

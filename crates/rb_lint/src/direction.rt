@@ -1,6 +1,6 @@
 /// The open controls of the writing direction in a piece. An editor shows what follows them in
 /// another order than that of the text.
-#[derive(Clone, Copy, Debug)]
+#[derive(Clone, Copy)]
 pub(crate) struct Direction {
     /// Embeddings and overrides, which U+202C closes.
     embeddings: u64,

@@ -10,7 +10,7 @@ use std::alloc::{AllocError, Global};
 use std::fmt;
 
 /// The part of a text that an error is about.
-#[derive(Debug, Drop)]
+#[derive(Drop)]
 pub enum About {
     /// Nothing is known of it but its kind.
     Unknown,
@@ -22,10 +22,12 @@ pub enum About {
     End,
     /// The text is UTF-16.
     Utf16,
+    /// The escape `\c`.
+    Control,
 }
 
 /// Why a text isn't compiled.
-#[derive(Debug, Drop)]
+#[derive(Drop)]
 pub struct FaultText {
     pub kind: SourceKind,
     pub about: About,
@@ -76,6 +78,12 @@ impl fmt::Display for FaultText {
         let (word, text) = (self.kind.word(), kind_text(self.kind));
         match (&self.about, self.kind) {
             (About::Utf16, _) => { write!(f, "{word}: this text is UTF-16; save it as UTF-8") }
+            (About::Control, _) => {
+                write!(
+                    f,
+                    "{word}: {text}; genrb makes a control character of \\c and the next one"
+                )
+            }
             (About::Key(key, line), _) => {
                 let key = shown(key);
                 write!(f, "{word}: key '{key}' is already defined in line {line}")
@@ -284,6 +292,9 @@ pub(crate) fn find_fault(
             let places = escapes_of(alloc, text, fault.line)?;
             let found = place_of(alloc, text, &places, fault)?;
             match found.and_then(|i| places.get(i).copied()) {
+                Some(at) if text.get(at.saturating_add(1)) == Some(&b'c') => {
+                    without_source(at, fault.kind, About::Control)
+                }
                 Some(at) => without_source(at, fault.kind, About::Unknown),
                 None => not_found(text, fault),
             }

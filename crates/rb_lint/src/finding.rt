@@ -6,7 +6,7 @@ use crate::warning::Doubt;
 use std::fmt;
 
 /// The subject of a finding.
-#[derive(Debug, Drop)]
+#[derive(Drop)]
 pub enum Message {
     /// Why the text isn't compiled.
     Fault(FaultText),
@@ -28,7 +28,7 @@ impl fmt::Display for Message {
     }
 }
 
-#[derive(Clone, Copy, Debug, PartialEq, Eq)]
+#[derive(Clone, Copy, PartialEq, Eq)]
 pub enum Severity {
     Error,
     Warning,
@@ -44,7 +44,7 @@ impl Severity {
 }
 
 /// An error or a warning at its place in a text.
-#[derive(Debug, Drop)]
+#[derive(Drop)]
 pub struct Finding {
     /// The line, counted by line feeds from 1.
     pub line: u64,

@@ -5,7 +5,7 @@ use crate::warning::Doubt;
 use std::alloc::{AllocError, Global};
 
 /// The kind of a body, by its type or by its first entry or item.
-#[derive(Clone, Copy, Debug, PartialEq, Eq)]
+#[derive(Clone, Copy, PartialEq, Eq)]
 enum Body {
     Unknown,
     Table,

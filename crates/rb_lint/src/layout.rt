@@ -5,7 +5,7 @@ use crate::piece::{Piece, PieceKind};
 const INDENTED: usize = 9;
 
 /// Counts braces and indented lines.
-#[derive(Clone, Copy, Debug)]
+#[derive(Clone, Copy)]
 pub(crate) struct Layout {
     /// The number of open braces.
     open: u64,

@@ -1,13 +1,14 @@
 //! Finds what is doubtful in a message of ICU's MessageFormat.
 use crate::language::Language;
 use crate::path::shown_name;
-use crate::pattern::PatternDoubt;
+use crate::pattern::{PatternDoubt, PlacedDoubt};
 use crate::piece::narrow;
 use crate::uses::{Named, Uses};
 use rb_messages::{
     Argument, ArgumentType, Categories, Category, MessageError, MessageFault, MessageParser, Part,
     Span,
 };
+use rb_strings::{damage_in, date_fault, number_fault};
 use std::alloc::{AllocError, Global};
 
 /// The maximum number of doubts of one message.
@@ -25,6 +26,12 @@ const COMMA: u16 = 0x2C;
 const EQUALS: u16 = 0x3D;
 
 const BRACKET: u16 = 0x5B;
+
+const CLOSING_BRACKET: u16 = 0x5D;
+
+const COLON: u16 = 0x3A;
+
+const DOLLAR: u16 = 0x24;
 
 /// One of the messages that an argument chooses from.
 #[derive(Clone, Copy)]
@@ -72,17 +79,18 @@ struct MessageSearch<'a> {
     open: Vec<OpenArgument>,
     /// The selectors of the open arguments.
     selectors: Vec<(u32, u32)>,
-    doubts: Vec<PatternDoubt>,
-    /// A closing brace closes none.
-    has_stray: bool,
+    doubts: Vec<PlacedDoubt>,
+    /// The first closing brace that closes none.
+    stray: Option<usize>,
 }
 
-/// The arguments of a message, by ascending names, or None if it can't be parsed, and what is doubtful in
-/// it.
+/// The arguments of a message, by ascending names, or why it can't be parsed, and what is doubtful in it.
 #[derive(Drop)]
 pub(crate) struct Message<'a> {
-    pub(crate) named: Option<Vec<Named<'a>>>,
-    pub(crate) doubts: Vec<PatternDoubt>,
+    pub(crate) named: Result<Vec<Named<'a>>, MessageError>,
+    pub(crate) doubts: Vec<PlacedDoubt>,
+    /// It has messages to choose from.
+    pub(crate) has_branches: bool,
 }
 
 fn is_name_unit(unit: u16) -> bool {
@@ -100,9 +108,19 @@ fn leading_argument(units: &[u16]) -> Option<&[u16]> {
     inside.get(..past)
 }
 
-/// Checks whether a text is a set of characters, as `UnicodeSet` reads it: it begins with a bracket.
+/// Checks whether a text is a set of characters or rules of a transliteration, as ICU reads them: it begins
+/// with a bracket, two colons or a variable. A set that begins with a string ends with a bracket, too.
 fn is_set(text: &[u16]) -> bool {
-    text.first() == Some(&BRACKET)
+    let second = text.get(1).copied();
+    match text.first().copied() {
+        Some(BRACKET) => second != Some(BRACE) || text.last() == Some(&CLOSING_BRACKET),
+        Some(COLON) => second == Some(COLON),
+        Some(DOLLAR) => match second {
+            Some(unit) => is_name_unit(unit),
+            None => false,
+        },
+        _ => false,
+    }
 }
 
 /// Checks for a brace and a name without a brace that closes it before the next one.
@@ -133,13 +151,13 @@ impl<'a> MessageSearch<'a> {
             open: Vec::new(alloc),
             selectors: Vec::new(alloc),
             doubts: Vec::new(alloc),
-            has_stray: false,
+            stray: None,
         }
     }
 
-    fn add(&mut self, doubt: PatternDoubt) -> Result<(), AllocError> {
+    fn add(&mut self, at: usize, doubt: PatternDoubt) -> Result<(), AllocError> {
         if self.doubts.len() < DOUBT_LIMIT {
-            self.doubts.push(doubt)?;
+            self.doubts.push(PlacedDoubt { at, doubt })?;
         }
         Ok(())
     }
@@ -153,7 +171,30 @@ impl<'a> MessageSearch<'a> {
         match leading_argument(span.of(self.text)) {
             Some(name) => {
                 let name = shown_name(self.alloc, name)?;
-                self.add(PatternDoubt::Quoted(name))
+                self.add(span.first, PatternDoubt::Quoted(name))
+            }
+            None => Ok(()),
+        }
+    }
+
+    /// Checks the pattern of a date or a number.
+    fn style(&mut self, argument: Argument) -> Result<(), AllocError> {
+        let Some(span) = argument.style else {
+            return Ok(());
+        };
+        let style = span.of(self.text);
+        let fault = match argument.of_type {
+            ArgumentType::Date | ArgumentType::Time => date_fault(style),
+            ArgumentType::Number => number_fault(style),
+            _ => None,
+        };
+        match fault {
+            Some(fault) => {
+                let blanks = style.iter().position(|unit| *unit > 0x20).unwrap_or(0);
+                self.add(
+                    span.first.saturating_add(blanks),
+                    PatternDoubt::Style(fault),
+                )
             }
             None => Ok(()),
         }
@@ -161,6 +202,7 @@ impl<'a> MessageSearch<'a> {
 
     fn argument(&mut self, argument: Argument) -> Result<(), AllocError> {
         let around = self.branch_here();
+        self.style(argument)?;
         self.uses.add(argument.name, argument.of_type, around)?;
         if !argument.of_type.has_messages() {
             return Ok(());
@@ -213,22 +255,25 @@ impl<'a> MessageSearch<'a> {
         Ok(())
     }
 
-    /// Returns the selectors of an argument, in ascending order.
-    fn selectors_of(&self, open: OpenArgument) -> Result<Vec<&'a [u16]>, AllocError> {
+    /// Returns the selectors of an argument, in ascending order, each with its first unit.
+    fn selectors_of(&self, open: OpenArgument) -> Result<Vec<(&'a [u16], u32)>, AllocError> {
         let mut found = Vec::new(self.alloc);
         for (first, past) in self.selectors.get(open.selectors as usize..).unwrap_or(&[]) {
             let range = *first as usize..*past as usize;
-            found.push(self.text.get(range).unwrap_or(&[]))?;
+            found.push((self.text.get(range).unwrap_or(&[]), *first))?;
         }
-        found.sort()?;
+        found.sort_by_key(|selector| selector.0)?;
         Ok(found)
     }
 
-    fn repeated(&mut self, selectors: &[&'a [u16]]) -> Result<(), AllocError> {
+    fn repeated(&mut self, selectors: &[(&'a [u16], u32)]) -> Result<(), AllocError> {
         for (selector, next) in selectors.iter().zip(selectors.get(1..).unwrap_or(&[])) {
-            if *selector == *next {
-                let shown = shown_name(self.alloc, *selector)?;
-                self.add(PatternDoubt::Repeated(shown))?;
+            if selector.0 == next.0 {
+                let shown = shown_name(self.alloc, selector.0)?;
+                self.add(
+                    next.1.max(selector.1) as usize,
+                    PatternDoubt::Repeated(shown),
+                )?;
             }
         }
         Ok(())
@@ -237,20 +282,20 @@ impl<'a> MessageSearch<'a> {
     /// Reports words that are no category of the language.
     fn unknown(
         &mut self,
-        selectors: &[&'a [u16]],
+        selectors: &[(&'a [u16], u32)],
         categories: Option<Categories>,
     ) -> Result<(), AllocError> {
-        for selector in selectors {
+        for (selector, at) in selectors {
             if selector.first() == Some(&EQUALS) {
                 continue;
             }
             match (Category::named(*selector), categories) {
                 (None, _) => {
                     let shown = shown_name(self.alloc, *selector)?;
-                    self.add(PatternDoubt::Unknown(shown))?;
+                    self.add(*at as usize, PatternDoubt::Unknown(shown))?;
                 }
                 (Some(category), Some(known)) if !known.has(category) => {
-                    self.add(PatternDoubt::Unused(category))?;
+                    self.add(*at as usize, PatternDoubt::Unused(category))?;
                 }
                 _ => {}
             }
@@ -262,26 +307,27 @@ impl<'a> MessageSearch<'a> {
     /// languages in which that is no more than 1, and so on.
     fn lacking(
         &mut self,
-        selectors: &[&'a [u16]],
+        at: usize,
+        selectors: &[(&'a [u16], u32)],
         categories: Categories,
     ) -> Result<(), AllocError> {
         let is_simple = !categories.has(Category::Few) && !categories.has(Category::Many);
         let has_number = selectors
             .iter()
-            .any(|selector| selector.first() == Some(&EQUALS));
+            .any(|selector| selector.0.first() == Some(&EQUALS));
         for category in Category::ALL {
             let is_here = selectors
                 .iter()
-                .any(|selector| Category::named(*selector) == Some(category));
+                .any(|selector| Category::named(selector.0) == Some(category));
             if categories.is_common(category) && !is_here && !(is_simple && has_number) {
-                self.add(PatternDoubt::Lacking(category))?;
+                self.add(at, PatternDoubt::Lacking(category))?;
             }
         }
         Ok(())
     }
 
-    /// Checks the selectors of an argument that ends.
-    fn end(&mut self) -> Result<(), AllocError> {
+    /// Checks the selectors of an argument that ends at a brace.
+    fn end(&mut self, brace: usize) -> Result<(), AllocError> {
         self.end_branch();
         let Some(open) = self.open.pop() else {
             return Ok(());
@@ -299,7 +345,7 @@ impl<'a> MessageSearch<'a> {
         };
         self.unknown(&selectors, categories)?;
         match categories {
-            Some(categories) => self.lacking(&selectors, categories),
+            Some(categories) => self.lacking(brace, &selectors, categories),
             None => Ok(()),
         }
     }
@@ -310,9 +356,9 @@ impl<'a> MessageSearch<'a> {
             Part::Hash(_) => Ok(()),
             Part::Argument(argument) => self.argument(argument),
             Part::Branch(selector) => self.branch(selector),
-            Part::End(_) => self.end(),
-            Part::Stray(_) => {
-                self.has_stray = true;
+            Part::End(brace) => self.end(brace),
+            Part::Stray(at) => {
+                self.stray = self.stray.or(Some(at));
                 Ok(())
             }
         }
@@ -371,7 +417,7 @@ impl<'a> MessageSearch<'a> {
         for argument in named {
             if self.is_lonely(argument) {
                 let shown = shown_name(self.alloc, argument.name)?;
-                self.add(PatternDoubt::OneBranch(shown))?;
+                self.add(argument.at, PatternDoubt::OneBranch(shown))?;
             }
         }
         Ok(())
@@ -401,33 +447,63 @@ pub(crate) fn search_message(
     language: Language,
 ) -> Result<Message<'_>, AllocError> {
     let mut search = MessageSearch::new(alloc, text, language);
-    match search.read()? {
-        None => {
-            let named = search.uses.named()?;
-            search.lonely(&named)?;
-            if search.has_stray && !named.is_empty() && !is_set(text) {
-                search.add(PatternDoubt::Stray)?;
-            }
-            Ok(Message {
-                named: Some(named),
-                doubts: search.doubts,
-            })
+    if let Some(error) = search.read()? {
+        let is_meant = search.is_meant(error.fault);
+        let mut doubts = Vec::new(alloc);
+        if is_meant {
+            doubts.push(PlacedDoubt {
+                at: error.at,
+                doubt: PatternDoubt::Invalid(error.fault),
+            })?;
         }
-        Some(error) => {
-            let is_meant = search.is_meant(error.fault);
-            let mut doubts = Vec::new(alloc);
-            if is_meant {
-                doubts.push(PatternDoubt::Invalid(error.fault))?;
-            }
-            Ok(Message {
-                named: None,
-                doubts,
-            })
-        }
+        add_damage(&mut doubts, text)?;
+        return Ok(Message {
+            named: Err(error),
+            doubts,
+            has_branches: false,
+        });
     }
+    let named = search.uses.named()?;
+    search.lonely(&named)?;
+    match search.stray {
+        Some(at) if !named.is_empty() && !is_set(text) => search.add(at, PatternDoubt::Stray)?,
+        _ => {}
+    }
+    let has_branches = !search.branches.is_empty();
+    let mut doubts = search.doubts;
+    add_damage(&mut doubts, text)?;
+    Ok(Message {
+        named: Ok(named),
+        doubts,
+        has_branches,
+    })
 }
 
-/// Checks whether a text may be a message: it has a brace.
-pub(crate) fn has_brace(text: &[u16]) -> bool {
-    text.contains(&BRACE)
+/// Returns what is doubtful in a String, in the order of its units: as a message, if it has a brace, and in
+/// its characters.
+pub(crate) fn read_string(
+    alloc: Global,
+    text: &[u16],
+    language: Language,
+) -> Result<Vec<PlacedDoubt>, AllocError> {
+    if !text.contains(&BRACE) {
+        let mut doubts = Vec::new(alloc);
+        add_damage(&mut doubts, text)?;
+        return Ok(doubts);
+    }
+    Ok(search_message(alloc, text, language)?.doubts)
+}
+
+/// Adds characters that no one writes, and puts all doubts in order.
+fn add_damage(doubts: &mut Vec<PlacedDoubt>, text: &[u16]) -> Result<(), AllocError> {
+    for damage in damage_in(text) {
+        if let Some((at, damage)) = damage {
+            doubts.push(PlacedDoubt {
+                at,
+                doubt: PatternDoubt::Damaged(damage),
+            })?;
+        }
+    }
+    doubts.sort_by_key(|placed: &PlacedDoubt| placed.at)?;
+    Ok(())
 }

@@ -1,7 +1,7 @@
 use rb_tree::{Entries, Tree};
 
 /// The locale that a text inherits from.
-#[derive(Clone, Copy, Debug, PartialEq, Eq)]
+#[derive(Clone, Copy, PartialEq, Eq)]
 pub(crate) enum Parent {
     /// The root: what the text lacks is missing in its language.
     Root,

@@ -1,9 +1,11 @@
 use crate::rule::Rule;
 use rb_messages::{Category, MessageFault};
+use rb_strings::{Damage, PatternFault};
 use std::fmt;
 
-/// A mistake in a message of ICU's MessageFormat: formatting it fails, or it is seldom meant.
-#[derive(Debug, Drop)]
+/// A mistake in a String, mostly in a message of ICU's MessageFormat: formatting it fails, or it is seldom
+/// meant.
+#[derive(Drop)]
 pub enum PatternDoubt {
     /// It can't be parsed.
     Invalid(MessageFault),
@@ -21,6 +23,17 @@ pub enum PatternDoubt {
     Lacking(Category),
     /// An argument is in only one of the messages of another one.
     OneBranch(Vec<u8>),
+    /// The pattern of a date or a number is doubtful.
+    Style(PatternFault),
+    /// Characters that no one writes.
+    Damaged(Damage),
+}
+
+/// A mistake at a unit of its String.
+#[derive(Drop)]
+pub(crate) struct PlacedDoubt {
+    pub(crate) at: usize,
+    pub(crate) doubt: PatternDoubt,
 }
 
 impl PatternDoubt {
@@ -35,12 +48,42 @@ impl PatternDoubt {
             PatternDoubt::Unused(_) => Rule::UnusedCategory,
             PatternDoubt::Lacking(_) => Rule::MissingCategory,
             PatternDoubt::OneBranch(_) => Rule::OneBranchArgument,
+            PatternDoubt::Style(_) => Rule::BadPattern,
+            PatternDoubt::Damaged(Damage::Replacement) => Rule::ReplacementCharacter,
+            PatternDoubt::Damaged(Damage::Mojibake) => Rule::Mojibake,
+            PatternDoubt::Damaged(Damage::MixedScripts) => Rule::MixedScripts,
         }
     }
 }
 
 fn shown(bytes: &[u8]) -> &str {
     str::from_utf8(bytes).unwrap_or("?")
+}
+
+/// Says what ICU makes of a pattern, and what is probably meant.
+fn style_text(fault: PatternFault) -> &'static str {
+    match fault {
+        PatternFault::WeekYear => {
+            "Y is the year of weeks, which differs from y at the ends of years; is y meant?"
+        }
+        PatternFault::DayOfYear => "D is the day of the year; is d meant?",
+        PatternFault::Minutes => "m is the minute; is M, the month, meant?",
+        PatternFault::Months => "M is the month; is m, the minute, meant?",
+        PatternFault::Letter(_) => "a letter has no meaning in a pattern of a date",
+        PatternFault::Decimal => {
+            "in a pattern of a number the point is the decimal one in all languages, and a comma comes before it"
+        }
+    }
+}
+
+fn damage_text(damage: Damage) -> &'static str {
+    match damage {
+        Damage::Replacement => "U+FFFD stands for a character that could not be read",
+        Damage::Mojibake => "this text is UTF-8 that was read in another encoding",
+        Damage::MixedScripts => {
+            "a word has Latin and Cyrillic letters that look alike; are those of one script meant?"
+        }
+    }
 }
 
 impl fmt::Display for PatternDoubt {
@@ -83,6 +126,14 @@ impl fmt::Display for PatternDoubt {
                     "the language has a plural category '{category}', for which no message is here"
                 )
             }
+            PatternDoubt::Style(PatternFault::Letter(letter)) => {
+                write!(
+                    f,
+                    "{letter} has no meaning in a pattern of a date; a text in it is in apostrophes"
+                )
+            }
+            PatternDoubt::Style(fault) => f.write_str(style_text(*fault)),
+            PatternDoubt::Damaged(damage) => f.write_str(damage_text(*damage)),
             PatternDoubt::OneBranch(name) => {
                 let name = shown(name);
                 write!(

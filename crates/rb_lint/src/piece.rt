@@ -1,4 +1,4 @@
-#[derive(Clone, Copy, Debug, PartialEq, Eq)]
+#[derive(Clone, Copy, PartialEq, Eq)]
 pub(crate) enum PieceKind {
     Quoted,
     Unquoted,
@@ -9,7 +9,7 @@ pub(crate) enum PieceKind {
 }
 
 /// A piece of a text or a punctuation character.
-#[derive(Clone, Copy, Debug)]
+#[derive(Clone, Copy)]
 pub(crate) struct Piece {
     pub(crate) kind: PieceKind,
     /// The first byte; `past` is the byte after the last.

@@ -23,10 +23,64 @@ struct PieceSearch<'a> {
     layout: Layout,
     adjacent: AdjacentSearch,
     keys: KeySearch,
+    quoting: Quoting,
+    /// The places of doubled backslashes, and the number of those that follow a letter that is no digit.
+    doubled: Vec<usize>,
+    within: usize,
     found: Collector<'a>,
 }
 
+/// The number of doubled backslashes from which on they are the style of a text.
+const STYLE: usize = 10;
+
+/// Checks whether a piece closes a brace that it doesn't open, as one does whose quote is missing.
+fn closes_brace(bytes: &[u8]) -> bool {
+    let mut open: usize = 0;
+    for byte in bytes {
+        match *byte {
+            b'{' => open = open.saturating_add(1),
+            b'}' if open == 0 => return true,
+            b'}' => open = open.saturating_sub(1),
+            _ => {}
+        }
+    }
+    false
+}
+
 impl<'a> PieceSearch<'a> {
+    /// Checks whether a quoted piece over several lines lacks its quote. If all quotes of the text are
+    /// closed, it does only if it has braces of the text in it.
+    fn is_open(&self, piece: &Piece) -> bool {
+        self.quoting == Quoting::WithinLine
+            || closes_brace(self.text.get(piece.first..piece.past).unwrap_or(&[]))
+    }
+
+    /// Takes a doubtful escape. Doubled backslashes are stored, up to some.
+    fn doubt(&mut self, at: usize, doubt: Doubt) -> Result<(), AllocError> {
+        if doubt != Doubt::TwoBackslashes {
+            return self.found.add(at, doubt);
+        }
+        let before = self.text.get(at.saturating_sub(1)).copied().unwrap_or(b' ');
+        if matches!(before, b'g'..=b'z') {
+            self.within = self.within.saturating_add(1);
+        }
+        self.doubled.push(at)?;
+        Ok(())
+    }
+
+    /// Reports doubled backslashes, unless they are the style of the text, as of rules of transliteration:
+    /// it has many, and few are in words.
+    fn report_doubled(&mut self) -> Result<(), AllocError> {
+        let count = self.doubled.len();
+        if count > STYLE && self.within < count / STYLE {
+            return Ok(());
+        }
+        for at in &self.doubled {
+            self.found.add(*at, Doubt::TwoBackslashes)?;
+        }
+        Ok(())
+    }
+
     fn compare(&mut self, before: &Piece, piece: &Piece) -> Result<(), AllocError> {
         if let (1, Some(stem)) = (self.count, self.stem) {
             if is_other_name(self.text, before, piece, stem) {
@@ -40,7 +94,7 @@ impl<'a> PieceSearch<'a> {
 
 impl<'a> Visit for PieceSearch<'a> {
     fn piece(&mut self, piece: &Piece) -> Result<(), AllocError> {
-        if piece.spans_lines {
+        if piece.spans_lines && self.is_open(piece) {
             self.found.add(piece.first, Doubt::RunsOn)?;
         }
         if piece.is_turned {
@@ -59,9 +113,17 @@ impl<'a> Visit for PieceSearch<'a> {
 
     fn escape(&mut self, at: usize, window: &[u8]) -> Result<(), AllocError> {
         match escape_doubt(window) {
-            Some(doubt) => self.found.add(at, doubt),
+            Some(doubt) => self.doubt(at, doubt),
             None => Ok(()),
         }
+    }
+
+    fn comment(&mut self, at: usize, _window: &[u8]) -> Result<(), AllocError> {
+        let before = self.text.get(..at).unwrap_or(&[]);
+        if before.ends_with(b"http:") || before.ends_with(b"https:") {
+            return self.found.add(at, Doubt::UnquotedAddress);
+        }
+        Ok(())
     }
 }
 
@@ -89,9 +151,13 @@ pub(crate) fn search_pieces<'a>(
         layout: Layout::new(),
         adjacent: AdjacentSearch::new(alloc),
         keys: KeySearch::new(alloc),
+        quoting,
+        doubled: Vec::new(alloc),
+        within: 0,
         found: Collector::new(alloc, settings.levels, allowances, settings.limit),
     };
     let open = visit_pieces(alloc, text, quoting, &mut search)?;
+    search.report_doubled()?;
     Ok(Searched {
         found: search.found,
         layout: search.layout,

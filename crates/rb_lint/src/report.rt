@@ -33,7 +33,7 @@ pub struct Settings<'a> {
 }
 
 /// The findings of a text, in its order.
-#[derive(Debug, Drop)]
+#[derive(Drop)]
 pub struct Report {
     pub findings: Vec<Finding>,
     /// The number of warnings past the limit.
@@ -60,7 +60,7 @@ fn finding_at(line: u64, column: u64, levels: Levels, found: Found) -> Finding
     ensures error { result.severity ≡ Severities.Warning → IsSome found.rule }
 {
     let severity = match found.rule {
-        Some(rule) if !levels.denied.has(rule) => Severity::Warning,
+        Some(rule) if !levels.makes_error(rule) => Severity::Warning,
         _ => Severity::Error,
     };
     Finding {

@@ -13,7 +13,7 @@ struct Input<'a> {
 }
 
 /// The ways to end a quoted piece other than by a quote.
-#[derive(Clone, Copy, Debug, PartialEq, Eq)]
+#[derive(Clone, Copy, PartialEq, Eq)]
 pub(crate) enum Quoting {
     /// In no other way, as in bundle texts.
     OverLines,
@@ -22,7 +22,7 @@ pub(crate) enum Quoting {
 }
 
 /// The context of a byte.
-#[derive(Clone, Copy, Debug, PartialEq, Eq)]
+#[derive(Clone, Copy, PartialEq, Eq)]
 enum State {
     Between,
     Quoted,
@@ -43,7 +43,7 @@ fn is_wide_white(window: &[u8]) -> bool {
 }
 
 /// An event at a byte that is no piece.
-#[derive(Clone, Copy, Debug, PartialEq, Eq)]
+#[derive(Clone, Copy, PartialEq, Eq)]
 enum Event {
     Escape,
     LineComment,
@@ -302,7 +302,7 @@ pub(crate) trait Visit {
 }
 
 /// A quote or comment that isn't closed at the end of a text, with the offset at which it begins.
-#[derive(Clone, Copy, Debug, PartialEq, Eq)]
+#[derive(Clone, Copy, PartialEq, Eq)]
 pub(crate) enum Open {
     Nothing,
     Quote(usize),

@@ -14,7 +14,7 @@ pub(crate) struct Use {
 }
 
 /// The values that an argument can have.
-#[derive(Clone, Copy, Debug, PartialEq, Eq)]
+#[derive(Clone, Copy, PartialEq, Eq)]
 pub enum ValueKind {
     Any,
     Number,
@@ -48,6 +48,8 @@ pub(crate) struct Named<'a> {
     pub(crate) first: usize,
     pub(crate) last: usize,
     pub(crate) kind: ValueKind,
+    /// The unit at which its first use begins.
+    pub(crate) at: usize,
 }
 
 /// The uses of arguments in a message, in its order.
@@ -102,9 +104,9 @@ impl<'a> Uses<'a> {
         all.sort_by_key(|entry| entry.0)?;
         let mut named: Vec<Named<'a>> = Vec::new(self.alloc);
         for (name, i) in &all {
-            let kind = match self.uses.get(*i) {
-                Some(used) => ValueKind::of(used.of_type),
-                None => ValueKind::Any,
+            let (kind, at) = match self.uses.get(*i) {
+                Some(used) => (ValueKind::of(used.of_type), used.first as usize),
+                None => (ValueKind::Any, 0),
             };
             match named.last_mut() {
                 Some(before) if before.name == *name => {
@@ -116,6 +118,7 @@ impl<'a> Uses<'a> {
                     first: *i,
                     last: *i,
                     kind,
+                    at,
                 })?,
             }
         }

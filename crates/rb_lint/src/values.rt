@@ -1,14 +1,19 @@
 //! Walks through the values of a text that is compiled: checks messages, and compares with the root's.
 use crate::collector::Collector;
+use crate::compare::{PlacedChange, compare_strings};
 use crate::difference::{Change, Difference};
 use crate::finding::Message;
 use crate::language::Language;
-use crate::messages::{has_brace, search_message};
+use crate::links::{is_bundle_key, is_misspelled, is_parent, leads_nowhere};
+use crate::messages::read_string;
 use crate::parent::Parent;
-use crate::path::{SHOWN_PATH, shortened, shown_name};
-use crate::uses::{Named, ValueKind, find_named, without};
+use crate::path::{SHOWN_PATH, shortened};
+use crate::pattern::PlacedDoubt;
+use crate::rule::Rule;
+use crate::unit_walk::UnitWalk;
+use crate::warning::Doubt;
 use rb_lexer::{Mark, SourceFault, SourceKind, Token, Tokens};
-use rb_tree::{Entries, Kind, Node, Tree, UnitList};
+use rb_tree::{Entries, Kind, Node, Tree};
 use std::alloc::{AllocError, Global};
 
 /// The last part of the path of an item.
@@ -27,6 +32,9 @@ struct Level<'a> {
     root: Option<&'a Tree>,
     /// The index of its next item.
     next: usize,
+    /// Its missing keys are reported at its first key that the root lacks, which may be one of them with a
+    /// mistake.
+    is_deferred: bool,
 }
 
 /// Checks whether an item has text to translate. A locale inherits the others, such as numbers, from
@@ -65,9 +73,47 @@ fn item_of(array: Option<&Tree>, i: usize) -> Option<&Tree> {
     }
 }
 
+/// Checks whether a table has a key that the root's lacks.
+fn has_added(tree: &Entries, root: &Entries) -> bool {
+    for i in 0..tree.len() {
+        let key = tree.key_at(i);
+        if root.get(key).is_none() && !is_icu_key(key) {
+            return true;
+        }
+    }
+    false
+}
+
+/// Returns the number of items of an array or a vector.
+fn item_count(tree: &Tree) -> Option<usize> {
+    match tree {
+        Tree::Array(items) => Some(items.as_slice().len()),
+        Tree::Ints(numbers) => Some(numbers.as_slice().len()),
+        _ => None,
+    }
+}
+
+fn segment_key(segment: &Segment) -> &[u8] {
+    match segment {
+        Segment::Key(key) => key.as_slice(),
+        _ => b"",
+    }
+}
+
+/// Returns the key of the innermost level, if that is an entry of the bundle itself.
+fn top_key<'a>(levels: &'a [Level<'_>]) -> &'a [u8] {
+    match levels.last() {
+        Some(level) if levels.len() == 2 => segment_key(&level.segment),
+        _ => b"",
+    }
+}
+
 #[derive(Drop)]
 struct ValueSearch<'a> {
     alloc: Global,
+    source: &'a [u8],
+    /// The name that the bundle should have, or else the one that it has.
+    name: Vec<u8>,
     tree: &'a Tree,
     root: Option<&'a Tree>,
     parent: Parent,
@@ -159,67 +205,86 @@ impl<'a> ValueSearch<'a> {
         Ok(())
     }
 
-    /// Reports arguments that only one of two messages has, and those that are used differently.
-    fn arguments(
+    /// Passes on what is doubtful in a String, whose text is between two offsets.
+    fn doubts(
         &mut self,
-        first: usize,
-        here: &[Named<'_>],
-        root: &[Named<'_>],
+        span: (usize, usize),
+        doubts: Vec<PlacedDoubt>,
         found: &mut Collector<'_>,
     ) -> Result<(), AllocError> {
-        for argument in &without(self.alloc, root, here)? {
-            let name = shown_name(self.alloc, argument.name)?;
-            self.report(first, None, Change::Lacks(name), found)?;
-        }
-        for argument in &without(self.alloc, here, root)? {
-            let name = shown_name(self.alloc, argument.name)?;
-            self.report(first, None, Change::Adds(name), found)?;
-        }
-        for argument in here {
-            let Some(other) = find_named(root, argument.name) else {
-                continue;
-            };
-            let is_any = argument.kind == ValueKind::Any || other.kind == ValueKind::Any;
-            if argument.kind != other.kind && !is_any {
-                let change = Change::OtherUse {
-                    name: shown_name(self.alloc, argument.name)?,
-                    here: argument.kind,
-                    root: other.kind,
-                };
-                self.report(first, None, change, found)?;
+        let mut walk = UnitWalk::new(self.source, span.0, span.1);
+        for placed in doubts {
+            let rule = placed.doubt.rule();
+            let at = walk.place_of(placed.at);
+            // An escape for U+FFFD is meant.
+            if rule != Rule::ReplacementCharacter || self.source.get(at) != Some(&b'\\') {
+                found.push(at, rule, Message::Pattern(placed.doubt))?;
             }
         }
         Ok(())
     }
 
-    /// Checks a String as a message, and compares its arguments with those of the root's.
+    /// Passes on how a String differs from the root's.
+    fn changes(
+        &mut self,
+        span: (usize, usize),
+        changes: Vec<PlacedChange>,
+        found: &mut Collector<'_>,
+    ) -> Result<(), AllocError> {
+        let mut walk = UnitWalk::new(self.source, span.0, span.1);
+        for placed in changes {
+            let at = if placed.is_whole {
+                span.0
+            } else {
+                walk.place_of(placed.at)
+            };
+            self.report(at, None, placed.change, found)?;
+        }
+        Ok(())
+    }
+
+    /// Checks a String, and compares it with the root's.
     fn string(
         &mut self,
-        first: usize,
-        units: &UnitList,
+        span: (usize, usize),
+        units: &[u16],
         root: Option<&Tree>,
         found: &mut Collector<'_>,
     ) -> Result<(), AllocError> {
-        let root_units = match root {
-            Some(Tree::String(units)) => units.as_slice(),
-            _ => &[],
-        };
-        let is_compared = matches!(root, Some(Tree::String(_)));
-        if !has_brace(units.as_slice()) && !has_brace(root_units) {
-            return Ok(());
-        }
         let language = self.language.unwrap_or(Language::unknown());
-        let message = search_message(self.alloc, units.as_slice(), language)?;
-        for doubt in message.doubts {
-            let rule = doubt.rule();
-            found.push(first, rule, Message::Pattern(doubt))?;
-        }
-        if !is_compared {
+        let Some(Tree::String(root)) = root else {
+            let doubts = read_string(self.alloc, units, language)?;
+            return self.doubts(span, doubts, found);
+        };
+        let compared = compare_strings(self.alloc, units, root.as_slice(), language)?;
+        self.changes(span, compared.changes, found)?;
+        self.doubts(span, compared.doubts, found)
+    }
+
+    /// Checks what the text of a String or an alias says, which is between two offsets.
+    fn text_value(
+        &mut self,
+        span: (usize, usize),
+        found: &mut Collector<'_>,
+    ) -> Result<(), AllocError> {
+        let Some(level) = self.levels.last() else {
             return Ok(());
-        }
-        let other = search_message(self.alloc, root_units, Language::unknown())?;
-        match (message.named, other.named) {
-            (Some(here), Some(root)) => self.arguments(first, &here, &root, found),
+        };
+        match (level.tree, level.root) {
+            (Some(Tree::String(units)), root) => {
+                if is_bundle_key(top_key(&self.levels))
+                    && !is_parent(units.as_slice(), &self.name)
+                {
+                    found.add(span.0, Doubt::BadParent)?;
+                }
+                self.string(span, units.as_slice(), root, found)
+            }
+            (Some(Tree::Alias(units)), _) => {
+                if leads_nowhere(units.as_slice(), self.tree, self.root, &self.name) {
+                    found.add(span.0, Doubt::AliasToNothing)?;
+                }
+                Ok(())
+            }
             _ => Ok(()),
         }
     }
@@ -238,6 +303,45 @@ impl<'a> ValueSearch<'a> {
         self.report(first, None, Change::OtherKind { here, root }, found)
     }
 
+    /// Reports another number of items than the root's.
+    fn lengths(
+        &mut self,
+        first: usize,
+        tree: &Tree,
+        root: &Tree,
+        found: &mut Collector<'_>,
+    ) -> Result<(), AllocError> {
+        match (item_count(tree), item_count(root)) {
+            (Some(here), Some(other)) if here != other && tree.kind() == root.kind() => {
+                let change = Change::OtherLength { here, root: other };
+                self.report(first, None, change, found)
+            }
+            _ => Ok(()),
+        }
+    }
+
+    /// Defers the report of the innermost level's missing keys.
+    fn defer(&mut self) {
+        if let Some(level) = self.levels.last_mut() {
+            level.is_deferred = true;
+        }
+    }
+
+    /// Reports the missing keys of the innermost level, if that was deferred.
+    fn deferred(&mut self, first: usize, found: &mut Collector<'_>) -> Result<(), AllocError> {
+        let Some(level) = self.levels.last_mut() else {
+            return Ok(());
+        };
+        let is_deferred = level.is_deferred;
+        level.is_deferred = false;
+        match (level.tree, level.root) {
+            (Some(Tree::Table(tree)), Some(Tree::Table(root))) if is_deferred => {
+                self.absences(first, tree, root, found)
+            }
+            _ => Ok(()),
+        }
+    }
+
     /// Takes the value of the innermost level, which is at a byte.
     fn value(&mut self, first: usize, found: &mut Collector<'_>) -> Result<(), AllocError> {
         let Some(level) = self.levels.last() else {
@@ -246,15 +350,19 @@ impl<'a> ValueSearch<'a> {
         let (Some(tree), root) = (level.tree, level.root) else {
             return Ok(());
         };
-        if let Some(root) = root {
-            self.kinds(first, tree.kind(), root.kind(), found)?;
-        }
+        let Some(root) = root else {
+            return Ok(());
+        };
+        self.kinds(first, tree.kind(), root.kind(), found)?;
         match (tree, root) {
-            (Tree::Table(tree), Some(Tree::Table(root))) => {
+            (Tree::Table(tree), Tree::Table(root)) if !has_added(tree, root) => {
                 self.absences(first, tree, root, found)
             }
-            (Tree::String(units), _) => self.string(first, units, root, found),
-            _ => Ok(()),
+            (Tree::Table(_), _) => {
+                self.defer();
+                Ok(())
+            }
+            _ => self.lengths(first, tree, root, found),
         }
     }
 
@@ -271,8 +379,17 @@ impl<'a> ValueSearch<'a> {
             tree,
             root,
             next: 0,
+            is_deferred: false,
         })?;
         self.value(first, found)
+    }
+
+    /// Takes an item of the innermost level that is a text.
+    fn item_text(&mut self, token: &Token, found: &mut Collector<'_>) -> Result<(), AllocError> {
+        self.item(token.first, found)?;
+        self.text_value((token.first, token.past), found)?;
+        let _ = self.levels.pop();
+        Ok(())
     }
 
     /// Begins an entry of the innermost level, which is a table.
@@ -286,14 +403,21 @@ impl<'a> ValueSearch<'a> {
             && matches!(level.root, Some(Tree::Table(_)))
             && matches!(level.tree, Some(Tree::Table(_)))
             && !is_icu_key(&key);
+        if is_added {
+            self.deferred(token.first, found)?;
+        }
         self.levels.push(Level {
             segment: Segment::Key(key),
             tree,
             root,
             next: 0,
+            is_deferred: false,
         })?;
         if is_added {
             self.report(token.first, None, Change::Additional, found)?;
+        }
+        if is_misspelled(top_key(&self.levels)) {
+            found.add(token.first, Doubt::MisspelledKey)?;
         }
         self.value(token.first, found)
     }
@@ -309,8 +433,8 @@ impl<'a> ValueSearch<'a> {
             return self.value(brace, found);
         };
         if self.language.is_none() {
-            let name = key_of(self.alloc, &token)?;
-            self.language = Some(Language::of(&name));
+            self.name = key_of(self.alloc, &token)?;
+            self.language = Some(Language::of(&self.name));
         }
         self.value(token.first, found)
     }
@@ -325,14 +449,14 @@ impl<'a> ValueSearch<'a> {
                 tree: Some(self.tree),
                 root: self.root,
                 next: 0,
+                is_deferred: false,
             })?;
             return self.bundle(text, brace, found);
         };
         let is_array = matches!(level.tree, Some(Tree::Array(_)));
         match text {
             Some(token) if is_array => {
-                self.item(token.first, found)?;
-                let _ = self.levels.pop();
+                self.item_text(&token, found)?;
                 self.item(brace, found)
             }
             Some(token) => self.entry(&token, found),
@@ -340,20 +464,18 @@ impl<'a> ValueSearch<'a> {
         }
     }
 
-    /// Ends an item that is a text.
-    fn end_text(&mut self, found: &mut Collector<'_>) -> Result<(), AllocError> {
-        let Some(token) = self.text.take() else {
-            return Ok(());
-        };
+    /// Ends a text before a comma or a brace at an offset.
+    fn end_text(&mut self, at: usize, found: &mut Collector<'_>) -> Result<(), AllocError> {
         let is_array = match self.levels.last() {
             Some(level) => matches!(level.tree, Some(Tree::Array(_))),
             None => false,
         };
-        if is_array {
-            self.item(token.first, found)?;
-            let _ = self.levels.pop();
+        match self.text.take() {
+            Some(token) if is_array => self.item_text(&token, found),
+            Some(token) => self.text_value((token.first, token.past), found),
+            None if is_array => Ok(()),
+            None => self.text_value((at, at), found),
         }
-        Ok(())
     }
 
     fn step(&mut self, token: Token, found: &mut Collector<'_>) -> Result<(), AllocError> {
@@ -368,9 +490,9 @@ impl<'a> ValueSearch<'a> {
                 Ok(())
             }
             Mark::LeftBrace => self.enter(token.first, found),
-            Mark::Comma => self.end_text(found),
+            Mark::Comma => self.end_text(token.first, found),
             Mark::RightBrace => {
-                self.end_text(found)?;
+                self.end_text(token.first, found)?;
                 let _ = self.levels.pop();
                 Ok(())
             }
@@ -383,7 +505,7 @@ impl<'a> ValueSearch<'a> {
 /// only one of two Strings has or that they use differently. `tree` is the bundle that the text spells,
 /// and `name` the name that its locale should have. The rules are this project's own.
 ///
-/// A missing key is reported at its table, if its parent is the root and the root's item has text: a
+/// A missing key is reported at its table, or at the first key there that the root lacks, if its parent is the root and the root's item has text: a
 /// String, an array or a table. Keys that begin with `%%` and aliases are skipped, and of arrays only the
 /// items that both have are compared. Of a long path and a long name a warning has the first and the last
 /// bytes. `Err` means out of memory.
@@ -400,6 +522,8 @@ pub(crate) fn search_values(
         tree: bundle,
         root,
         parent: Parent::of(name.unwrap_or(b""), bundle),
+        source: text,
+        name: name.unwrap_or(b"").to_vec(alloc)?,
         language: name.map(|name| Language::of(name)),
         levels: Vec::new(alloc),
         text: None,

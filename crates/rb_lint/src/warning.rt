@@ -2,7 +2,7 @@ use crate::rule::Rule;
 use std::fmt;
 
 /// A part of a text that is valid and probably not meant.
-#[derive(Clone, Copy, Debug, PartialEq, Eq)]
+#[derive(Clone, Copy, PartialEq, Eq)]
 pub enum Doubt {
     /// A quoted piece spans lines.
     RunsOn,
@@ -10,6 +10,8 @@ pub enum Doubt {
     Mixed,
     /// Two adjacent texts of an array or a vector form one item.
     Joined,
+    /// An item of several words isn't in quotes, and others of its array are.
+    LooseItem,
     /// A brace, opened in the given line, isn't closed before a line that is not indented further.
     NotClosed(u32),
     /// A brace closes none that was opened at its column.
@@ -35,13 +37,21 @@ pub enum Doubt {
     OtherQuotes,
     /// A comment allows a warning that doesn't exist.
     UnknownAllowed,
+    /// A `//` after a colon begins a comment.
+    UnquotedAddress,
+    /// An alias leads to nothing in the bundle and in the root.
+    AliasToNothing,
+    /// A %%Parent or %%ALIAS is no locale, or the bundle itself.
+    BadParent,
+    /// A key is %%Parent or %%ALIAS in other letters.
+    MisspelledKey,
 }
 
 impl Doubt {
     pub fn rule(self) -> Rule {
         match self {
             Doubt::RunsOn => Rule::OpenQuote,
-            Doubt::Mixed => Rule::MixedQuotes,
+            Doubt::Mixed | Doubt::LooseItem => Rule::MixedQuotes,
             Doubt::Joined => Rule::JoinedStrings,
             Doubt::NotClosed(_) => Rule::MissingCloseBrace,
             Doubt::NotOpened | Doubt::FurtherRight => Rule::MissingOpenBrace,
@@ -54,6 +64,10 @@ impl Doubt {
             Doubt::EntryInArray => Rule::EntryInArray,
             Doubt::OtherQuotes => Rule::OtherQuotes,
             Doubt::UnknownAllowed => Rule::UnknownAllowed,
+            Doubt::UnquotedAddress => Rule::UnquotedAddress,
+            Doubt::AliasToNothing => Rule::AliasToNothing,
+            Doubt::BadParent => Rule::BadParent,
+            Doubt::MisspelledKey => Rule::MisspelledKey,
         }
     }
 
@@ -64,6 +78,9 @@ impl Doubt {
             }
             Doubt::Mixed => {
                 "a quoted and an unquoted text side by side are joined with a space; is a quote missing?"
+            }
+            Doubt::LooseItem => {
+                "this text of several words isn't in quotes, and others of its array are; are quotes missing?"
             }
             Doubt::Joined => "two texts side by side are joined into one; is a comma missing?",
             Doubt::NotClosed(_) => "a brace isn't closed; is a closing brace missing?",
@@ -93,6 +110,14 @@ impl Doubt {
             Doubt::OtherQuotes => { "the quotes around this value are part of it; is \" meant?" }
             Doubt::UnknownAllowed => {
                 "this comment allows a warning that doesn't exist; resb lint --list has the names"
+            }
+            Doubt::UnquotedAddress => { "// begins a comment; an address is written in quotes" }
+            Doubt::AliasToNothing => "this alias leads to nothing in this bundle and in the root",
+            Doubt::BadParent => {
+                "this isn't the name of another locale, so that each lookup in this bundle fails"
+            }
+            Doubt::MisspelledKey => {
+                "this key is nearly one of ICU's, which are %%ALIAS and %%Parent"
             }
         }
     }

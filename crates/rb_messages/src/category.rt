@@ -3,7 +3,7 @@ use crate::characters::is_exactly;
 use crate::plurals::{CARDINAL, ORDINAL, Row};
 
 /// A plural category of CLDR.
-#[derive(Clone, Copy, Debug, PartialEq, Eq)]
+#[derive(Clone, Copy, PartialEq, Eq)]
 pub enum Category {
     Zero,
     One,
@@ -47,7 +47,7 @@ impl Category {
 }
 
 /// The plural categories of a language.
-#[derive(Clone, Copy, Debug, PartialEq, Eq)]
+#[derive(Clone, Copy, PartialEq, Eq)]
 pub struct Categories {
     bits: u8,
     /// Those of integers below a million.

@@ -60,7 +60,7 @@ pub struct Argument {
 }
 
 /// A part of a message that isn't plain text.
-#[derive(Clone, Copy, Debug, PartialEq, Eq)]
+#[derive(Clone, Copy, PartialEq, Eq)]
 pub enum Part {
     /// Text between apostrophes, up to the end of the message if it isn't closed.
     Quoted(Span),

@@ -9,7 +9,7 @@ use std::marker::Model;
 pub const APP_LIMIT: usize = 64;
 
 /// The name of an application: 1 to 64 letters, digits, `_`, `-` and `.`, except `ICUDATA`.
-#[derive(Clone, Copy, Debug)]
+#[derive(Clone, Copy)]
 pub struct App {
     bytes: [u8; APP_LIMIT],
     len: u8,

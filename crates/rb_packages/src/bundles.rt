@@ -1,6 +1,6 @@
 ghost use Rattle.std.specs.Prelude.{◌≡◌, ◌-◌, ◌^◌, [], ◌∷◌, ◌++◌, Some, None, IfOk, IfErr, IfNone};
-ghost use Rattle.std.specs.Prelude.{OnOk, OnErr, ◌+◌, ◌<◌, ◌≤◌, length, min, fold, map, option_map};
-ghost use Rattle.std.specs.Map.{lookup, keys_of, values_of, set_value, remove_entry};
+ghost use Rattle.std.specs.Prelude.{OnOk, OnErr, ◌+◌, ◌<◌, ◌≤◌, length, min, map, option_map};
+ghost use Rattle.std.specs.Map.{lookup, keys_of, set_value, remove_entry};
 ghost use Rattle.std.specs.Str.{bytes_eq};
 ghost use Rattle.rb_packages.specs.Packages.{shelf_of, install_fault, IsJudged};
 ghost use Rattle.rb_packages.specs.Positions.{has_name_at};
@@ -13,7 +13,6 @@ use crate::draft::Edit;
 use crate::fault::{Absent, PackFault};
 use crate::limits::BUNDLE_LIMIT;
 use crate::stored_bundle::StoredBundle;
-use crate::usage::Usage;
 use indexmap::IndexMap;
 use rb_locales::Name;
 use rb_validator::Bundle;
@@ -133,24 +132,13 @@ pub(crate) fn names(alloc: Global, bundles: &Bundles) -> Result<Vec<Name>, Alloc
 }
 
 /// Sums the lengths of all files, saturating.
-fn bytes(bundles: &Bundles) -> u64
-    ensures { result ≡ fold (λ sum len. min (sum + len) (2 ^ 64 - 1)) 0
-        (map length (values_of bundles.now.entries)) }
+pub(crate) fn bytes(bundles: &Bundles) -> u64
+    ensures { result ≡ min (bytes_of bundles.now.entries) (2 ^ 64 - 1) }
 {
     bundles
         .values()
         .map(|stored| stored.len())
         .fold(0, |sum: u64, len| sum.saturating_add(len))
-}
-
-pub(crate) fn usage(bundles: &Bundles) -> Usage
-    ensures bytes { result.bytes ≡ min (bytes_of bundles.now.entries) (2 ^ 64 - 1) }
-    ensures count { result.bundles ≡ length bundles.now.entries }
-{
-    Usage {
-        bytes: bytes(bundles),
-        bundles: bundles.len() as u64,
-    }
 }
 
 pub(crate) fn file_len(bundles: &Bundles, name: &Name) -> Option<u64>

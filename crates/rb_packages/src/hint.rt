@@ -1,6 +1,6 @@
 /// The indices where a lookup looks first: that of an application, and that of a bundle there. A
 /// wrong hint costs time and changes no answer.
-#[derive(Clone, Copy, Debug, PartialEq, Eq)]
+#[derive(Clone, Copy, PartialEq, Eq)]
 pub struct BundleHint {
     pub app: usize,
     pub bundle: usize,

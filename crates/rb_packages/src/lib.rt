@@ -10,6 +10,7 @@ mod hint;
 mod lent;
 mod limits;
 mod owned;
+mod package;
 mod packages;
 mod shelf;
 mod stored_bundle;

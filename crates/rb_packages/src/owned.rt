@@ -16,6 +16,7 @@ use crate::bundles;
 use crate::bundles::Bundles;
 use crate::draft::Edit;
 use crate::fault::{Absent, PackFault};
+use crate::package::Package;
 use crate::usage::Usage;
 use indexmap::IndexMap;
 use rb_locales::Name;
@@ -24,18 +25,27 @@ use std::alloc::AllocError;
 use std::hash::RandomState;
 
 /// The packages by application. An application without bundles has no entry.
-pub(crate) type Owned = IndexMap<App, Bundles, RandomState>;
+pub(crate) type Owned = IndexMap<App, Package, RandomState>;
+
+pub(crate) fn bundles_of<'a>(owned: &'a Owned, app: &App) -> Option<&'a Bundles>
+    ensures { option_copied result ≡ lookup (bytes_eq app.now) owned.now.entries }
+{
+    match owned.get(app) {
+        Some(package) => Some(package.bundles()),
+        None => None,
+    }
+}
 
 /// Returns the bundles of the application at an index if that is this one, or else searches for it.
 pub(crate) fn bundles_near<'a>(owned: &'a Owned, app: &App, near: usize) -> Option<&'a Bundles>
     ensures { option_copied result ≡ lookup (bytes_eq app.now) owned.now.entries }
 {
-    if let Some((other, bundles)) = owned.get_index(near) {
+    if let Some((other, package)) = owned.get_index(near) {
         if other.as_bytes() == app.as_bytes() {
-            return Some(bundles);
+            return Some(package.bundles());
         }
     }
-    owned.get(app)
+    bundles_of(owned, app)
 }
 
 /// Installs the first bundle of an application, or returns it if out of memory.
@@ -56,7 +66,7 @@ fn install_first(
     if owned.reserve(1).is_err() {
         return Err((PackFault::Memory, bundle));
     }
-    let bundles = bundles::of_one(*owned.allocator(), *owned.hasher(), name, bundle)?;
+    let bundles = Package::of_one(*owned.allocator(), *owned.hasher(), name, bundle)?;
     owned.insert(*app, bundles).unwrap();
     Ok(())
 }
@@ -79,7 +89,7 @@ pub(crate) fn install(
     ensures stays { OnErr result (files_by_app owned.new.entries ≡ files_by_app owned.old.entries) }
 {
     if let Some(bundles) = owned.get_mut(app) {
-        return bundles::install(bundles, name, bundle);
+        return bundles.install(name, bundle);
     }
     install_first(owned, app, name, bundle)
 }
@@ -102,7 +112,7 @@ pub(crate) fn replace(
     ensures stays { OnErr result (files_by_app owned.new.entries ≡ files_by_app owned.old.entries) }
 {
     match owned.get_mut(app) {
-        Some(bundles) => bundles::replace(bundles, name, bundle),
+        Some(bundles) => bundles.replace(name, bundle),
         None => Err((Absent, bundle)),
     }
 }
@@ -119,7 +129,7 @@ fn remove_bundle(owned: &mut Owned, app: &App, name: &Name) -> Option<Bundle>
         (files_by_app owned.new.entries ≡ files_by_app owned.old.entries) }
 {
     match owned.get_mut(app) {
-        Some(bundles) => bundles::remove(bundles, name),
+        Some(bundles) => bundles.remove(name),
         None => None,
     }
 }
@@ -129,7 +139,7 @@ fn is_bare(owned: &Owned, app: &App) -> bool
     ensures filled { result ≡ false → ¬ IsBare (lookup (bytes_eq app.now) owned.now.entries) }
 {
     match owned.get(app) {
-        Some(bundles) => bundles.is_empty(),
+        Some(package) => package.bundles().is_empty(),
         None => false,
     }
 }
@@ -177,11 +187,8 @@ pub(crate) fn usage(owned: &Owned, app: &App) -> Usage
     ensures count { result.bundles ≡ length (files_at app.now owned.now.entries) }
 {
     match owned.get(app) {
-        Some(bundles) => bundles::usage(bundles),
-        None => Usage {
-            bytes: 0,
-            bundles: 0,
-        },
+        Some(package) => package.usage(),
+        None => Usage::NONE,
     }
 }
 
@@ -189,16 +196,14 @@ pub(crate) fn file_len(owned: &Owned, app: &App, name: &Name) -> Option<u64>
     ensures { result
         ≡ option_map length (lookup (bytes_eq name.now) (files_at app.now owned.now.entries)) }
 {
-    let bundles = owned.get(app)?;
-    bundles::file_len(bundles, name)
+    bundles::file_len(bundles_of(owned, app)?, name)
 }
 
 pub(crate) fn bundle<'a>(owned: &'a Owned, app: &App, name: &Name) -> Option<&'a Bundle>
     ensures { option_map (λ b. b.now) result
         ≡ lookup (bytes_eq name.now) (files_at app.now owned.now.entries) }
 {
-    let bundles = owned.get(app)?;
-    bundles::bundle(bundles, name)
+    bundles::bundle(bundles_of(owned, app)?, name)
 }
 
 /// Returns the index of an application that has bundles.
@@ -229,7 +234,7 @@ fn release_first(owned: &mut Owned, app: &App, edits: Vec<Edit>) -> Result<(), A
     let mut bundles = IndexMap::with_hasher(*owned.allocator(), *owned.hasher());
     bundles::edit_all(&mut bundles, edits)?;
     if !bundles.is_empty() {
-        owned.insert(*app, bundles).unwrap();
+        owned.insert(*app, Package::of(bundles)).unwrap();
     }
     Ok(())
 }
@@ -249,7 +254,7 @@ pub(crate) fn release(owned: &mut Owned, app: &App, edits: Vec<Edit>) -> Result<
         (files_by_app owned.new.entries ≡ files_by_app owned.old.entries) }
 {
     match owned.get_mut(app) {
-        Some(bundles) => match bundles::edit_all(bundles, edits) {
+        Some(bundles) => match bundles.edit_all(edits) {
             Ok(()) => {}
             Err(error) => return Err(error),
         },

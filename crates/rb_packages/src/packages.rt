@@ -166,13 +166,13 @@ impl Packages {
     pub fn list(&self, alloc: Global, app: &App) -> Result<Vec<Name>, AllocError>
         ensures { IfOk result (λ names. names.items ≡ map (λ e. e.0) (list_of app.now self.now)) }
     {
-        match self.owned.get(app) {
+        match owned::bundles_of(&self.owned, app) {
             Some(bundles) => bundles::names(alloc, bundles),
             None => Ok(Vec::new(alloc)),
         }
     }
 
-    /// Returns how much an application stores. Takes time linear in its number of bundles.
+    /// Returns how much an application stores.
     pub fn usage(&self, app: &App) -> Usage
         ensures bytes { result.bytes ≡ min (bytes_of (files_of app.now self.now)) (2 ^ 64 - 1) }
         ensures bundles { result.bundles ≡ length (files_of app.now self.now) }
@@ -200,7 +200,7 @@ impl Packages {
         ensures { IfOk result (λ sizes. sizes.items
             ≡ map (λ e. (e.0, length e.1)) (files_of app.now self.now)) }
     {
-        match self.owned.get(app) {
+        match owned::bundles_of(&self.owned, app) {
             Some(bundles) => bundles::sizes(alloc, bundles),
             None => Ok(Vec::new(alloc)),
         }
@@ -213,7 +213,12 @@ impl Packages {
         ensures sizes { IfOk result
             (λ draft. draft.sizes ≡ sizes_of (files_of app.now self.now)) }
     {
-        Draft::of(alloc, *self.owned.hasher(), app, self.owned.get(app))
+        Draft::of(
+            alloc,
+            *self.owned.hasher(),
+            app,
+            owned::bundles_of(&self.owned, app),
+        )
     }
 
     /// Makes the changes of a draft in their order: all of them, or none if memory runs out.
@@ -245,7 +250,7 @@ impl Packages {
         ensures files { files_in result ≡ files_of app.now self.now }
     {
         AppShelf {
-            bundles: self.owned.get(app),
+            bundles: owned::bundles_of(&self.owned, app),
             near: usize::MAX,
         }
     }
@@ -267,8 +272,9 @@ impl Packages {
         ensures { result ≡ is_bundle_at self.now hint app.now locale.now }
     {
         match self.owned.get_index(hint.app) {
-            Some((name, bundles)) => {
-                name.as_bytes() == app && bundles::is_name_at(bundles, hint.bundle, locale)
+            Some((name, package)) => {
+                name.as_bytes() == app
+                    && bundles::is_name_at(package.bundles(), hint.bundle, locale)
             }
             None => false,
         }
@@ -302,7 +308,7 @@ impl Packages {
         ensures { files_in result ≡ files_at_index self.now index }
     {
         let bundles = match self.owned.get_index(index) {
-            Some((_, bundles)) => Some(bundles),
+            Some((_, package)) => Some(package.bundles()),
             None => None,
         };
         AppShelf {

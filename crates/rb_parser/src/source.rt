@@ -21,7 +21,7 @@ use rb_tree::{HEIGHT_LIMIT, Tree, UnitList};
 use std::alloc::Global;
 
 /// A bundle, as a text spells it.
-#[derive(Debug, Drop)]
+#[derive(Drop)]
 pub struct Source {
     /// The text before the brace or the type.
     pub name: UnitList,

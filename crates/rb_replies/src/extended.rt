@@ -16,7 +16,7 @@ use rb_json::{Outlet, put_name, skips_items, spell_bytes, spell_text, spell_unsi
 use rb_locales::Name;
 
 /// The members of a refusal's reply, except its code.
-#[derive(Clone, Copy, Debug, PartialEq, Eq)]
+#[derive(Clone, Copy, PartialEq, Eq)]
 pub struct Detail {
     /// The code of the first error of a text or a file.
     pub code: Option<&'static str>,

@@ -10,7 +10,7 @@ use Rattle.rb_packages.specs.App.{app_of}
 use Rattle.rb_packages.specs.Words.{app_word}
 use Rattle.rb_packages.specs.declared.app.AppFault.{AppFault}
 use Rattle.rb_engine.specs.ReadFaults.{IsFirstFault}
-use Rattle.rb_engine.specs.declared.judging.ReadFault.TheVariants.{BadText, BadFile}
+use Rattle.rb_engine.specs.declared.payload.ReadFault.TheVariants.{BadText, BadFile}
 use Rattle.rb_engine.specs.declared.request.Payload.{Payload}
 use Rattle.rb_replies.specs.Extended.{refusal_data}
 use Rattle.rb_requests.specs.Limits.{is_over, payload_len}

@@ -34,7 +34,7 @@ use rb_views::Item;
 use std::alloc::{AllocError, Global};
 
 /// Out of memory for a line.
-#[derive(Clone, Copy, Debug, PartialEq, Eq)]
+#[derive(Clone, Copy, PartialEq, Eq)]
 pub(crate) enum Starved {
     /// Nothing has changed.
     Before,
@@ -52,7 +52,7 @@ impl From<AllocError> for Starved {
     }
 }
 
-#[derive(Clone, Copy, Debug, PartialEq, Eq)]
+#[derive(Clone, Copy, PartialEq, Eq)]
 pub(crate) enum Placed {
     /// In the reply line: nothing is written.
     Held,
@@ -237,14 +237,12 @@ fn answer_within<S: Sink>(
     }
 }
 
-/// Keeps what a lookup needs for the next ones: where it ends, or its locale's trail. A limit on
-/// steps counts the whole search, so lookups under it search each time.
+/// Keeps what a lookup needs for the next ones: where it ends, or its locale's trail.
 pub(crate) fn keep_item(engine: &mut Engine, limits: &Limits, app: &str, locale: &str, path: &str)
     ensures { engine.new ≡ engine.old }
 {
-    if limits.steps.is_none() {
-        engine.keep_item(app.as_bytes(), locale.as_bytes(), path.as_bytes());
-    }
+    let steps = limits.steps.unwrap_or(u64::MAX);
+    engine.keep_item(app.as_bytes(), locale.as_bytes(), path.as_bytes(), steps);
 }
 
 pub(crate) fn answer_usage(

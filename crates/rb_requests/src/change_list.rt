@@ -24,7 +24,7 @@ use rb_engine::BUNDLE_LIMIT;
 use std::alloc::{AllocError, Global};
 
 /// The payload of one change of a release.
-#[derive(Clone, Copy, Debug, PartialEq, Eq)]
+#[derive(Clone, Copy, PartialEq, Eq)]
 pub(crate) enum ChangePayload<'a> {
     Text(&'a str),
     /// The hexadecimal digits of a file, in pairs.
@@ -33,14 +33,14 @@ pub(crate) enum ChangePayload<'a> {
 }
 
 /// A change of a release.
-#[derive(Clone, Copy, Debug, PartialEq, Eq)]
+#[derive(Clone, Copy, PartialEq, Eq)]
 pub(crate) struct LineChange<'a> {
     pub locale: &'a str,
     pub payload: ChangePayload<'a>,
 }
 
 /// The changes of a release, or any other value.
-#[derive(Debug, Drop)]
+#[derive(Drop)]
 pub(crate) enum Changes<'a> {
     /// The first changes, one more than a release may have.
     All(Vec<LineChange<'a>>),

@@ -10,7 +10,7 @@ use std::io::{BufRead, Write};
 pub struct Failed;
 
 /// The way in which a span of bytes ended.
-#[derive(Clone, Copy, Debug, PartialEq, Eq)]
+#[derive(Clone, Copy, PartialEq, Eq)]
 pub enum Run {
     /// At a line feed, which is consumed too.
     Feed,

@@ -21,7 +21,7 @@ use rb_replies::Detail;
 use std::alloc::Global;
 
 /// The reason why a change isn't made.
-#[derive(Clone, Copy, Debug)]
+#[derive(Clone, Copy)]
 pub(crate) enum Unmade {
     /// Refused, with a code.
     Refused(&'static str, Detail),

@@ -7,7 +7,7 @@ use rb_tree::variant_name;
 pub const LINE_LIMIT: usize = 268_435_456;
 
 /// The limits under which lines are served; `None` means no limit.
-#[derive(Clone, Copy, Debug, PartialEq, Eq)]
+#[derive(Clone, Copy, PartialEq, Eq)]
 pub struct Limits {
     /// The most bytes of one bundle's file, and of a payload before it is read.
     pub bundle_bytes: Option<u64>,
@@ -57,7 +57,7 @@ impl Refusal {
 }
 
 /// The engine's answer, or a limit's rejection.
-#[derive(Debug, Drop)]
+#[derive(Drop)]
 pub enum Limited<T> {
     Answer(T),
     Refused(Refusal),

@@ -50,7 +50,7 @@ pub enum ServeFault {
 }
 
 /// The number of lines that were served.
-#[derive(Clone, Copy, Debug, PartialEq, Eq)]
+#[derive(Clone, Copy, PartialEq, Eq)]
 pub struct Served {
     pub lines: u64,
 }

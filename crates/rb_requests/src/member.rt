@@ -9,7 +9,7 @@ use crate::number::is_in_range;
 use json::{Invalid, Reader, Token};
 
 /// The value that an object has at a name.
-#[derive(Clone, Copy, Debug, PartialEq, Eq)]
+#[derive(Clone, Copy, PartialEq, Eq)]
 pub enum Member<'a> {
     Text(&'a str),
     Flag(bool),

@@ -8,7 +8,7 @@ use crate::device::{Failed, Feed, Run};
 use std::alloc::Global;
 
 /// The lengths up to which a line is read, and up to which it is stored.
-#[derive(Clone, Copy, Debug, PartialEq, Eq)]
+#[derive(Clone, Copy, PartialEq, Eq)]
 pub(crate) struct Longest {
     /// The most bytes of a line that is stored whole. Its bytes beyond them are skipped.
     pub(crate) kept: usize,
@@ -19,7 +19,7 @@ pub(crate) struct Longest {
 }
 
 /// The part that is stored of a line that was read.
-#[derive(Clone, Copy, Debug, PartialEq, Eq)]
+#[derive(Clone, Copy, PartialEq, Eq)]
 pub(crate) enum Held {
     Whole,
     /// At most its front: the line is longer than `kept`.
@@ -29,13 +29,13 @@ pub(crate) enum Held {
 }
 
 /// The number of a line's bytes that were read, and whether memory ran out for it.
-#[derive(Clone, Copy, Debug, PartialEq, Eq)]
+#[derive(Clone, Copy, PartialEq, Eq)]
 pub(crate) struct Progress {
     pub(crate) count: usize,
     pub(crate) starved: bool,
 }
 
-#[derive(Clone, Copy, Debug, PartialEq, Eq)]
+#[derive(Clone, Copy, PartialEq, Eq)]
 pub(crate) enum NextLine {
     /// A line; its line feed is read too.
     Ended(Held),

@@ -13,7 +13,7 @@ use std::alloc::AllocError;
 
 /// An object's members at the names that count for a request. Of two members with one name the last
 /// counts.
-#[derive(Clone, Copy, Debug, PartialEq, Eq)]
+#[derive(Clone, Copy, PartialEq, Eq)]
 pub struct Texts<'a> {
     pub op: Option<Member<'a>>,
     pub app: Option<Member<'a>>,

@@ -35,6 +35,9 @@ use rb_replies::{ReplyLine, put_tree_line, tree_is_above};
 use rb_views::Item;
 use std::alloc::{AllocError, Global};
 
+/// The most steps of a tree if there is no limit on steps: those of the largest bundles of CLDR.
+const TREE_STEPS: u64 = 100_000;
+
 /// Returns the number of bytes that a tree may have, and the error code if it has more.
 fn tree_room(limits: &Limits) -> (u64, &'static str)
     ensures { IsTreeError limits.now result.1.now }
@@ -75,7 +78,7 @@ fn tree_text(
 {
     let (room, too_long) = tree_room(limits);
     let steps = TreeLimits {
-        steps: limits.steps,
+        steps: Some(limits.steps.unwrap_or(TREE_STEPS)),
         ..TreeLimits::none()
     };
     let AppShelves {

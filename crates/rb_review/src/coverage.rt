@@ -1,13 +1,15 @@
 //! `resb coverage`.
-use crate::coverage_output::{CoverageFormat, Printed, put_head};
+use crate::coverage_output::{CoverageFormat, Printed, name_at, put_head};
 use rb_console::{
-    CommandError, Console, Form, Given, ParentsSource, StartError, all_given, finish,
+    CommandError, Console, Form, Given, ParentsSource, StartError, all_given, finish, folder_of,
     not_started_on, parents_of, printed, read_given, refused_on,
 };
 use rb_coverage::{Counts, Coverage, CoverageFault, Found};
 use rb_locales::Name;
 use rb_parents::Parents;
 use rb_parser::{Source, parse};
+use rb_project::{Configured, Modules, Project, Text, names_of, open_project, texts_of};
+use rb_settings::Section;
 use rb_tree::Tree;
 use std::alloc::{AllocError, Global};
 use std::io;
@@ -15,13 +17,14 @@ use std::process::ExitCode;
 use std::rt::Files;
 
 /// The words of the command line of `resb coverage`.
-#[derive(Clone, Copy, Debug)]
+#[derive(Clone, Copy)]
 pub struct CoverageWords<'a> {
     /// The place of explicit parents, if they are given.
     pub parents: Option<ParentsSource<'a>>,
     pub format: Option<&'a str>,
-    /// Each as `LOCALE=FILE`, or `FILE`, whose stem is the locale.
+    /// Each as `LOCALE=FILE`, or `FILE`, whose stem is the locale, or a folder of modules.
     pub files: &'a [&'a str],
+    pub config: Configured<'a>,
 }
 
 /// The bundles of one folder.
@@ -41,15 +44,8 @@ struct Common<'a> {
     parents: &'a Parents,
     bundles: &'a [Given<'a>],
     has_modules: bool,
-}
-
-/// Returns a file's folder, or `.` for a name without one.
-fn folder_of(file: &str) -> &str {
-    match file.rsplit_once('/') {
-        Some(("", _)) => "/",
-        Some((folder, _)) => folder,
-        None => ".",
-    }
+    /// The percentage of the root's keys that each locale has at least.
+    least: u64,
 }
 
 /// Returns the modules of bundles that are in the order of folders.
@@ -155,12 +151,12 @@ fn count(counts: &mut Vec<Counts>, found: &[Found]) {
     }
 }
 
-/// Prints what is found at each key, and the table of a module.
+/// Prints what is found at each key, and the table of a module. Returns the counts of its trees.
 fn put_module<R: AllocGlobal + Print>(
     rt: &R,
     printed: Printed<'_>,
     coverage: &mut Coverage<'_>,
-) -> io::Result<()> {
+) -> io::Result<Vec<Counts>> {
     let mut counts = vec![in rt.alloc(); Counts::none(); printed.trees.len()]?;
     for _ in 0..u64::MAX {
         let Some(found) = coverage.next_key()? else {
@@ -174,30 +170,53 @@ fn put_module<R: AllocGlobal + Print>(
         printed.put_key(rt, str::from_utf8(&path).unwrap_or("?"), &found)?;
     }
     let locales = coverage.locales()?;
-    printed.put_table(rt, coverage.keys(), &locales, &counts)
+    printed.put_table(rt, coverage.keys(), &locales, &counts)?;
+    Ok(counts)
 }
 
-/// Returns the status of a module by whether its output was written.
-fn module_status<R: Eprint>(rt: &R, console: Console, written: io::Result<()>) -> ExitCode {
-    match written {
-        Err(error) if error.kind() == io::ErrorKind::OutOfMemory => {
-            not_started_on(rt, console, StartError::Memory)
+/// Reports the locales that have fewer of the root's keys than are wanted. Returns true if there
+/// are none.
+fn is_complete<R: Eprint>(
+    rt: &R,
+    common: Common<'_>,
+    printed: Printed<'_>,
+    (keys, counts): (u64, &[Counts]),
+) -> bool {
+    let mut is_good = true;
+    for (i, counts) in counts.iter().enumerate() {
+        let there = keys.saturating_sub(counts.missing);
+        if there.saturating_mul(100) < keys.saturating_mul(common.least) {
+            let module = common.console.on_stderr(printed.module);
+            let (name, least) = (name_at(printed.trees, i), common.least);
+            let _ = eprintln!(rt;
+                "{module}: {name} has {there} of {keys} keys, less than {least}%"
+            );
+            is_good = false;
         }
-        written => printed(rt, written),
+    }
+    is_good
+}
+
+/// Returns the status of a module whose output wasn't written.
+fn unwritten_status<R: Eprint>(rt: &R, console: Console, error: io::Error) -> ExitCode {
+    match error.kind() {
+        io::ErrorKind::OutOfMemory => not_started_on(rt, console, StartError::Memory),
+        _ => printed(rt, Err(error)),
     }
 }
 
-/// Compares the trees of a module that was read.
+/// Compares the trees of a module that was read. Returns whether each locale has enough keys, or
+/// the status of the command.
 fn cover_read<R: AllocGlobal + Print + Eprint>(
     rt: &R,
     common: Common<'_>,
     module: Module<'_>,
     trees: &[(Name, Tree, bool)],
-) -> ExitCode {
+) -> Result<bool, ExitCode> {
     let console = common.console;
     let mut coverage = match Coverage::new(rt.alloc(), trees, common.parents) {
         Ok(coverage) => coverage,
-        Err(fault) => return fault_status(rt, console, common.bundles, module, fault),
+        Err(fault) => return Err(fault_status(rt, console, common.bundles, module, fault)),
     };
     let printed = Printed {
         format: common.format,
@@ -206,22 +225,25 @@ fn cover_read<R: AllocGlobal + Print + Eprint>(
         is_named: common.has_modules,
         trees,
     };
-    let written = put_module(rt, printed, &mut coverage);
-    module_status(rt, console, written)
+    match put_module(rt, printed, &mut coverage) {
+        Ok(counts) => Ok(is_complete(rt, common, printed, (coverage.keys(), &counts))),
+        Err(error) => Err(unwritten_status(rt, console, error)),
+    }
 }
 
-/// Compares the bundles of a module.
+/// Compares the bundles of a module. Returns whether each locale has enough keys, or the status of
+/// the command.
 fn cover_one<R: Files + AllocGlobal + Print + Eprint>(
     rt: &R,
     common: Common<'_>,
     module: Module<'_>,
-) -> ExitCode {
+) -> Result<bool, ExitCode> {
     if let Some(file) = second_file(common.bundles, module) {
-        return refused_on(rt, common.console, file, "Twice");
+        return Err(refused_on(rt, common.console, file, "Twice"));
     }
     match read_module(rt, common.bundles, module) {
         Ok(trees) => cover_read(rt, common, module, &trees),
-        Err(error) => finish(rt, common.console, error),
+        Err(error) => Err(finish(rt, common.console, error)),
     }
 }
 
@@ -231,20 +253,22 @@ fn cover_each<R: Files + AllocGlobal + Print + Eprint>(
     common: Common<'_>,
     modules: &[Module<'_>],
 ) -> ExitCode {
+    let mut status = ExitCode::SUCCESS;
     for module in modules {
-        let status = cover_one(rt, common, *module);
-        if status != ExitCode::SUCCESS {
-            return status;
+        match cover_one(rt, common, *module) {
+            Ok(true) => {}
+            Ok(false) => status = ExitCode::from(1),
+            Err(status) => return status,
         }
     }
-    ExitCode::SUCCESS
+    status
 }
 
 /// Compares bundles that are in the order of folders and names.
 fn cover_modules<R: Files + AllocGlobal + Print + Eprint>(
     rt: &R,
     console: Console,
-    format: CoverageFormat,
+    (format, least): (CoverageFormat, u64),
     parents: &Parents,
     bundles: &[Given<'_>],
 ) -> ExitCode {
@@ -260,6 +284,7 @@ fn cover_modules<R: Files + AllocGlobal + Print + Eprint>(
         parents,
         bundles,
         has_modules: modules.len() > 1,
+        least,
     };
     cover_each(rt, common, &modules)
 }
@@ -273,13 +298,95 @@ fn ordered_bundles<'a>(alloc: Global, files: &[&'a str]) -> Result<Vec<Given<'a>
     }
 }
 
+/// Returns the place of the parents that settings name, given the name by which their file is
+/// opened, or an empty one.
+fn settings_source<'a>(section: Section<'_>, file: &'a str) -> Option<ParentsSource<'a>> {
+    if section.flag("cldr-parents") {
+        return Some(ParentsSource::Cldr);
+    }
+    if file.is_empty() {
+        return None;
+    }
+    Some(ParentsSource::File(file))
+}
+
+/// Compares bundles with the parents of the settings, or reports why these can't be read.
+fn cover_settled<R: Files + AllocGlobal + Print + Eprint>(
+    rt: &R,
+    console: Console,
+    (format, least): (CoverageFormat, u64),
+    source: Option<ParentsSource<'_>>,
+    bundles: &[Given<'_>],
+) -> ExitCode {
+    match parents_of(rt, source) {
+        Ok(parents) => cover_modules(rt, console, (format, least), &parents, bundles),
+        Err(error) => not_started_on(rt, console, error),
+    }
+}
+
+/// Compares bundles with the parents of the command line, or else those of the settings.
+fn cover_bundles<R: Files + AllocGlobal + Print + Eprint>(
+    rt: &R,
+    console: Console,
+    format: CoverageFormat,
+    words: &CoverageWords<'_>,
+    project: &Project,
+    bundles: &[Given<'_>],
+) -> Result<ExitCode, AllocError> {
+    let section = project.settings.section("coverage");
+    let least = section.number("complete").unwrap_or(0);
+    if words.parents.is_some() {
+        return Ok(cover_settled(rt, console, (format, least), words.parents, bundles));
+    }
+    let file = match section.text("parents") {
+        Some(file) => project.opened(rt.alloc(), file)?,
+        None => String::new(rt.alloc()),
+    };
+    let source = settings_source(section, file.as_str());
+    Ok(cover_settled(rt, console, (format, least), source, bundles))
+}
+
+/// Compares the bundles of a command in a project.
+fn cover_project<R: Files + AllocGlobal + Print + Eprint>(
+    rt: &R,
+    console: Console,
+    format: CoverageFormat,
+    words: &CoverageWords<'_>,
+    project: &Project,
+    texts: &[Text],
+) -> Result<ExitCode, AllocError> {
+    let names = names_of(rt.alloc(), texts)?;
+    match ordered_bundles(rt.alloc(), &names) {
+        Ok(bundles) => cover_bundles(rt, console, format, words, project, &bundles),
+        Err(error) => Ok(not_started_on(rt, console, error)),
+    }
+}
+
+/// Finds the texts of a command, and compares their bundles.
+fn cover_texts<R: Files + AllocGlobal + Print + Eprint>(
+    rt: &R,
+    console: Console,
+    format: CoverageFormat,
+    words: &CoverageWords<'_>,
+    project: &Project,
+) -> Result<ExitCode, AllocError> {
+    let modules = Modules::of(rt.alloc(), project)?;
+    match texts_of(rt, console, &modules, words.files) {
+        Ok(texts) => cover_project(rt, console, format, words, project, &texts),
+        Err(status) => Ok(status),
+    }
+}
+
 /// Compares the locales of bundle texts with what they inherit, and prints what they lack and how
 /// they differ. The files of one folder are a module, which has a file of the root; modules are
-/// compared one by one, in the order of their folders.
+/// compared one by one, in the order of their folders. A folder stands for the texts of its
+/// modules; the settings of the project say which parents there are and how many keys a locale has
+/// at least.
 ///
-/// The status is 0; 1 if a text is refused, a locale has two files or no trail, or memory runs out;
-/// 2 if the format is no format, a module has no root, an argument has no locale's name, or a file
-/// or standard output can't be read or written. The first error ends the command.
+/// The status is 0; 1 if a text is refused, a locale has two files or no trail, or fewer keys than
+/// are wanted, or memory runs out; 2 if the format is no format, the settings are refused, a module
+/// has no root, an argument has no locale's name, or a file or standard output can't be read or
+/// written. The first error ends the command, except too few keys.
 pub fn cover_all<R: Files + AllocGlobal + Print + Eprint>(
     rt: &R,
     console: Console,
@@ -289,12 +396,12 @@ pub fn cover_all<R: Files + AllocGlobal + Print + Eprint>(
         let _ = eprintln!(rt; "resb: --format is table, list, json or csv");
         return ExitCode::from(2);
     };
-    let bundles = match ordered_bundles(rt.alloc(), words.files) {
-        Ok(bundles) => bundles,
-        Err(error) => return not_started_on(rt, console, error),
+    let project = match open_project(rt, console, words.config, &[]) {
+        Ok(project) => project,
+        Err(status) => return status,
     };
-    match parents_of(rt, words.parents) {
-        Ok(parents) => cover_modules(rt, console, format, &parents, &bundles),
-        Err(error) => not_started_on(rt, console, error),
+    match cover_texts(rt, console, format, words, &project) {
+        Ok(status) => status,
+        Err(_) => not_started_on(rt, console, StartError::Memory),
     }
 }

@@ -7,7 +7,7 @@ use std::alloc::{AllocError, Global};
 use std::{fmt, io};
 
 /// The forms of the output.
-#[derive(Clone, Copy, Debug, PartialEq, Eq)]
+#[derive(Clone, Copy, PartialEq, Eq)]
 pub(crate) enum CoverageFormat {
     /// A line for each locale.
     Table,
@@ -32,21 +32,22 @@ impl CoverageFormat {
     }
 }
 
-/// A field of a row of CSV, which is in quotes if it has a comma, a quote or a line's end.
-#[derive(Clone, Copy, Debug)]
-struct CsvText<'a>(&'a str);
+/// A field of a row of CSV, which is in quotes if it has a comma, a quote or a line's end. On a
+/// terminal, what it acts on is escaped.
+#[derive(Clone, Copy)]
+struct CsvText<'a>(&'a str, Console);
 
 impl<'a> fmt::Display for CsvText<'a> {
     fn fmt<W: fmt::Write>(&self, f: &mut fmt::Formatter<W>) -> fmt::Result {
         if !self.0.contains([',', '"', '\n', '\r']) {
-            return f.write_str(self.0);
+            return write!(f, "{}", self.1.on_stdout(self.0));
         }
         f.write_char('"')?;
         for c in self.0.chars() {
             if c == '"' {
                 f.write_char('"')?;
             }
-            f.write_char(c)?;
+            write!(f, "{}", self.1.char_on_stdout(c))?;
         }
         f.write_char('"')
     }
@@ -76,7 +77,7 @@ fn phrase(finding: Finding) -> &'static str {
 }
 
 /// Returns the name of a tree's locale.
-fn name_at(trees: &[(Name, Tree, bool)], i: usize) -> &str {
+pub(crate) fn name_at(trees: &[(Name, Tree, bool)], i: usize) -> &str {
     match trees.get(i) {
         Some(tree) => str::from_utf8(tree.0.as_bytes()).unwrap_or("?"),
         None => "?",
@@ -178,7 +179,10 @@ impl<'a> Printed<'a> {
 
     /// Prints a row for each finding and locale.
     fn put_rows<R: Print>(&self, rt: &R, path: &str, found: &[Found]) -> io::Result<()> {
-        let (module, path) = (CsvText(self.module), CsvText(path));
+        let (module, path) = (
+            CsvText(self.module, self.console),
+            CsvText(path, self.console),
+        );
         for one in found {
             let (finding, name) = (one.finding.name(), name_at(self.trees, one.locale));
             println!(rt; "{module},{path},{finding},{name}")?;

@@ -1,8 +1,9 @@
 //! Texts as other formats write them.
+use rb_console::Console;
 use std::fmt;
 
 /// A file's name as a relative reference of a URI.
-#[derive(Clone, Copy, Debug)]
+#[derive(Clone, Copy)]
 pub(crate) struct UriText<'a>(pub(crate) &'a str);
 
 impl<'a> fmt::Display for UriText<'a> {
@@ -19,11 +20,13 @@ impl<'a> fmt::Display for UriText<'a> {
     }
 }
 
-/// A text in a workflow command of GitHub: a message, or the value of a property.
-#[derive(Clone, Copy, Debug)]
+/// A text in a workflow command of GitHub: a message, or the value of a property. On a terminal,
+/// what it acts on is escaped.
+#[derive(Clone, Copy)]
 pub(crate) struct GitHubText<'a> {
     pub(crate) text: &'a str,
     pub(crate) is_property: bool,
+    pub(crate) console: Console,
 }
 
 impl<'a> fmt::Display for GitHubText<'a> {
@@ -35,7 +38,7 @@ impl<'a> fmt::Display for GitHubText<'a> {
                 '\n' => f.write_str("%0A")?,
                 ':' if self.is_property => f.write_str("%3A")?,
                 ',' if self.is_property => f.write_str("%2C")?,
-                _ => f.write_char(c)?,
+                _ => write!(f, "{}", self.console.char_on_stdout(c))?,
             }
         }
         Ok(())

@@ -1,9 +1,11 @@
 //! The commands of `resb` that judge bundle texts, over any runtime: `lint` and `coverage`.
 #![tactic(auto)]
 
+mod baseline;
 mod coverage;
 mod coverage_output;
 mod escaped;
+mod left_out;
 mod lint_output;
 mod lint_words;
 mod linting;

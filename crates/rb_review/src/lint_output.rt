@@ -112,7 +112,7 @@ impl LintOutput {
         match self.format {
             Format::Text => self.text_line(rt, line, is_rule),
             Format::Json => json_line(rt, line),
-            Format::GitHub => github_line(rt, line),
+            Format::GitHub => self.github_line(rt, line),
             Format::Sarif => {
                 let comma = if self.has_line { "," } else { "" };
                 print!(rt; "{comma}")?;
@@ -136,6 +136,32 @@ impl LintOutput {
             Some(rule) if is_rule => println!(rt; " [{rule}]"),
             _ => println!(rt; ""),
         }
+    }
+
+    fn github_line<R: Print>(&self, rt: &R, line: Line<'_>) -> io::Result<()> {
+        let command = if line.level == "note" {
+            "notice"
+        } else {
+            line.level
+        };
+        let file = GitHubText {
+            text: line.file,
+            is_property: true,
+            console: self.console,
+        };
+        let message = GitHubText {
+            text: line.message,
+            is_property: false,
+            console: self.console,
+        };
+        print!(rt; "::{command} file={file}")?;
+        if let Some((number, column)) = line.place {
+            print!(rt; ",line={number},col={column}")?;
+        }
+        if let Some(rule) = line.rule {
+            print!(rt; ",title={rule}")?;
+        }
+        println!(rt; "::{message}")
     }
 }
 
@@ -164,28 +190,4 @@ fn sarif_line<R: Print>(rt: &R, line: Line<'_>) -> io::Result<()> {
         print!(rt; ",\"region\":{{\"startLine\":{number},\"startColumn\":{column}}}")?;
     }
     println!(rt; "}}}}]}}")
-}
-
-fn github_line<R: Print>(rt: &R, line: Line<'_>) -> io::Result<()> {
-    let command = if line.level == "note" {
-        "notice"
-    } else {
-        line.level
-    };
-    let file = GitHubText {
-        text: line.file,
-        is_property: true,
-    };
-    let message = GitHubText {
-        text: line.message,
-        is_property: false,
-    };
-    print!(rt; "::{command} file={file}")?;
-    if let Some((number, column)) = line.place {
-        print!(rt; ",line={number},col={column}")?;
-    }
-    if let Some(rule) = line.rule {
-        print!(rt; ",title={rule}")?;
-    }
-    println!(rt; "::{message}")
 }

@@ -1,9 +1,12 @@
 //! The words of `resb lint`'s command line.
+use crate::left_out::with_rules;
 use rb_console::Console;
 use rb_lint::{Levels, Rule, RuleSet};
+use rb_project::{Configured, Project};
+use std::alloc::{AllocError, Global};
 
 /// The arguments of `resb lint`.
-#[derive(Clone, Copy, Debug)]
+#[derive(Clone, Copy)]
 pub struct LintWords<'a> {
     /// The root's text, to compare with.
     pub root: Option<&'a str>,
@@ -17,11 +20,13 @@ pub struct LintWords<'a> {
     pub is_strict: bool,
     /// No warning is left out.
     pub is_all: bool,
+    /// Texts, and folders of modules.
     pub texts: &'a [&'a str],
+    pub config: Configured<'a>,
 }
 
 /// The forms of the output.
-#[derive(Clone, Copy, Debug, PartialEq, Eq)]
+#[derive(Clone, Copy, PartialEq, Eq)]
 pub(crate) enum Format {
     Text,
     /// An object for each finding, in a line.
@@ -68,5 +73,29 @@ pub(crate) fn levels_of<R: Eprint>(
     Some(Levels {
         allowed: rules_of(rt, console, words.allow)?,
         denied: rules_of(rt, console, words.deny)?,
+    })
+}
+
+/// Returns the names of all rules.
+pub(crate) fn rule_names(alloc: Global) -> Result<Vec<&'static str>, AllocError> {
+    let mut names = Vec::new(alloc);
+    for rule in Rule::ALL {
+        names.push(rule.name())?;
+    }
+    Ok(names)
+}
+
+/// Adds what the settings of a project allow and deny in all texts.
+pub(crate) fn with_settings(
+    alloc: Global,
+    levels: Levels,
+    project: &Project,
+) -> Result<Levels, AllocError> {
+    let section = project.settings.section("lint");
+    let allowed = section.texts(alloc, "allow")?;
+    let denied = section.texts(alloc, "deny")?;
+    Ok(Levels {
+        allowed: with_rules(levels.allowed, &allowed),
+        denied: with_rules(levels.denied, &denied),
     })
 }

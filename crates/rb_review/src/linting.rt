@@ -1,10 +1,17 @@
 //! `resb lint`.
+use crate::baseline::Baseline;
+use crate::left_out::LeftOut;
 use crate::lint_output::LintOutput;
-use crate::lint_words::{Format, LintWords, levels_of};
-use rb_console::{Console, cannot_read_on, printed, read_file, read_text, refused_on, stem};
-use rb_lint::{Levels, Rule, Settings, Severity, WARNING_LIMIT, find_all};
+use crate::lint_words::{Format, LintWords, levels_of, rule_names, with_settings};
+use rb_console::{
+    Console, StartError, cannot_read_on, not_started_on, printed, read_file, read_text, refused_on,
+    stem,
+};
+use rb_lint::{Finding, Levels, Rule, Settings, Severity, WARNING_LIMIT, find_all};
 use rb_parser::parse;
+use rb_project::{Modules, Project, Text, open_project, root_of, texts_of};
 use rb_tree::Tree;
+use std::alloc::AllocError;
 use std::io;
 use std::process::ExitCode;
 use std::rt::Files;
@@ -18,11 +25,24 @@ struct Common<'a> {
     is_strict: bool,
     /// The name of standard input's text.
     name: Option<&'a str>,
+    /// The root's text that all are compared with.
     root: Option<&'a Tree>,
 }
 
-/// Returns the name that a text's bundle should have, or None for standard input without a name, whose
-/// name says nothing of the text.
+/// The state of a command from text to text.
+#[derive(Drop)]
+struct Linter {
+    output: LintOutput,
+    baseline: Baseline,
+    /// The last root's text of a module, and its tree, if it compiles.
+    root_name: String,
+    root: Option<Tree>,
+    /// A root's text was refused.
+    has_bad_root: bool,
+}
+
+/// Returns the name that a text's bundle should have, or None for standard input without a name,
+/// whose name says nothing of the text.
 fn bundle_name(name: &str) -> Option<&[u8]> {
     match name {
         "-" | "/dev/stdin" | "/dev/fd/0" | "/proc/self/fd/0" => None,
@@ -30,30 +50,113 @@ fn bundle_name(name: &str) -> Option<&[u8]> {
     }
 }
 
-/// Prints the findings of a text that was read. Returns true if there are none that count.
-fn lint_read<R: AllocGlobal + Print>(
-    rt: &R,
-    common: Common<'_>,
-    output: &mut LintOutput,
-    name: &str,
-    text: &[u8],
-) -> io::Result<bool> {
-    let settings = Settings {
-        name: bundle_name(name),
-        levels: common.levels,
-        limit: common.limit,
-        root: common.root,
-    };
-    let report = find_all(rt.alloc(), text, &settings)?;
-    let mut is_good = true;
-    for finding in &report.findings {
-        output.finding(rt, name, finding)?;
-        if common.is_strict || finding.severity == Severity::Error {
-            is_good = false;
+impl Linter {
+    /// Reads the root's text of a module, unless it is the last one that was read.
+    fn read_root<R: Files + AllocGlobal + Eprint>(
+        &mut self,
+        rt: &R,
+        console: Console,
+        name: &str,
+    ) -> Result<(), AllocError> {
+        if self.root_name.as_str() == name {
+            return Ok(());
         }
+        self.root_name = String::from_str(rt.alloc(), name)?;
+        self.root = root_tree(rt, console, name);
+        if self.root.is_none() {
+            self.has_bad_root = true;
+        }
+        Ok(())
     }
-    output.left_out(rt, name, report.left_out)?;
-    Ok(is_good)
+
+    /// Checks whether the settings leave out a warning.
+    fn leaves_out<R: AllocGlobal>(
+        &mut self,
+        rt: &R,
+        left_out: &LeftOut<'_>,
+        finding: &Finding,
+        (file, path): (&str, &str),
+    ) -> Result<bool, AllocError> {
+        let Some(rule) = finding.rule else {
+            return Ok(false);
+        };
+        if left_out.has_paths() && left_out.has(rule, path) {
+            return Ok(true);
+        }
+        if self.baseline.is_empty() {
+            return Ok(false);
+        }
+        self.baseline.takes(rt.alloc(), file, finding)
+    }
+
+    /// Prints the findings of a text that aren't left out. Returns true if there are none that
+    /// count.
+    fn print_findings<R: AllocGlobal + Print>(
+        &mut self,
+        rt: &R,
+        common: Common<'_>,
+        project: &Project,
+        left_out: &LeftOut<'_>,
+        (name, text): (&str, &[u8]),
+        findings: &[Finding],
+    ) -> io::Result<(bool, u64)> {
+        let paths = left_out.paths(rt.alloc(), text, findings)?;
+        let file = project.relative(rt.alloc(), name)?;
+        let (mut is_good, mut count, mut more) = (true, 0usize, 0u64);
+        for (i, finding) in findings.iter().enumerate() {
+            let path = paths.get(i).map_or("", |path| path.as_str());
+            if self.leaves_out(rt, left_out, finding, (file.as_str(), path))? {
+                continue;
+            }
+            if finding.rule.is_some() {
+                if count >= common.limit {
+                    more = more.saturating_add(1);
+                    continue;
+                }
+                count = count.saturating_add(1);
+            }
+            self.output.finding(rt, name, finding)?;
+            if common.is_strict || finding.severity == Severity::Error {
+                is_good = false;
+            }
+        }
+        Ok((is_good, more))
+    }
+
+    /// Prints the findings of a text that was read. Returns true if there are none that count.
+    fn lint_read<R: AllocGlobal + Print>(
+        &mut self,
+        rt: &R,
+        common: Common<'_>,
+        modules: &Modules<'_>,
+        (name, text): (&str, &[u8]),
+        has_root: bool,
+    ) -> io::Result<bool> {
+        let left_out = LeftOut::of(rt.alloc(), modules, common.levels, name)?;
+        let is_limited = self.baseline.is_empty() && !left_out.has_paths();
+        let settings = Settings {
+            name: bundle_name(name),
+            levels: left_out.levels,
+            limit: if is_limited { common.limit } else { usize::MAX },
+            root: if has_root {
+                self.root.as_ref()
+            } else {
+                common.root
+            },
+        };
+        let report = find_all(rt.alloc(), text, &settings)?;
+        let (is_good, more) = self.print_findings(
+            rt,
+            common,
+            modules.project,
+            &left_out,
+            (name, text),
+            &report.findings,
+        )?;
+        self.output
+            .left_out(rt, name, report.left_out.saturating_add(more))?;
+        Ok(is_good)
+    }
 }
 
 /// Returns the status of a text by its findings. Out of memory is an error of the text.
@@ -73,25 +176,58 @@ fn text_status<R: Eprint>(
     }
 }
 
+/// Reads the root that a text is compared with, if a module says it. Returns true if there is one.
+fn prepare_root<R: Files + AllocGlobal + Eprint>(
+    rt: &R,
+    common: Common<'_>,
+    modules: &Modules<'_>,
+    linter: &mut Linter,
+    name: &str,
+    text: &Text,
+) -> Result<bool, AllocError> {
+    if common.root.is_some() {
+        return Ok(false);
+    }
+    if let Some(root) = &text.root {
+        linter.read_root(rt, common.console, root.as_str())?;
+        return Ok(true);
+    }
+    if name == text.name.as_str() {
+        return Ok(false);
+    }
+    match root_of(rt.alloc(), modules, name)? {
+        Some(root) => {
+            linter.read_root(rt, common.console, root.as_str())?;
+            Ok(true)
+        }
+        None => Ok(false),
+    }
+}
+
 /// Prints the findings of one text.
 fn lint_one<R: Files + Input + AllocGlobal + Print + Eprint>(
     rt: &R,
     common: Common<'_>,
-    output: &mut LintOutput,
-    file: &str,
+    modules: &Modules<'_>,
+    linter: &mut Linter,
+    text: &Text,
 ) -> ExitCode {
+    let file = text.name.as_str();
     let name = match common.name {
         Some(name) if file == "-" => name,
         _ => file,
     };
-    let text = match read_text(rt, file) {
-        Ok(text) => text,
+    let bytes = match read_text(rt, file) {
+        Ok(bytes) => bytes,
         Err(error) => {
             let _ = cannot_read_on(rt, common.console, name, ":0", error);
             return ExitCode::from(1);
         }
     };
-    let outcome = lint_read(rt, common, output, name, &text);
+    let Ok(has_root) = prepare_root(rt, common, modules, linter, name, text) else {
+        return refused_on(rt, common.console, name, "Memory");
+    };
+    let outcome = linter.lint_read(rt, common, modules, (name, &bytes), has_root);
     text_status(rt, common.console, name, outcome)
 }
 
@@ -99,18 +235,22 @@ fn lint_one<R: Files + Input + AllocGlobal + Print + Eprint>(
 fn lint_each<R: Files + Input + AllocGlobal + Print + Eprint>(
     rt: &R,
     common: Common<'_>,
-    output: &mut LintOutput,
-    files: &[&str],
+    modules: &Modules<'_>,
+    linter: &mut Linter,
+    texts: &[Text],
 ) -> ExitCode {
     let mut status = ExitCode::SUCCESS;
-    for file in files {
-        let one = lint_one(rt, common, output, file);
+    for text in texts {
+        let one = lint_one(rt, common, modules, linter, text);
         if one == ExitCode::from(2) {
             return one;
         }
         if one != ExitCode::SUCCESS {
             status = one;
         }
+    }
+    if linter.has_bad_root {
+        return ExitCode::from(1);
     }
     status
 }
@@ -139,33 +279,137 @@ fn root_tree<R: Files + AllocGlobal + Eprint>(
     }
 }
 
-/// Prints the findings of all texts in a format.
-fn lint_in<R: Files + Input + AllocGlobal + Print + Eprint>(
+/// Prints the findings of all texts.
+fn lint_texts<R: Files + Input + AllocGlobal + Print + Eprint>(
     rt: &R,
     common: Common<'_>,
-    format: Format,
-    files: &[&str],
+    modules: &Modules<'_>,
+    linter: &mut Linter,
+    texts: &[Text],
 ) -> ExitCode {
-    let mut output = LintOutput::new(format, common.console);
-    if let Err(error) = output.begin(rt) {
+    if let Err(error) = linter.output.begin(rt) {
         return printed(rt, Err(error));
     }
-    let status = lint_each(rt, common, &mut output, files);
+    let status = lint_each(rt, common, modules, linter, texts);
     if status == ExitCode::from(2) {
         return status;
     }
-    match output.end(rt) {
+    match linter.output.end(rt) {
         Ok(()) => status,
         Err(error) => printed(rt, Err(error)),
     }
 }
 
-/// Prints what is doubtful in bundle texts, and the error of each text that isn't compiled, in the order
-/// of each text, as `TEXT:LINE:COLUMN: warning: ..`, or in another format. If a root's text is
-/// given, prints also how each text that is compiled differs from it. The status is 0; 1 if a text has an
-/// error or can't be read, with `is_strict` also if there is a warning, and if the root's text is refused
-/// or can't be read, before anything is printed; 2 if a word is no name of a warning or no format,
-/// and as soon as standard output can't be written.
+/// Finds the texts of a command, and prints their findings in a format.
+fn lint_in<R: Files + Input + AllocGlobal + Print + Eprint>(
+    rt: &R,
+    common: Common<'_>,
+    modules: &Modules<'_>,
+    format: Format,
+    arguments: &[&str],
+) -> ExitCode {
+    let console = common.console;
+    let texts = match texts_of(rt, console, modules, arguments) {
+        Ok(texts) => texts,
+        Err(status) => return status,
+    };
+    let baseline = match Baseline::read(rt, console, modules.project) {
+        Ok(baseline) => baseline,
+        Err(status) => return status,
+    };
+    let mut linter = Linter {
+        output: LintOutput::new(format, console),
+        baseline,
+        root_name: String::new(rt.alloc()),
+        root: None,
+        has_bad_root: false,
+    };
+    lint_texts(rt, common, modules, &mut linter, &texts)
+}
+
+/// Prints the findings of a command in a project.
+fn lint_project<R: Files + Input + AllocGlobal + Print + Eprint>(
+    rt: &R,
+    common: Common<'_>,
+    modules: &Modules<'_>,
+    format: Format,
+    words: &LintWords<'_>,
+) -> ExitCode {
+    let Some(root) = words.root else {
+        return lint_in(rt, common, modules, format, words.texts);
+    };
+    match root_tree(rt, common.console, root) {
+        Some(tree) => {
+            let common = Common {
+                root: Some(&tree),
+                ..common
+            };
+            lint_in(rt, common, modules, format, words.texts)
+        }
+        None => ExitCode::from(1),
+    }
+}
+
+/// The choices of a command that hold for all texts.
+#[derive(Clone, Copy)]
+struct Choices {
+    format: Format,
+    levels: Levels,
+    is_strict: bool,
+}
+
+/// Prints the findings of a command in the modules of a project.
+fn lint_modules<R: Files + Input + AllocGlobal + Print + Eprint>(
+    rt: &R,
+    console: Console,
+    choices: Choices,
+    words: &LintWords<'_>,
+    modules: &Modules<'_>,
+) -> ExitCode {
+    let common = Common {
+        console,
+        levels: choices.levels,
+        limit: if words.is_all {
+            usize::MAX
+        } else {
+            WARNING_LIMIT
+        },
+        is_strict: choices.is_strict,
+        name: words.name,
+        root: None,
+    };
+    lint_project(rt, common, modules, choices.format, words)
+}
+
+/// Reads the settings and the modules of a project, and prints the findings.
+fn lint_with<R: Files + Input + AllocGlobal + Print + Eprint>(
+    rt: &R,
+    console: Console,
+    choices: Choices,
+    words: &LintWords<'_>,
+    project: &Project,
+) -> Result<ExitCode, AllocError> {
+    let levels = with_settings(rt.alloc(), choices.levels, project)?;
+    let is_strict = words.is_strict || project.settings.section("lint").flag("strict");
+    let choices = Choices {
+        format: choices.format,
+        levels,
+        is_strict,
+    };
+    let modules = Modules::of(rt.alloc(), project)?;
+    Ok(lint_modules(rt, console, choices, words, &modules))
+}
+
+/// Prints what is doubtful in bundle texts, and the error of each text that isn't compiled, in the
+/// order of each text, as `TEXT:LINE:COLUMN: warning: ..`, or in another format. If a root's text
+/// is given, prints also how each text that is compiled differs from it. The status is 0; 1 if a
+/// text has an error or can't be read, with `is_strict` also if there is a warning, and if the
+/// root's text is refused or can't be read, before anything is printed; 2 if a word is no name of a
+/// warning or no format, the settings are refused, a folder has no text of a module, and as soon as
+/// standard output can't be written.
+///
+/// The settings of the project say what is left out, which warnings are errors, and which root's
+/// text a text is compared with if none is given. A folder stands for the texts of its modules.
 pub fn lint_all<R: Files + Input + AllocGlobal + Print + Eprint>(
     rt: &R,
     console: Console,
@@ -178,30 +422,21 @@ pub fn lint_all<R: Files + Input + AllocGlobal + Print + Eprint>(
     let Some(levels) = levels_of(rt, console, words) else {
         return ExitCode::from(2);
     };
-    let common = Common {
-        console,
+    let Ok(rules) = rule_names(rt.alloc()) else {
+        return not_started_on(rt, console, StartError::Memory);
+    };
+    let project = match open_project(rt, console, words.config, &rules) {
+        Ok(project) => project,
+        Err(status) => return status,
+    };
+    let choices = Choices {
+        format,
         levels,
-        limit: if words.is_all {
-            usize::MAX
-        } else {
-            WARNING_LIMIT
-        },
         is_strict: words.is_strict,
-        name: words.name,
-        root: None,
     };
-    let Some(root) = words.root else {
-        return lint_in(rt, common, format, words.texts);
-    };
-    match root_tree(rt, console, root) {
-        Some(tree) => {
-            let common = Common {
-                root: Some(&tree),
-                ..common
-            };
-            lint_in(rt, common, format, words.texts)
-        }
-        None => ExitCode::from(1),
+    match lint_with(rt, console, choices, words, &project) {
+        Ok(status) => status,
+        Err(_) => not_started_on(rt, console, StartError::Memory),
     }
 }
 

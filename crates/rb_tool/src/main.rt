@@ -6,11 +6,12 @@ mod raw_arguments;
 mod running;
 mod serve;
 mod server;
+mod start;
 
-use crate::raw_arguments::{ShownBytes, first_bad_argument};
+use crate::raw_arguments::first_bad_argument;
 use crate::running::run_asked;
 use rb_arguments::{asked_by, commands_for};
-use rb_console::Console;
+use rb_console::{Console, ShownBytes, printed};
 use std::io::{ErrorKind, IsTerminal};
 use std::process::ExitCode;
 use std::random::RandomSource;
@@ -74,12 +75,13 @@ fn not_utf8<R: AllocGlobal + Eprint + Env>(rt: &R, console: Console) -> io::Resu
 }
 
 /// Says on a line of standard error why no command was run: out of memory, an argument that isn't
-/// UTF-8, or a help that can't be written. The status is 1 after out of memory, and else 2.
+/// UTF-8, or a help that can't be written, of which nothing is said if its reader has ended. The
+/// status is 1 after out of memory, and else 2.
 fn not_run<R: AllocGlobal + Eprint + Env>(rt: &R, console: Console, error: io::Error) -> ExitCode {
     let (_, status) = match error.kind() {
         ErrorKind::OutOfMemory => (eprintln!(rt; "Memory"), 1),
         ErrorKind::InvalidData => (not_utf8(rt, console), 2),
-        _ => (eprintln!(rt; "cannot write stdout"), 2),
+        _ => return printed(rt, Err(error)),
     };
     ExitCode::from(status)
 }

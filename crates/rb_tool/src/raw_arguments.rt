@@ -1,7 +1,5 @@
-//! Finds an argument that isn't UTF-8, and shows it.
-use rb_console::Console;
+//! Finds an argument that isn't UTF-8.
 use std::env::FillError;
-use std::fmt;
 use std::rt::Env;
 
 /// The bytes of an argument's first buffer, which most arguments fit.
@@ -34,23 +32,4 @@ pub fn first_bad_argument<R: Env + AllocGlobal>(rt: &R) -> Option<Vec<u8>> {
         }
     }
     None
-}
-
-/// An argument in a message: each byte that isn't UTF-8 as `\xff`, the text between as a name.
-#[derive(Clone, Copy)]
-pub struct ShownBytes<'a> {
-    pub bytes: &'a [u8],
-    pub console: Console,
-}
-
-impl<'a> fmt::Display for ShownBytes<'a> {
-    fn fmt<W: fmt::Write>(&self, f: &mut fmt::Formatter<W>) -> fmt::Result {
-        for chunk in self.bytes.utf8_chunks() {
-            write!(f, "{}", self.console.on_stderr(chunk.valid()))?;
-            for byte in chunk.invalid() {
-                write!(f, "\\x{byte:02x}")?;
-            }
-        }
-        Ok(())
-    }
 }

@@ -11,11 +11,12 @@ use rb_convert::{
     Change, DiffForm, DiffWords, Layout, Target, compile_all, compile_all_json, compile_json_on,
     compile_on, diff, json, json_lines, lines, text,
 };
-use rb_fmt::{FormatMode, format_all};
+use rb_fmt::{FormatMode, FormatWords, format_all};
 use rb_inspect::{
     Inheritance, Lookup, check_all, check_json, check_on, explain_on, get_on, get_raw, look_up,
     print_tree,
 };
+use rb_project::{Configured, init};
 use rb_requests::Limits;
 use rb_review::{CoverageWords, LintWords, cover_all, lint_all, list_rules};
 use std::process::ExitCode;
@@ -107,6 +108,10 @@ fn run_check<R: Files + Clock + AllocGlobal + Print + Eprint>(
     }
 }
 
+fn configured(file: Option<&str>, is_none: bool) -> Configured<'_> {
+    Configured { file, is_none }
+}
+
 /// `lint [OPTIONS] TEXT..`
 fn run_lint<R: Files + Input + AllocGlobal + Print + Eprint>(
     rt: &R,
@@ -125,6 +130,7 @@ fn run_lint<R: Files + Input + AllocGlobal + Print + Eprint>(
         is_strict: asked.is_strict,
         is_all: asked.is_all,
         texts: &asked.texts,
+        config: configured(asked.config, asked.no_config),
     };
     lint_all(rt, console, &words)
 }
@@ -142,7 +148,12 @@ fn run_format<R: Files + RandomSource + Clock + Input + AllocGlobal + Print + Ep
     } else {
         FormatMode::Write
     };
-    format_all(rt, quieted(console, asked.is_quiet), mode, &asked.texts)
+    let words = FormatWords {
+        mode,
+        config: configured(asked.config, asked.no_config),
+        names: &asked.texts,
+    };
+    format_all(rt, quieted(console, asked.is_quiet), &words)
 }
 
 /// `coverage [OPTIONS] [LOCALE=]TEXT..`
@@ -155,6 +166,7 @@ fn run_coverage<R: Files + AllocGlobal + Print + Eprint>(
         parents: source_of(asked.parents, asked.is_cldr),
         format: asked.format,
         files: &asked.texts,
+        config: configured(asked.config, asked.no_config),
     };
     cover_all(rt, console, &words)
 }
@@ -252,31 +264,46 @@ pub fn run_asked<
         Asked::Compile {
             input,
             output,
+            is_forced,
             is_quiet,
-        } => { compile_on(rt, quieted(console, is_quiet), input, output) }
+        } => { compile_on(rt, quieted(console, is_quiet), input, output, is_forced) }
         Asked::CompileAll {
             folder,
             from,
             texts,
+            is_forced,
             is_quiet,
         } => {
-            let target = Target { folder, from };
+            let target = Target {
+                folder,
+                from,
+                is_forced,
+            };
             compile_all(rt, quieted(console, is_quiet), target, &texts)
         }
         Asked::CompileJson {
             input,
             output,
             no_fallback,
+            is_forced,
             is_quiet,
-        } => { compile_json_on(rt, quieted(console, is_quiet), input, output, no_fallback) }
+        } => {
+            let flags = (no_fallback, is_forced);
+            compile_json_on(rt, quieted(console, is_quiet), input, output, flags)
+        }
         Asked::CompileAllJson {
             folder,
             from,
             texts,
             no_fallback,
+            is_forced,
             is_quiet,
         } => {
-            let target = Target { folder, from };
+            let target = Target {
+                folder,
+                from,
+                is_forced,
+            };
             compile_all_json(rt, quieted(console, is_quiet), target, &texts, no_fallback)
         }
         Asked::Check {
@@ -304,6 +331,7 @@ pub fn run_asked<
         Asked::Lint(asked) => run_lint(rt, console, &asked),
         Asked::Format(asked) => run_format(rt, console, &asked),
         Asked::Coverage(asked) => run_coverage(rt, console, &asked),
+        Asked::Init { folder } => init(rt, console, folder.unwrap_or(".")),
         Asked::Explain { word } => explain_on(rt, console, word),
         Asked::Lines {
             op,

@@ -5,7 +5,8 @@ ghost use Rattle.rb_console.specs.Starting.{HasParentsFor};
 
 use crate::batching_writer::{BatchingWriter, LookaheadFeed};
 use crate::server::Server;
-use rb_console::{Console, JsonWriter, ParentsSource, StartError, not_started_on, start_engine};
+use crate::start::start_engine;
+use rb_console::{Console, EscapingWriter, ParentsSource, StartError, not_started_on};
 use rb_engine::Engine;
 use rb_requests::{Limits, ServeFault, WriteSink};
 use std::alloc::Global;
@@ -42,7 +43,7 @@ fn serve_buffered<R: Input + Print + AllocGlobal>(
     let reader = BufReader::new(alloc, rt.reader())?;
     let mut feed = LookaheadFeed::new(reader, &has_next_line);
     let buffer = BufWriter::new(alloc, io::writer(rt))?;
-    let writer = JsonWriter::new(buffer, console.is_output_terminal);
+    let writer = EscapingWriter::new(buffer, console.escapes());
     let mut writer = BatchingWriter::new(writer, &has_next_line);
     let mut sink = WriteSink::new(&mut writer);
     let served = if is_extended {
@@ -96,14 +97,11 @@ pub struct Serving<'a> {
     pub is_extended: bool,
 }
 
-/// Makes room for what an engine keeps to save time, unless a limit is on steps, under which it keeps
-/// nothing. Without memory for it lookups are slower and give the same answers.
-fn make_room(alloc: Global, engine: &mut Engine, limits: &Option<Limits>)
+/// Makes room for what an engine keeps to save time. Without memory for it lookups are slower and
+/// give the same answers.
+fn make_room(alloc: Global, engine: &mut Engine)
     ensures { engine.new ≡ engine.old }
 {
-    if let Some(Limits { steps: Some(_), .. }) = limits {
-        return;
-    }
     let _ = engine.keep_locales(alloc, KEPT_LOCALES);
     let _ = engine.keep_items(alloc, KEPT_ITEMS);
     let _ = engine.keep_hints(alloc, KEPT_HINTS);
@@ -119,7 +117,7 @@ fn start_server<'a, R: Files + RandomSource + AllocGlobal>(
         (λ server. HasParentsFor serving.now.parents (state_of server.engine).start.parents) }
 {
     let mut engine = start_engine(rt, serving.parents, &serving.bundles)?;
-    make_room(rt.alloc(), &mut engine, &serving.limits);
+    make_room(rt.alloc(), &mut engine);
     Ok(Server {
         engine,
         limits: serving.limits,

@@ -14,18 +14,18 @@ const IN_PLACE: usize = 30;
 
 /// The bytes of a table's key. Short keys are stored inline: most keys are short, and a heap block
 /// for each would cost more than all other work on them.
-#[derive(Debug, Drop)]
+#[derive(Drop)]
 pub struct Key {
     bytes: KeyBytes,
 }
 
-#[derive(Debug, Drop)]
+#[derive(Drop)]
 enum KeyBytes {
     Short(ShortBytes),
     Long(ByteList),
 }
 
-#[derive(Clone, Copy, Debug)]
+#[derive(Clone, Copy)]
 struct ShortBytes {
     len: u8,
     bytes: [u8; IN_PLACE],

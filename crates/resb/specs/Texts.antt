@@ -2,7 +2,7 @@
 use Rattle.std.specs.Prelude.{◌≡◌, ◌<◌, ℕ, List, length}
 use Rattle.rb_lexer.specs.declared.fault.SourceFault.{SourceFault}
 use Rattle.rb_parser.specs.Source.{IsRefusal}
-use Rattle.rb_engine.specs.Compiled.{IsCompiled}
+use Rattle.rb_compiler.specs.Compiled.{IsCompiled}
 use Rattle.resb.specs.Numbers.{text_number}
 
 -- the number and the line of a text's first error

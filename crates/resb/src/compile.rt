@@ -1,5 +1,5 @@
 ghost use Rattle.std.specs.Prelude.{◌≡◌, ◌≢◌, take, drop};
-ghost use Rattle.rb_engine.specs.Compiled.{IsCompiled};
+ghost use Rattle.rb_compiler.specs.Compiled.{IsCompiled};
 ghost use Rattle.resb.specs.Texts.{IsTextError, IsTooLong};
 
 use crate::numbers::{NO_ROOM, text_number};

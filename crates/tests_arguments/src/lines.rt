@@ -66,6 +66,9 @@ const LINES: &str = "\
 2|resb|lint
 0|resb|lint|a.txt|b.txt
 0|resb|lint|--root|root.txt|a.txt
+2|resb|lint|--config|c|--no-config|a.txt
+0|resb|init|texts
+2|resb|init|a|b
 2|resb|lint|--root|root.txt
 2|resb|coverage
 0|resb|coverage|a.txt|de=b.txt
@@ -116,12 +119,13 @@ fn reads_command_lines(rt: HostRuntime) {
 
 /// Command lines, with what they ask for.
 const ASKED: &str =
-    r#"resb|compile|-|a.res => Compile { input: "-", output: "a.res", is_quiet: false }
-resb|compile|-q|--to|x|a|b|c|d => CompileAll { folder: "x", from: None, texts: ["a", "b", "c", "d"], is_quiet: true }
-resb|compile|--to|x|a => CompileAll { folder: "x", from: None, texts: ["a"], is_quiet: false }
-resb|compile|--from|s|--to|x|s/a => CompileAll { folder: "x", from: Some("s"), texts: ["s/a"], is_quiet: false }
-resb|compile|--json|a|b => CompileJson { input: "a", output: "b", no_fallback: false, is_quiet: false }
-resb|compile|--no-fallback|--to|x|--json|a|b => CompileAllJson { folder: "x", from: None, texts: ["a", "b"], no_fallback: true, is_quiet: false }
+    r#"resb|compile|-|a.res => Compile { input: "-", output: "a.res", is_forced: false, is_quiet: false }
+resb|compile|--force|a|b => Compile { input: "a", output: "b", is_forced: true, is_quiet: false }
+resb|compile|-q|--to|x|a|b|c|d => CompileAll { folder: "x", from: None, texts: ["a", "b", "c", "d"], is_forced: false, is_quiet: true }
+resb|compile|--to|x|a => CompileAll { folder: "x", from: None, texts: ["a"], is_forced: false, is_quiet: false }
+resb|compile|--from|s|--to|x|s/a => CompileAll { folder: "x", from: Some("s"), texts: ["s/a"], is_forced: false, is_quiet: false }
+resb|compile|--json|a|b => CompileJson { input: "a", output: "b", no_fallback: false, is_forced: false, is_quiet: false }
+resb|compile|--no-fallback|--to|x|--json|a|b => CompileAllJson { folder: "x", from: None, texts: ["a", "b"], no_fallback: true, is_forced: false, is_quiet: false }
 resb|check|-q|a|b => Check { files: ["a", "b"], is_json: false, is_quiet: true }
 resb|check|a|--json => Check { files: ["a"], is_json: true, is_quiet: false }
 resb|get|a|b/c => Get { file: "a", path: "b/c", is_raw: false }
@@ -134,11 +138,15 @@ resb|json|--inherit|de|a => Inherited(AskedInherited { parents: None, is_cldr: f
 resb|json|--inherit|de|--parents|p|--path|x/y|a|b|c|d => Inherited(AskedInherited { parents: Some("p"), is_cldr: false, locale: "de", path: "x/y", is_pretty: false, files: ["a", "b", "c", "d"] })
 resb|json|--inherit|de|--cldr-parents|a => Inherited(AskedInherited { parents: None, is_cldr: true, locale: "de", path: "", is_pretty: false, files: ["a"] })
 resb|text|a|--name|de => Text { file: "a", name: Some("de") }
-resb|lint|--root|r|a|b => Lint(AskedLint { root: Some("r"), name: None, allow: [], deny: [], format: None, is_strict: false, is_all: false, is_list: false, texts: ["a", "b"] })
-resb|lint|--allow|x|a|--deny|y|--allow|z|--against|r|--root|s|--strict|--all|--format|json|--name|n => Lint(AskedLint { root: Some("r"), name: Some("n"), allow: ["x", "z"], deny: ["y"], format: Some("json"), is_strict: true, is_all: true, is_list: false, texts: ["a"] })
-resb|lint|--list => Lint(AskedLint { root: None, name: None, allow: [], deny: [], format: None, is_strict: false, is_all: false, is_list: true, texts: [] })
-resb|fmt|--check|-q|a|b => Format(AskedFormat { is_check: true, is_diff: false, is_quiet: true, texts: ["a", "b"] })
-resb|coverage|--format|csv|a|--parents|p|de=b => Coverage(AskedCoverage { parents: Some("p"), is_cldr: false, format: Some("csv"), texts: ["a", "de=b"] })
+resb|lint|--root|r|a|b => Lint(AskedLint { root: Some("r"), name: None, allow: [], deny: [], format: None, is_strict: false, is_all: false, config: None, no_config: false, is_list: false, texts: ["a", "b"] })
+resb|lint|--allow|x|a|--deny|y|--allow|z|--against|r|--root|s|--strict|--all|--format|json|--name|n => Lint(AskedLint { root: Some("r"), name: Some("n"), allow: ["x", "z"], deny: ["y"], format: Some("json"), is_strict: true, is_all: true, config: None, no_config: false, is_list: false, texts: ["a"] })
+resb|lint|--list => Lint(AskedLint { root: None, name: None, allow: [], deny: [], format: None, is_strict: false, is_all: false, config: None, no_config: false, is_list: true, texts: [] })
+resb|fmt|--check|-q|a|b => Format(AskedFormat { is_check: true, is_diff: false, is_quiet: true, config: None, no_config: false, texts: ["a", "b"] })
+resb|fmt|--config|c|a => Format(AskedFormat { is_check: false, is_diff: false, is_quiet: false, config: Some("c"), no_config: false, texts: ["a"] })
+resb|lint|--no-config|a => Lint(AskedLint { root: None, name: None, allow: [], deny: [], format: None, is_strict: false, is_all: false, config: None, no_config: true, is_list: false, texts: ["a"] })
+resb|init|a => Init { folder: Some("a") }
+resb|init => Init { folder: None }
+resb|coverage|--format|csv|a|--parents|p|de=b => Coverage(AskedCoverage { parents: Some("p"), is_cldr: false, format: Some("csv"), config: None, no_config: false, texts: ["a", "de=b"] })
 resb|explain => Explain { word: None }
 resb|explain|BadInt => Explain { word: Some("BadInt") }
 resb|lines|shop|--op|replace|a|b => Lines { op: Some("replace"), is_json: false, app: "shop", files: ["a", "b"] }

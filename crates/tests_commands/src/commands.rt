@@ -1,10 +1,10 @@
-//! What the built program can't show of the commands: calls that fail, a clock that runs fast, a
+//! Tests of the commands that the built program can't show: calls that fail, a clock that runs fast, a
 //! system without random bytes, and the names that they make.
 mod desk;
 mod faults;
 
 use desk::Desk;
-use rb_console::{Console, ParentsSource, StartError, not_started_on, start_engine, stem};
+use rb_console::{Console, StartError, not_started_on, stem};
 use rb_convert::{compile, name_of};
 use rb_inspect::check_all;
 use std::alloc::Global;
@@ -62,9 +62,9 @@ fn keeps_older_files(desk: &Desk) -> bool {
     desk.put("in.txt", b"root{}")
         && is_unwritten(desk, "out.res", "cannot write out.res\n")
         && !desk.keeps("out.res")
-        && desk.put("older.res", b"older")
+        && desk.put("older.res", &ONE_STRING)
         && is_unwritten(desk, "older.res", "cannot write older.res\n")
-        && desk.has("older.res", b"older")
+        && desk.has("older.res", &ONE_STRING)
         && !desk.keeps(".resb-unfinished-0000000000000000")
 }
 
@@ -84,34 +84,15 @@ fn leaves_no_half_file(rt: HostRuntime) {
     assert!(rt; leaves_all(&Desk::new(rt.alloc(), 40)));
 }
 
-/// The files that a start reads.
-const GIVEN: [(&str, &[u8]); 3] = [
-    ("a.txt", b"x{}"),
-    ("good.res", &ONE_STRING),
-    ("good.txt", b"x{parentLocales{root{\"zh_Hant\"}}}"),
-];
-
-/// Returns the status of a start that is refused, or `None` if it starts.
-fn refusal(desk: &Desk, arguments: &[&str]) -> Option<ExitCode> {
-    match start_engine(desk, Some(ParentsSource::File("good.txt")), arguments) {
-        Ok(_) => None,
-        Err(error) => Some(not_started_on(desk, Console::plain(), error)),
-    }
-}
-
-/// Checks that an engine starts only with random bytes.
-fn wants_random_bytes(desk: &Desk) -> bool {
-    let arguments = ["root=good.res", "de-at=a.txt"];
-    refusal(desk, &arguments) == Some(ExitCode::from(2))
-        && desk.said("", "no random state\n")
-        && desk.put("/dev/random", b"")
-        && refusal(desk, &arguments).is_none()
-        && desk.said("", "")
+/// Checks the report of a start without random bytes.
+fn says_no_random_state(desk: &Desk) -> bool {
+    let status = not_started_on(desk, Console::plain(), StartError::NoRandomState);
+    ended(desk, status, 2, "", "no random state\n")
 }
 
 #[test]
-fn starts_with_a_random_state(rt: HostRuntime) {
-    assert!(rt; wants_random_bytes(&desk_of(rt.alloc(), &GIVEN)));
+fn says_that_random_bytes_are_missing(rt: HostRuntime) {
+    assert!(rt; says_no_random_state(&Desk::new(rt.alloc(), ROOM)));
 }
 
 /// Checks the report of a start for which there is no memory.

@@ -133,7 +133,7 @@ fn kept_open<'a>(engine: &'a mut Engine, place: Place<'_>) -> &'a Engine {
 /// Asks for an item once, so that the next lookup has a hint, and fetches its bundle.
 fn hinted<'a>(engine: &'a mut Engine, place: Place<'_>, path: &str) -> &'a Engine {
     let (app, locale) = (place.0.as_bytes(), place.1.as_bytes());
-    engine.keep_item(app, locale, path.as_bytes());
+    engine.keep_item(app, locale, path.as_bytes(), u64::MAX);
     let mut upcoming = Upcoming::new();
     upcoming.add(app, locale);
     engine.fetch(&upcoming);
@@ -143,8 +143,8 @@ fn hinted<'a>(engine: &'a mut Engine, place: Place<'_>, path: &str) -> &'a Engin
 /// Asks for an item twice, so that it is kept for the next lookup.
 fn kept_item<'a>(engine: &'a mut Engine, place: Place<'_>, path: &str) -> &'a Engine {
     let (app, locale) = (place.0.as_bytes(), place.1.as_bytes());
-    engine.keep_item(app, locale, path.as_bytes());
-    engine.keep_item(app, locale, path.as_bytes());
+    engine.keep_item(app, locale, path.as_bytes(), u64::MAX);
+    engine.keep_item(app, locale, path.as_bytes(), u64::MAX);
     engine
 }
 

@@ -19,7 +19,7 @@ IsTables (Tables is_open) = Unit {0}
 IsTables (Item n level) = ⊥
 IsTables (Failed e) = ⊥
 
--- what the stops so far have, and what they have with later ones
+-- what the first stops have, and what they have together with later ones
 abbrev pub Stays : {N : Type 0} → Found N → Found N → Type 0
 Stays Nothing later = Unit {0}
 Stays (Tables is_open) later = IsTables later

@@ -1,4 +1,4 @@
--- Defines, for private contracts, which of the tables that are merged has the next key, and how they go on after it.
+-- Defines, for private contracts, which of the merged tables has the next key, and what follows it in each.
 -- Keys ascend by their bytes, as those of a table do (ICU `uresdata.h`).
 use Rattle.std.specs.Prelude.{◌≡◌, ◌<◌, ◌≤◌, ℕ, suc, List, [], ◌∷◌, ◌++◌, map, take, drop, Bool, true, false, cond}
 use Rattle.std.specs.Prelude.{Option, Some, None, option_and_then, slice_get, slice_set, nat_eq}

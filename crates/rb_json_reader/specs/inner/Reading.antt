@@ -10,7 +10,7 @@ use Rattle.rb_json_reader.specs.Arranged.{Arranges}
 abbrev pub Reads : List Token → Resource → List Token → Type 0
 Reads old t new = (u : Resource) × (old ≡ data_tokens (value_of u) ++ new) × Arranges u t
 
--- the same of a tree without children
+-- as `Reads`, of a tree without children
 abbrev pub ReadsLeaf : List Token → Resource → List Token → Type 0
 ReadsLeaf old t new = (old ≡ data_tokens (value_of t) ++ new) × Arranges t t
 

@@ -66,7 +66,7 @@ changes_seen (change ∷ rest) = option_and_then (λ c. option_map (λ cs. c ∷
 abbrev pub kept : {A : Type 0} → List A → List A
 kept all = take 4097 all
 
--- the items so far are these changes, whatever follows; or one of them is no change
+-- the items up to here are these changes, whatever follows; or one of them is no change
 abbrev pub AreSeen : Bool → List LineChange → (Items → Items) → Type 0
 AreSeen true all before = (cs : List ReleaseChange) × (changes_seen all ≡ Some cs)
     × ((ds : Items) → all_changes (before ds) ≡ option_map (λ more. cs ++ more) (all_changes ds))

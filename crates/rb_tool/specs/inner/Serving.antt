@@ -1,8 +1,8 @@
 -- Defines where explicit parents come from, and what serving under limits is: those that the options give, or none.
 use Rattle.std.specs.Prelude.{◌≡◌, ℕ, List, [], Bool, Option, Some, None, option_map, if◌then◌else◌}
 use Rattle.std.specs.Borrow.{Bor}
-use Rattle.rb_console.specs.declared.start.ParentsSource.{ParentsSource}
-use Rattle.rb_console.specs.declared.start.ParentsSource.TheVariants.{File, Cldr}
+use Rattle.rb_console.specs.declared.parents.ParentsSource.{ParentsSource}
+use Rattle.rb_console.specs.declared.parents.ParentsSource.TheVariants.{File, Cldr}
 use Rattle.rb_arguments.specs.Limits.{AreGiven}
 use Rattle.rb_arguments.specs.declared.asking.AskedLimits.{AskedLimits}
 use Rattle.rb_engine.specs.History.{State}

@@ -1,6 +1,6 @@
 //! Files that are written while one call of the runtime fails, and links in place of files.
-use super::EMPTY;
 use super::desk::{Desk, Paper};
+use super::{EMPTY, ONE_STRING};
 use rb_convert::compile;
 use std::alloc::{Allocator, Global};
 use std::cell::Cell;
@@ -221,13 +221,14 @@ impl<'a> Files for Faulty<'a> {
 /// whether the command succeeded.
 fn compiled(alloc: Global, call: u64, output: &str) -> (Desk, bool) {
     let desk = Desk::new(alloc, 1000);
-    for (name, bytes) in [
-        ("in.txt", "root{}"),
-        ("out.res", "older"),
-        ("other.txt", "fr{}"),
-        (TAKEN, "mine"),
-    ] {
-        let _ = desk.put(name, bytes.as_bytes());
+    let files: [(&str, &[u8]); 4] = [
+        ("in.txt", b"root{}"),
+        ("out.res", &ONE_STRING),
+        ("other.txt", b"fr{}"),
+        (TAKEN, b"mine"),
+    ];
+    for (name, bytes) in files {
+        let _ = desk.put(name, bytes);
     }
     let left = Cell::new(call);
     let faulty = Faulty {
@@ -242,7 +243,7 @@ fn compiled(alloc: Global, call: u64, output: &str) -> (Desk, bool) {
 /// command that succeeded wrote it.
 fn is_whole(desk: &Desk, target: &str, is_written: bool) -> bool {
     let is_older = if target == "out.res" {
-        desk.has(target, b"older")
+        desk.has(target, &ONE_STRING)
     } else {
         !desk.keeps(target)
     };

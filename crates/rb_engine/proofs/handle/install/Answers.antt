@@ -1,8 +1,9 @@
-use Rattle.std.proofs.Common.{◌≢◌, sym, ◌∙◌}
+use Rattle.std.proofs.Common.{◌≢◌, set, ap, sym, ◌∙◌}
 use Rattle.rb_packages.specs.Packages.{install_fault, list_of}
 use Rattle.rb_packages.specs.declared.fault.PackFault.{PackFault}
 use Rattle.rb_packages.specs.declared.fault.PackFault.TheVariants as pack
 use Rattle.rb_engine.specs.Source.{not_installed_reply}
+use Rattle.rb_engine.specs.inner.LastChanges.{group_of}
 use Rattle.rb_engine.specs.declared.request.Reply.TheVariants.{Done}
 use Rattle.rb_engine.proofs.StepLemmas.{done, not_installed, judged_err}
 use Rattle.rb_engine.proofs.handle.install.Goals as goal
@@ -37,12 +38,24 @@ pub returns-clause-unchanged : goal.returns-clause-unchanged
 returns-clause-unchanged c other =
     elim c.match-install.branch [
       | in-Ok w ↦ absurd (other w.result-is)
-      | in-Err w ↦ (w.in-Err.ensures.unchanged, w.version-is)
+      | in-Err w ↦ (w.in-Err.ensures.unchanged, w.versions-is)
     ]
 
 pub returns-clause-apps : goal.returns-clause-apps
 returns-clause-apps c done =
     elim c.match-install.branch [
       | in-Ok w ↦ w.in-Ok.ensures.apps
+      | in-Err w ↦ absurd (refuses w.in-Err.fault (sym (w.result-is ∙ w.from.ensures) ∙ done))
+    ]
+
+pub returns-clause-change : goal.returns-clause-change
+returns-clause-change c done =
+    elim c.match-install.branch [
+      | in-Ok w ↦ rw w.versions-is (record {
+        app = c.args.place.now.app;
+        others = c.install.ensures.others;
+        latest = w.rise.ensures.latest;
+        groups = w.rise.ensures.groups ∙ ap (λ a. set c.args.versions.now.groups (group_of a) w.rise.new.self.latest) w.as_bytes.ensures;
+      })
       | in-Err w ↦ absurd (refuses w.in-Err.fault (sym (w.result-is ∙ w.from.ensures) ∙ done))
     ]

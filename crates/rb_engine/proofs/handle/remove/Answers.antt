@@ -1,7 +1,8 @@
-use Rattle.std.proofs.Common.{◌≡◌, Ok, refl, sym, ◌∙◌}
+use Rattle.std.proofs.Common.{◌≡◌, Ok, set, refl, ap, sym, ◌∙◌}
 use Rattle.rb_format.specs.File.{source_tree_of}
 use Rattle.rb_engine.specs.Place.{place_of}
 use Rattle.rb_engine.specs.declared.request.Reply.TheVariants as reply
+use Rattle.rb_engine.specs.inner.LastChanges.{group_of}
 use Rattle.rb_engine.proofs.StepLemmas.{removes, not_removed}
 use Rattle.rb_engine.proofs.handle.remove.Goals as goal
 use Rattle.rb_engine.proofs.handle.remove.Goals.{in-Ok-remove, in-Err-remove}
@@ -32,3 +33,15 @@ returns-clause-removed c =
         others = record { icudata = refl; icudata_bytes = refl; others = λ o n. refl; files = λ o n. refl };
       })
     ])
+
+pub returns-clause-change : goal.returns-clause-change
+returns-clause-change c done =
+    elim c.match-remove.branch [
+      | in-Ok-remove w ↦ rw w.versions-is (record {
+        app = c.in-Ok.place.app;
+        others = w.in-Ok-remove.ensures.others;
+        latest = w.rise.ensures.latest;
+        groups = w.rise.ensures.groups ∙ ap (λ a. set c.args.versions.now.groups (group_of a) w.rise.new.self.latest) w.as_bytes.ensures;
+      })
+      | in-Err-remove w ↦ let no : reply.Absent ≡ reply.Done = sym w.result-is ∙ done in absurd cc
+    ]

@@ -1,6 +1,7 @@
 use Rattle.std.proofs.Common.{◌≡◌, [], ap, sym, ◌∙◌, subst}
 use Rattle.rb_parents.specs.Family.{parent_of}
-use Rattle.rb_parents.specs.Trail.{stops}
+use Rattle.rb_parents.specs.Trail.{stops, trail}
+use Rattle.rb_fallback.specs.Steps.{trail_length}
 use Rattle.rb_fallback.specs.Stops.{AreStopsOf}
 use Rattle.rb_packages.specs.Lent.{files_in}
 use Rattle.rb_packages.specs.Packages.{Files, files_of, icudata_of, shelf_of}
@@ -40,6 +41,13 @@ returns-in-Some-clause-stops c =
     let same : files ≡ files_of c.args.place.now.app c.args.packages.now = c.shelf-own.ensures.files in
     let read = c.in-Ok.ensures.stops in
     subst (λ (fs : Files). AreStopsOf (opened_stop c.in-Ok.opened fs) (bundle_at (shelf_of fs)) ps n) same (opens c.in-Ok.opened files ps n read.0 read.1 read.2)
+
+pub returns-in-Some-clause-names : goal.returns-in-Some-clause-names
+returns-in-Some-clause-names c =
+    let ps = parent_of c.args.parents.now in
+    let n = c.args.place.now.name in
+    let same : files_in c.shelf-own.result ≡ files_of c.args.place.now.app c.args.packages.now = c.shelf-own.ensures.files in
+    subst (λ (fs : Files). c.in-Ok.opened.names ≡ trail_length (trail (bundle_at (shelf_of fs)) ps n)) same c.in-Ok.ensures.names
 
 pub returns-in-None-clause-refused : goal.returns-in-None-clause-refused
 returns-in-None-clause-refused c = λ path good short.

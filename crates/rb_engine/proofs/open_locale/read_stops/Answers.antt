@@ -1,7 +1,8 @@
 use Rattle.std.proofs.Common.{◌≡◌, ◌∷◌, ◌++◌, [], ap, sym, ◌∙◌, arith, length-append}
 use Rattle.rb_parents.specs.Family.{parent_of}
 use Rattle.rb_parents.specs.Steps.{next_of}
-use Rattle.rb_parents.specs.Trail.{next, goes_to, end, bad, is_stop}
+use Rattle.rb_parents.specs.Trail.{next, goes_to, end, bad, is_stop, names, trail}
+use Rattle.rb_fallback.specs.Steps.{trail_length}
 use Rattle.rb_parents.specs.declared.limits.TheConstants.{TRAIL_LIMIT}
 use Rattle.rb_engine.proofs.Opening.{stop_seen}
 use Rattle.rb_parents.proofs.Trails.{trail_goes, trail_end, trail_bad, trail_long}
@@ -20,6 +21,17 @@ returns-in-End-clause-stops c =
       sym c.loop-i.invariant.1 ∙ trail_end bundles parents here ns TRAIL_LIMIT c.loop-i.i (omega arith) on,
       c.add_name.ensures.stops ns stop c.loop-i.invariant.2,
     )
+
+pub returns-in-End-clause-names : goal.returns-in-End-clause-names
+returns-in-End-clause-names c =
+    let bundles = bundles_lent c.args.own in
+    let parents = parent_of c.args.parents.now in
+    let here = c.loop-i.here in
+    let ns = c.loop-i.invariant.0 in
+    let on : next bundles parents here ≡ end = sym c.visit-next.ensures.next ∙ ap next_of c.in-End.is in
+    let whole : trail bundles parents c.args.name.now ≡ names (ns ++ here ∷ []) =
+    sym c.loop-i.invariant.1 ∙ trail_end bundles parents here ns TRAIL_LIMIT c.loop-i.i (omega arith) on in
+    omega (arith, ap trail_length whole, length-append ns (here ∷ []), c.loop-i.invariant.3)
 
 pub returns-in-Bad-clause-fault : goal.returns-in-Bad-clause-fault
 returns-in-Bad-clause-fault c =

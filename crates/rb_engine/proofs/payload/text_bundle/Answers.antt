@@ -6,7 +6,7 @@ use Rattle.rb_format.specs.declared.fault.FileFault.{FileFault}
 use Rattle.rb_format.specs.declared.fault.FileFault.TheVariants.{Memory}
 use Rattle.rb_format.specs.Checks.{first_fault}
 use Rattle.rb_format.specs.File.{Denotes}
-use Rattle.rb_engine.proofs.StepLemmas.{text_none}
+use Rattle.rb_engine.proofs.StepLemmas.{text_first, text_none}
 use Rattle.rb_engine.proofs.payload.text_bundle.Goals as goal
 
 -- a file that denotes a bundle has no fault, so it is refused only for memory
@@ -20,7 +20,12 @@ only_memory file source e either denotes (inr fault) = absurd (subst (λ (o : Op
 pub returns-in_err-file-clause-bundle : goal.returns-in_err-file-clause-bundle
 returns-in_err-file-clause-bundle c =
     let p = err_from_is_err_and c.from_residual.result c.from_residual.ensures.1 in
-    rw p.1 (text_none c.args.text.now c.in_err-file.field-0.0.kind p.0 p.2 c.in_err-file.ensures.only)
+    rw p.1 (text_none c.args.text.now c.in_err-file.field-0.0 p.0 p.2 c.in_err-file.ensures.only)
+
+pub returns-in_err-file-clause-first : goal.returns-in_err-file-clause-first
+returns-in_err-file-clause-first c =
+    let p = err_from_is_err_and c.from_residual.result c.from_residual.ensures.1 in
+    rw p.1 (text_first c.args.text.now c.in_err-file.field-0.0 p.0 p.2 c.in_err-file.ensures.refused)
 
 pub prove-unreachable-requires : goal.prove-unreachable-requires
 prove-unreachable-requires c =

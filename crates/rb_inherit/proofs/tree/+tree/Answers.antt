@@ -63,7 +63,7 @@ put_entries-loop-i-preserved g t c =
     record {
       entered = entered_more g.O.Outlet.takes g.met.O.Outlet.joined tree (IsTree c.args.levels) (length c.args.place.now.keys.items) c.args.from c.len-to.result
           c.least-first.result old now c.put_at.new.place.layers.items c.loop-i.i c.args.out.now c.loop-i.out c.skips_items.new.out c.put_name.new.out c.put_at.new.out
-          c.in-Some-key.key.now c.loop-i.invariant.entered c.requires all c.least-first.ensures key c.if-skips_items.ensures c.in_ok-put_name.ensures text moves;
+          c.in-Some-key.key.now c.loop-i.invariant.entered c.requires all c.least-first.ensures key c.if-skips_items.ensures c.put_name.ensures text moves;
       keys = c.in_ok-put_at.ensures.keys ∙ (c.spend_at.ensures.keys ∙ c.loop-i.invariant.keys);
     }
 

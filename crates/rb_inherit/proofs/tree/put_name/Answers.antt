@@ -3,6 +3,6 @@ use Rattle.json.specs.Print.{quoted}
 use Rattle.rb_json.specs.Value.{key_text}
 use Rattle.rb_inherit.proofs.tree.put_name.Goals as goal
 
-pub returns-in-Ok : goal.returns-in-Ok
-returns-in-Ok g c =
-    g.met.O.Outlet.joined c.args.out.now c.put_key.new.out c.put.new.self (quoted (key_text c.args.key.now)) (58 ∷ []) c.in-Ok.ensures c.put.ensures
+pub returns : goal.returns
+returns g c =
+    g.met.O.Outlet.joined c.args.out.now c.put_key.new.out c.put.new.self (quoted (key_text c.args.key.now)) (58 ∷ []) c.put_key.ensures c.put.ensures

@@ -13,6 +13,6 @@ returns g c =
     let actual = c.args.actual.now in
     let valid = c.args.valid.now in
     let told = string_taken g.O.Outlet.takes g.met.O.Outlet.joined c.args.out.now c.put.new.self c.put_latin.new.out c.put-2.new.self c.put_latin-2.new.out
-    c.put-3.new.self c.put_value.new.out c.put-4.new.self actual valid (units_of t) c.requires.whole
-    c.put.ensures c.put_latin.ensures c.put-2.ensures c.put_latin-2.ensures c.put-3.ensures c.put_value.ensures c.put-4.ensures in
+    c.put-3.new.self c.put_characters.new.out c.put-4.new.self actual valid (units_of t) c.requires.whole
+    c.put.ensures c.put_latin.ensures c.put-2.ensures c.put_latin-2.ensures c.put-3.ensures c.put_characters.ensures c.put-4.ensures in
     subst (λ (item : Resource). g.O.Outlet.takes c.args.out.now c.put-4.new.self (compact_text (found_data actual valid item))) (sym (is_string t c.requires.string)) told

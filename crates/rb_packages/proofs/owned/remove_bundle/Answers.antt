@@ -11,18 +11,18 @@ returns-in-Some-clause-stays c =
     let app = c.args.app.now in
     let rows = c.args.owned.now.entries in
     let old = c.in-Some.bundles.now in
-    let new = c.remove.new.bundles in
+    let new = c.remove.new.self in
     let there : lookup (bytes_eq app) rows ≡ Some old = sym c.get_mut.ensures.value ∙ ap option_copied_mut c.in-Some.is in
     let written = c.get_mut.follows.holds new in
     if_none c.remove.result (λ same. ap files_by_app written.0 ∙ files_by_app-set_value app rows old new there same) c.remove.ensures.stays
 
 pub returns-in-Some-clause-count : goal.returns-in-Some-clause-count
-returns-in-Some-clause-count c = let written = c.get_mut.follows.holds c.remove.new.bundles in written.2
+returns-in-Some-clause-count c = let written = c.get_mut.follows.holds c.remove.new.self in written.2
 
 pub returns-in-Some-clause-there : goal.returns-in-Some-clause-there
 returns-in-Some-clause-there c some =
     let app = c.args.app.now in
     let rows = c.args.owned.now.entries in
     let there : lookup (bytes_eq app) rows ≡ Some c.in-Some.bundles.now = sym c.get_mut.ensures.value ∙ ap option_copied_mut c.in-Some.is in
-    let written = c.get_mut.follows.holds c.remove.new.bundles in
+    let written = c.get_mut.follows.holds c.remove.new.self in
     ap is_some (written.3 (ap is_some there)).1

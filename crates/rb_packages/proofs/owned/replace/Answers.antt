@@ -12,10 +12,10 @@ returns-in-Some-clause-stays c =
     let app = c.args.app.now in
     let rows = c.args.owned.now.entries in
     let old = c.in-Some.bundles.now in
-    let new = c.replace.new.bundles in
+    let new = c.replace.new.self in
     let there : lookup (bytes_eq app) rows ≡ Some old = sym c.get_mut.ensures.value ∙ ap option_copied_mut c.in-Some.is in
     let written = c.get_mut.follows.holds new in
     on_err_weaker c.replace.result (λ same. ap files_by_app written.0 ∙ files_by_app-set_value app rows old new there same) c.replace.ensures.stays
 
 pub returns-in-Some-clause-count : goal.returns-in-Some-clause-count
-returns-in-Some-clause-count c = let written = c.get_mut.follows.holds c.replace.new.bundles in written.2
+returns-in-Some-clause-count c = let written = c.get_mut.follows.holds c.replace.new.self in written.2

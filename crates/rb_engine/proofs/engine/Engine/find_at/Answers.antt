@@ -22,5 +22,5 @@ returns-then-is_current-clause-answer c =
           (λ (k : Kept). (app locale : List ℕ) → IsOpenLocale opened k app locale
           → look_response tree_seen f.found ≡ answer_over (state_of k).start ((state_of k).lists app) (Looks app locale path))
           c.self.view_is
-          (λ app locale a. is_answered e.packages e.parents e.version tree_seen f.found opened app locale path a f.known);
+          (λ app locale a. is_answered e.packages e.parents e.versions.latest tree_seen f.found opened app locale path a f.known);
     }

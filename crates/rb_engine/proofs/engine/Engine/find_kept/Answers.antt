@@ -8,7 +8,7 @@ use Rattle.rb_engine.proofs.engine.Engine.find_kept.Goals as goal
 
 pub returns : goal.returns
 returns c =
-    let start : Start = (state_of (record { packages = c.self.inside.packages; parents = family_pairs c.self.inside.parents; version = c.self.inside.version })).start in
+    let start : Start = (state_of (record { packages = c.self.inside.packages; parents = family_pairs c.self.inside.parents; version = c.self.inside.versions.latest })).start in
     rw (← c.self.view_is)
     (some_answered c.find_item.result _ _
     (λ item a. record {
@@ -16,4 +16,4 @@ returns c =
       is = a.is;
       known = a.known.answer ∙ lookup_at_place start c.args.app.now c.args.locale.now c.args.path.now a.known.place c.self.inside.packages a.known.read;
     })
-    (c.find_item.ensures c.self.invariant.0))
+    (c.find_item.ensures c.self.inside.versions.groups c.self.inside.versions.latest c.of.ensures c.self.invariant.0))

@@ -18,4 +18,4 @@ returns-clause-answer c =
     (λ (k : Kept). (app locale : List ℕ) → IsOpenLocale opened k app locale
     → look_response tree_seen m ≡ answer_over (state_of k).start ((state_of k).lists app) (Looks app locale path))
     c.self.view_is
-    (λ app locale a. is_answered e.packages e.parents e.version tree_seen m opened app locale path a c.look_opened.ensures)
+    (λ app locale a. is_answered e.packages e.parents e.versions.latest tree_seen m opened app locale path a c.look_opened.ensures)

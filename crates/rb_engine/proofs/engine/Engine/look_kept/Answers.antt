@@ -9,8 +9,8 @@ use Rattle.rb_engine.proofs.engine.Engine.look_kept.Goals as goal
 
 pub returns : goal.returns
 returns c =
-    let start : Start = (state_of (record { packages = c.self.inside.packages; parents = family_pairs c.self.inside.parents; version = c.self.inside.version })).start in
+    let start : Start = (state_of (record { packages = c.self.inside.packages; parents = family_pairs c.self.inside.parents; version = c.self.inside.versions.latest })).start in
     rw (← c.self.view_is)
     (some_answered c.look.result _ _
     (λ found a. a.answer ∙ lookup_at_place start c.args.app.now c.args.locale.now c.args.path.now a.place c.self.inside.packages a.read)
-    (c.look.ensures c.self.invariant.0))
+    (c.look.ensures c.self.inside.versions.groups c.self.inside.versions.latest c.of.ensures c.self.invariant.0))

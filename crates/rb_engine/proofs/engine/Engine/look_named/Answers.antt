@@ -18,15 +18,15 @@ returns-in-Some c =
     let packages = c.self.inside.packages in
     let place = c.in_ok-place.place in
     let h : place_of app locale ≡ Ok place = sym c.place_of.ensures ∙ c.in_ok-place.was in
-    let own : place_of place.app place.name ≡ Ok place = own_place place (own_app app locale place h) c.as_bytes-then-ne-2.ensures.canonical in
-    let start : Start = (state_of (record { packages = packages; parents = family_pairs c.self.inside.parents; version = c.self.inside.version })).start in
-    let a = answered_at (look_response tree_seen c.in-Some.found) packages (parent_of c.self.inside.parents) c.as_bytes-then-ne.result.now c.as_bytes-then-ne-2.result.now path place
-    (c.in-Some.ensures c.self.invariant.0) c.as_bytes-then-ne.ensures c.as_bytes-then-ne-2.ensures.bytes own in
+    let own : place_of place.app place.name ≡ Ok place = own_place place (own_app app locale place h) c.as_bytes-own_locale.ensures.canonical in
+    let start : Start = (state_of (record { packages = packages; parents = family_pairs c.self.inside.parents; version = c.self.inside.versions.latest })).start in
+    let a = answered_at (look_response tree_seen c.in-Some.found) packages (parent_of c.self.inside.parents) c.as_bytes-own_app.result.now c.as_bytes-own_locale.result.now path place
+    (c.in-Some.ensures c.self.inside.versions.groups c.self.inside.versions.latest c.of-version.ensures c.self.invariant.0) c.as_bytes-own_app.ensures c.as_bytes-own_locale.ensures.bytes own in
     rw (← c.self.view_is) (a ∙ lookup_at_place start app locale path place packages h)
 
 pub returns : goal.returns
 returns c =
     let h : place_of c.args.app.now c.args.locale.now ≡ Ok c.in_ok-place.place = sym c.place_of.ensures ∙ c.in_ok-place.was in
-    let start : Start = (state_of (record { packages = c.self.inside.packages; parents = family_pairs c.self.inside.parents; version = c.self.inside.version })).start in
+    let start : Start = (state_of (record { packages = c.self.inside.packages; parents = family_pairs c.self.inside.parents; version = c.self.inside.versions.latest })).start in
     rw (← c.self.view_is)
     (c.look_in.ensures ∙ lookup_at_place start c.args.app.now c.args.locale.now c.args.path.now c.in_ok-place.place c.self.inside.packages h)

@@ -13,7 +13,7 @@ returns-in-Ok-clause-opened c =
     let h : place_of app locale ≡ Ok c.in-Ok.place = sym c.place_of.ensures ∙ c.in-Ok.is in
     let e = c.self.inside in
     subst (λ (k : Kept). IfOk c.open_at.result (λ o. IsOpenLocale o k app locale)) c.self.view_is
-    (ok_both c.open_at.result (λ o f s. is_open e.packages e.parents e.version o app locale c.in-Ok.place h f s) c.open_at.ensures.files c.open_at.ensures.stops)
+    (ok_both c.open_at.result (λ o f s. is_open e.packages e.parents e.versions.latest o app locale c.in-Ok.place h f s) c.open_at.ensures.files c.open_at.ensures.stops)
 
 pub returns-in-Ok-clause-refused : goal.returns-in-Ok-clause-refused
 returns-in-Ok-clause-refused c =
@@ -22,7 +22,7 @@ returns-in-Ok-clause-refused c =
     let h : place_of app locale ≡ Ok c.in-Ok.place = sym c.place_of.ensures ∙ c.in-Ok.is in
     let e = c.self.inside in
     subst (λ (k : Kept). IfErr c.open_at.result (RefusesAll k app locale)) c.self.view_is
-    (err_then c.open_at.result (λ f g. is_refused e.packages e.parents e.version app locale c.in-Ok.place f h g) c.open_at.ensures.refused)
+    (err_then c.open_at.result (λ f g. is_refused e.packages e.parents e.versions.latest app locale c.in-Ok.place f h g) c.open_at.ensures.refused)
 
 pub returns-in-Err-clause-refused : goal.returns-in-Err-clause-refused
 returns-in-Err-clause-refused c =
@@ -31,5 +31,5 @@ returns-in-Err-clause-refused c =
     let h : place_of app locale ≡ Err c.in-Err.fault = sym c.place_of.ensures ∙ c.in-Err.is in
     let e = c.self.inside in
     subst (λ (k : Kept). RefusesAll k app locale c.from.result) c.self.view_is
-    (subst (RefusesAll (record { packages = e.packages; parents = family_pairs e.parents; version = e.version }) app locale) (sym c.from.ensures)
-    (is_unread e.packages e.parents e.version app locale c.in-Err.fault h))
+    (subst (RefusesAll (record { packages = e.packages; parents = family_pairs e.parents; version = e.versions.latest }) app locale) (sym c.from.ensures)
+    (is_unread e.packages e.parents e.versions.latest app locale c.in-Err.fault h))

@@ -1,6 +1,7 @@
 use Rattle.std.proofs.lemmas.Result.{err_from_is_err_and}
 use Rattle.rb_parents.specs.Family.{parent_of}
 use Rattle.rb_engine.proofs.Starting.{refused_below}
+use Rattle.rb_engine.proofs.LastChanges.{first_up_to}
 use Rattle.rb_engine.proofs.engine.Engine.start.Goals as goal
 
 pub returns-in_err-load_all-clause-index : goal.returns-in_err-load_all-clause-index
@@ -12,4 +13,5 @@ pub invariant_of-result : goal.invariant_of-result
 invariant_of-result c =
     let packages = c.load_all.new.packages in
     let ps = parent_of c.args.parents in
-    (c.none.ensures packages ps 0, c.none-2.ensures packages ps 0)
+    let x = c.first.result in
+    (c.none.ensures packages ps x.groups x.latest, c.none-2.ensures packages ps x.groups x.latest, first_up_to x.groups x.latest c.first.ensures)

@@ -7,7 +7,7 @@ use Rattle.rb_engine.proofs.KeptOpen.{open_for}
 use Rattle.rb_engine.proofs.open_locales.OpenLocales.at.Goals as goal
 
 pub returns-then-has : goal.returns-then-has
-returns-then-has c = λ packages ps k.
+returns-then-has c = λ packages ps versions latest e k.
     let slot = c.in-Some.slot in
     let slots = c.args.self.now.slots.items in
     let i = c.args.index in
@@ -17,4 +17,4 @@ returns-then-has c = λ packages ps k.
     let app : slot.place.app ≡ c.args.app.now = search rules in
     let name : slot.place.name ≡ c.args.locale.now = search rules in
     let current : is_current slot.opened.version c.args.version ≡ true = search rules in
-    open_for slot packages ps c.args.version c.args.app.now c.args.locale.now (k c.args.index slot there) app name current
+    open_for slot packages ps versions latest c.args.version c.args.app.now c.args.locale.now (k c.args.index slot there) app name e current

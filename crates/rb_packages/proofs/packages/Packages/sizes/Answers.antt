@@ -11,7 +11,7 @@ pub returns-in-Some : goal.returns-in-Some
 returns-in-Some c =
     let rows = c.self.inside.owned.entries in
     let app = c.args.app.now in
-    let there : lookup (bytes_eq app) rows ≡ Some c.in-Some.bundles.now = sym c.get.ensures.value ∙ ap option_copied c.in-Some.is in
+    let there : lookup (bytes_eq app) rows ≡ Some c.in-Some.bundles.now = sym c.bundles_of.ensures ∙ ap option_copied c.in-Some.is in
     let files = files_seen rows c.self.view_is app ∙ ap entries_of there in
     IfOk-weaker c.sizes.result _ _ (λ sizes h. h ∙ sym (ap (map (λ e. (e.0, length e.1))) files)) c.sizes.ensures
 
@@ -19,5 +19,5 @@ pub returns-in-None : goal.returns-in-None
 returns-in-None c =
     let rows = c.self.inside.owned.entries in
     let app = c.args.app.now in
-    let there : lookup (bytes_eq app) rows ≡ None = sym c.get.ensures.value ∙ ap option_copied c.in-None.is in
+    let there : lookup (bytes_eq app) rows ≡ None = sym c.bundles_of.ensures ∙ ap option_copied c.in-None.is in
     c.new.ensures.items ∙ sym (ap (map (λ e. (e.0, length e.1))) (files_seen rows c.self.view_is app ∙ ap entries_of there))

@@ -1,9 +1,0 @@
-use Rattle.serde_json.specs.Data.{number, unsigned}
-use Rattle.rb_tree.specs.Parts.{units_of}
-use Rattle.rb_json.proofs.Lists.{array_taken}
-use Rattle.rb_json.proofs.item.put_units.Goals as goal
-
-pub returns : goal.returns
-returns g c =
-    array_taken g.O.Outlet.takes g.met.O.Outlet.joined c.args.out.now c.put.new.self c.put_unit_items.new.out c.put-2.new.self
-    (λ u. number (unsigned u)) (units_of (g.N.Node.tree c.args.node)) c.put.ensures c.put_unit_items.ensures c.put-2.ensures

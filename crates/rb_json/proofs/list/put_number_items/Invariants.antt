@@ -1,0 +1,11 @@
+use Rattle.std.proofs.Common.{take}
+use Rattle.serde_json.specs.Data.{number}
+use Rattle.serde_json.specs.Find.{of_integer}
+use Rattle.rb_tree.specs.Parts.{numbers_of}
+use Rattle.rb_json.specs.inner.Lines.{item_at}
+use Rattle.rb_json.specs.inner.Listed.{listed}
+use Rattle.rb_json.proofs.list.put_number_items.Given as goal
+
+abbrev pub invariant-loop-i : goal.invariant-loop-i
+invariant-loop-i g l =
+    g.O.Outlet.takes l.fn.out l.out (listed (λ z. item_at l.layout l.depth (number (of_integer z))) (take l.i (numbers_of (g.N.Node.tree l.node))))

@@ -1,0 +1,157 @@
+//! The warnings that the settings of a project leave out.
+use rb_lint::{Finding, Levels, Rule, RuleSet, paths_at};
+use rb_project::Modules;
+use rb_settings::{Section, matches};
+use std::alloc::{AllocError, Global};
+
+/// The rules about messages.
+const MESSAGE_RULES: [Rule; 12] = [
+    Rule::BadMessage,
+    Rule::BadPattern,
+    Rule::BrokenMessage,
+    Rule::MissingCategory,
+    Rule::MissingOther,
+    Rule::OneBranchArgument,
+    Rule::OtherArguments,
+    Rule::QuotedArgument,
+    Rule::RepeatedSelector,
+    Rule::StrayBrace,
+    Rule::UnknownSelector,
+    Rule::UnusedCategory,
+];
+
+/// Rules that are left out at some paths.
+#[derive(Drop)]
+struct Filter<'a> {
+    paths: Vec<&'a str>,
+    rules: RuleSet,
+    /// They are left out at all other paths.
+    is_inverse: bool,
+}
+
+/// The levels of one text, and the warnings that are left out at some of its paths.
+#[derive(Drop)]
+pub(crate) struct LeftOut<'a> {
+    pub(crate) levels: Levels,
+    filters: Vec<Filter<'a>>,
+}
+
+/// Checks whether one of the patterns matches a name.
+fn is_one(patterns: &[&str], name: &str) -> bool {
+    patterns
+        .iter()
+        .any(|pattern| matches(pattern.as_bytes(), name.as_bytes()))
+}
+
+/// Returns a set of rules with those of these names.
+pub(crate) fn with_rules(rules: RuleSet, names: &[&str]) -> RuleSet {
+    let mut rules = rules;
+    for name in names {
+        if let Some(rule) = Rule::named(name) {
+            rules = rules.with(rule);
+        }
+    }
+    rules
+}
+
+fn message_rules() -> RuleSet {
+    let mut rules = RuleSet::none();
+    for rule in MESSAGE_RULES {
+        rules = rules.with(rule);
+    }
+    rules
+}
+
+impl<'a> LeftOut<'a> {
+    /// Adds what is allowed in a text of this name.
+    fn add_allowance(
+        &mut self,
+        alloc: Global,
+        section: Section<'a>,
+        name: &str,
+    ) -> Result<(), AllocError> {
+        let files = section.texts(alloc, "files")?;
+        if !files.is_empty() && !is_one(&files, name) {
+            return Ok(());
+        }
+        let names = section.texts(alloc, "warnings")?;
+        let paths = section.texts(alloc, "paths")?;
+        if paths.is_empty() {
+            self.levels.allowed = with_rules(self.levels.allowed, &names);
+            return Ok(());
+        }
+        self.filters.push(Filter {
+            paths,
+            rules: with_rules(RuleSet::none(), &names),
+            is_inverse: false,
+        })?;
+        Ok(())
+    }
+
+    /// Adds the paths of a module that aren't messages.
+    fn add_messages(
+        &mut self,
+        alloc: Global,
+        section: Section<'a>,
+        (key, is_inverse): (&str, bool),
+    ) -> Result<(), AllocError> {
+        let paths = section.texts(alloc, key)?;
+        if !paths.is_empty() {
+            self.filters.push(Filter {
+                paths,
+                rules: message_rules(),
+                is_inverse,
+            })?;
+        }
+        Ok(())
+    }
+
+    /// Returns what the settings leave out in a text.
+    pub(crate) fn of(
+        alloc: Global,
+        modules: &Modules<'a>,
+        levels: Levels,
+        name: &str,
+    ) -> Result<LeftOut<'a>, AllocError> {
+        let mut left_out = LeftOut {
+            levels,
+            filters: Vec::new(alloc),
+        };
+        let relative = modules.project.relative(alloc, name)?;
+        for section in modules.project.settings.sections(alloc, "allow")? {
+            left_out.add_allowance(alloc, section, relative.as_str())?;
+        }
+        if let Some(module) = modules.of_text(alloc, name)? {
+            left_out.add_messages(alloc, module.section, ("messages", true))?;
+            left_out.add_messages(alloc, module.section, ("no-messages", false))?;
+        }
+        Ok(left_out)
+    }
+
+    pub(crate) fn has_paths(&self) -> bool {
+        !self.filters.is_empty()
+    }
+
+    /// Returns the paths of findings, or none if nothing is left out by its path.
+    pub(crate) fn paths(
+        &self,
+        alloc: Global,
+        text: &[u8],
+        findings: &[Finding],
+    ) -> Result<Vec<String>, AllocError> {
+        if !self.has_paths() {
+            return Ok(Vec::new(alloc));
+        }
+        let mut places = Vec::new(alloc);
+        for finding in findings {
+            places.push((finding.line, finding.column))?;
+        }
+        paths_at(alloc, text, &places)
+    }
+
+    /// Checks whether a warning at a path is left out.
+    pub(crate) fn has(&self, rule: Rule, path: &str) -> bool {
+        self.filters.iter().any(|filter| filter.rules.has(rule)
+            && is_one(&filter.paths, path) != filter.is_inverse)
+    }
+}
