@@ -20,7 +20,7 @@
 
 U_CAPI UResourceBundle *U_EXPORT2 ures_getByKeyWithFallback(const UResourceBundle *, const char *, UResourceBundle *, UErrorCode *);
 
-#define STRING(s) (const uint8_t *)(s), strlen(s)
+#define STRING(s) (s), strlen(s)
 enum { FILES = 2000, PATHS = 60000, QUESTIONS = 20000 };
 
 static char *names[FILES], *paths[PATHS];

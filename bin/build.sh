@@ -1,4 +1,4 @@
-# Builds for bin/resb, which reads this file after it has set `top`, `program` and `stamp`.
+# Builds for bin/resb, which reads this file after it has set `top`, `program`, `unproved` and `stamp`.
 
 say() {
     printf 'resb: %s\n' "$1" >&2
@@ -34,96 +34,58 @@ run_older() {
     fi
 }
 
-# Runs a command with `rt try`, which proves nothing, over copies of the files that its arguments name. Files that it writes are lost.
+# Runs a command by a program of which nothing is proved. It is stored beside the proved one, under another name, until the sources change.
 run_unproved() {
+    is_current "$unproved" "$unproved" || compile_unproved
+    say 'nothing is proved of the program that runs'
+    exec "$unproved" "$@"
+}
+
+compile_unproved() {
     if ! has_toolchain; then
         say "$no_toolchain"
         exit 2
     fi
-    say 'nothing is proved in this run; it begins in a minute or two'
-    set -- -- "$@"
-    for word in "$@"; do
-        file=${word#*=}
-        [ ! -f "$file" ] || set -- --data "$file=$(realpath -- "$file")" "$@"
-    done
-    cd "$top/crates/rb_tool"
-    exec rt try --seconds 600 "$@"
+    say 'compiling with nothing proved, which takes two to three minutes; the next --unproved command begins at once'
+    mkdir -p "${unproved%/*}"
+    began=$(mktemp)
+    trap 'rm -f "$began"' EXIT
+    if ! (cd "$top/crates/rb_tool" && python3 "$top/bin/unproved.py" "$unproved") >&2; then
+        say 'the compilation failed'
+        exit 2
+    fi
+    touch -r "$began" "$unproved"
+    rm -f "$began"
+    trap - EXIT
 }
 
-# Prints how many crates are begun at a time: one more than the processors, as one of them often waits for those below it, and at
-# most one for 3 GB of free memory.
+# Prints how many crates are proved at a time: one for each processor, and at most one for 3 GB of free memory.
 jobs() {
     free=$(sed -n 's/^MemAvailable: *\([0-9]*\) kB/\1/p' /proc/meminfo 2>/dev/null || :)
     room=$((${free:-0} / 3000000))
-    many=$(($(nproc 2>/dev/null || echo 1) + 1))
+    many=$(nproc 2>/dev/null || echo 1)
     [ "$room" -ge "$many" ] || many=$room
     [ "$many" -gt 0 ] || many=1
     echo "${RESB_JOBS:-$many}"
 }
 
-# Prints the crates that a crate uses, and itself, in the order of crates.txt, one a line.
-crates_below() {
-    awk -v crate="$1" '
-        { sub(/#.*/, "") }
-        NF { name = $1; sub(/:$/, "", name); $1 = ""; sub(/^ *:/, ""); uses[name] = $0 }
-        function visit(name, words, i, n) {
-            if (!(name in uses) || name in seen) return
-            seen[name] = 1
-            n = split(uses[name], words, " ")
-            for (i = 1; i <= n; i++) visit(words[i])
-            print name
-        }
-        END { visit(crate) }' "$top/crates.txt"
-}
-
-# A whole build takes this many times as long as its beginning up to rb_tree (bench/notes/first_build.md).
-whole_by_tree=9
-
-# Prints how long the build will take, once rb_tree is proved: most crates use it, so it is one of the first.
-estimate() {
-    say "a build from nothing takes about $(($1 * whole_by_tree / 60 + 1)) min on this machine"
-    say 'bin/resb --unproved COMMAND answers in two minutes meanwhile; an interrupted build continues where it stopped'
-}
-
-# Reports each crate once it is proved, with the number of remaining crates and the time so far; on a terminal in one place.
-progress() {
-    left=$(crates_below rb_tool | wc -l)
-    began=$(date +%s)
-    first=1
-    [ ! -e "$top/crates/rb_tree/out/rlib" ] || first= # stored proofs say nothing of the time of a first build
-    while IFS= read -r line; do
-        case $line in
-            '== summary') ;;
-            '== '*)
-                seconds=$(($(date +%s) - began))
-                [ "$first$line" != '1== rb_tree' ] || estimate "$seconds"
-                left=$((left - 1))
-                time=$(printf '%d:%02d' $((seconds / 60)) $((seconds % 60)))
-                if [ -t 2 ]; then
-                    printf '\r\033[Kresb: %s: %s is checked, %d to go' "$time" "${line#== }" "$left" >&2
-                else
-                    say "$time: ${line#== } is checked, $left to go"
-                fi
-                ;;
-        esac
-    done
-    [ ! -t 2 ] || printf '\r\033[K' >&2
-}
-
-# Proves the program and all crates below it, those that don't need each other at the same time; then builds it over what that kept. One
-# run of `rt all` does it, as each holds the locks of all crates below.
-prove_and_link() {
-    (cd "$top/crates/rb_tool" && rt all check --jobs "$(jobs)") || return 1
-    cd "$top/crates/rb_tool" && RT_BACKEND=llvm rt run -- --version
+# Proves the program and all crates below it, and builds it. Standard error gets the progress.
+prove_and_build() {
+    cd "$top/crates/rb_tool" || return 1
+    if python3 "$top/bin/prove.py" --can 2>/dev/null; then
+        python3 "$top/bin/prove.py" rb_tool "$(jobs)"
+    else
+        rt all check --jobs "$(jobs)" 2>&1 && RT_BACKEND=llvm rt run -- --version 2>&1
+    fi
 }
 
 build() {
-    say 'proving and building; a first build takes 25 to 40 minutes'
+    say 'proving and building; a first build takes 25 to 40 minutes, and one that is interrupted continues where it stopped'
+    say 'bin/resb --unproved COMMAND answers in two to three minutes meanwhile'
     log=$(mktemp)
     began=$(mktemp)
     trap 'rm -f "$log" "$began"' EXIT
-    prove_and_link </dev/null 2>&1 | tee "$log" | progress
-    if ! grep -q '^resb ' "$log" || [ ! -x "$program" ]; then
+    if ! prove_and_build </dev/null >"$log" || ! grep -q '^resb ' "$log" || [ ! -x "$program" ]; then
         cat "$log" >&2
         say 'the build failed'
         exit 2
