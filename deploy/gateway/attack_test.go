@@ -258,7 +258,7 @@ func TestAForgedBundle(t *testing.T) {
 		t.Fatal(status)
 	}
 	const none, one = "{\"names\":[]}\n", "{\"names\":[\"de\"]}\n"
-	told := false
+	answered := false
 	for round := 0; round < 10; round++ {
 		file, sent := forged(t, folder), make(chan int, 1)
 		go func() {
@@ -268,7 +268,7 @@ func TestAForgedBundle(t *testing.T) {
 		time.Sleep(time.Duration(30*round) * time.Millisecond)
 		p.kill()
 		status := <-sent
-		told = told || status == 200 || status == 201
+		answered = answered || status == 200 || status == 201
 		p.start(folder, filepath.Join(folder, "tokens"))
 		if status, body := p.send("GET", "/v1/bank/de/v", bankWrites, ""); status != 200 || valueOf(body) != "B" {
 			t.Errorf("%d %s", status, body)
@@ -276,11 +276,11 @@ func TestAForgedBundle(t *testing.T) {
 		if _, body := p.send("GET", "/v1/bank", bankWrites, ""); body != one {
 			t.Error(body)
 		}
-		if _, body := p.get("/v1/shop"); body != one && (told || body != none) {
+		if _, body := p.get("/v1/shop"); body != one && (answered || body != none) {
 			t.Error(body)
 		}
 	}
-	t.Logf("a file was acknowledged: %v", told)
+	t.Logf("a file was acknowledged: %v", answered)
 }
 
 // forged returns the bytes of a file of a bundle that has the WAL of a folder in it, again and again.
@@ -318,10 +318,10 @@ func TestMemoryThatIsUsedUp(t *testing.T) {
 	}
 	const bundles = 60
 	locale := func(i int) string { return fmt.Sprintf("l%c%c", 'a'+i/26, 'a'+i%26) }
-	told := map[string]string{}
+	answered := map[string]string{}
 	put := func(locale, value, rest string) (status int) {
 		if status = p.put("shop", locale, fmt.Sprintf(`%s{v{"%s"}%s}`, locale, value, rest)); status == 200 || status == 201 {
-			told[locale] = value
+			answered[locale] = value
 		}
 		return status
 	}
@@ -353,12 +353,12 @@ func TestMemoryThatIsUsedUp(t *testing.T) {
 	if status, body := p.send("GET", "/v1/bank/de/v", bankWrites, ""); status != 200 || valueOf(body) != "B" {
 		t.Errorf("%d %s", status, body)
 	}
-	for locale, value := range told {
+	for locale, value := range answered {
 		if status, body := p.get("/v1/shop/" + locale + "/v"); status != 200 || valueOf(body) != value {
 			t.Errorf("%s: %d %.100s, and not %s", locale, status, body, value)
 		}
 	}
-	if _, text := p.get("/metrics"); !strings.Contains(text, "resb_shard_left_out{shard=\"0\"} 0\n") {
+	if _, text := p.get("/metrics"); !strings.Contains(text, "resb_left_out 0\n") {
 		t.Error("a bundle is left out")
 	}
 	t.Logf("%d of %d large bundles were refused", refused, bundles)

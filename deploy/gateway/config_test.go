@@ -188,10 +188,10 @@ func TestTheLogInJSON(t *testing.T) {
 	var out bytes.Buffer
 	l := log.New(&jsonLog{to: &out}, "", 0)
 	l.Print("server: process 5 ended: <&> \"quoted\"\nand \xff more")
-	l.Print("the shards aren't seen: why")
+	l.Print("the log isn't reached: why")
 	l.Print("plain")
 	lines := strings.Split(strings.TrimSuffix(out.String(), "\n"), "\n")
-	want := [][2]string{{"server", "process 5 ended: <&> \"quoted\"\nand \uFFFD more"}, {"gateway", "the shards aren't seen: why"}, {"gateway", "plain"}}
+	want := [][2]string{{"server", "process 5 ended: <&> \"quoted\"\nand \uFFFD more"}, {"gateway", "the log isn't reached: why"}, {"gateway", "plain"}}
 	if len(lines) != len(want) || strings.Contains(out.String(), `\u003c`) {
 		t.Fatalf("%q", lines)
 	}
@@ -216,9 +216,9 @@ func TestTheLogInJSON(t *testing.T) {
 	}
 }
 
-// TestTheServiceManagerIsTold has a gateway started with a socket in NOTIFY_SOCKET: it tells that it serves once it does, and that it
+// TestTheServiceManagerIsNotified has a gateway started with a socket in NOTIFY_SOCKET: it tells that it serves once it does, and that it
 // ends.
-func TestTheServiceManagerIsTold(t *testing.T) {
+func TestTheServiceManagerIsNotified(t *testing.T) {
 	for _, name := range []string{filepath.Join(t.TempDir(), "n"), fmt.Sprintf("@gateway-test-%d", os.Getpid())} {
 		address := strings.Replace(name, "@", "\x00", 1)
 		socket, err := net.ListenUnixgram("unixgram", &net.UnixAddr{Name: address, Net: "unixgram"})

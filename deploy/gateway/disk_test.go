@@ -64,7 +64,7 @@ func TestADiskThatIsNearlyFull(t *testing.T) {
 	if got := s.ask("DELETE", "/v1/shop/laa", shopWrites, ""); got.StatusCode != 200 {
 		t.Errorf("%d %s", got.StatusCode, got.body)
 	}
-	if text := s.ask("GET", "/metrics", "", "").body; !strings.Contains(text, "resb_shard_replays_total{shard=\"0\"} 2\n") {
+	if text := s.ask("GET", "/metrics", "", "").body; !strings.Contains(text, "resb_replays_total 2\n") {
 		t.Error("the server was started again")
 	}
 }
@@ -165,7 +165,7 @@ func TestADiskThatAnotherFills(t *testing.T) {
 			}
 		}
 	}
-	if replays := s.measured()[`resb_shard_replays_total{shard="0"}`]; replays != 2 {
+	if replays := s.measured()[`resb_replays_total`]; replays != 2 {
 		t.Errorf("servers were filled %v times", replays)
 	}
 	if err := os.Remove(filler); err != nil {
@@ -225,8 +225,8 @@ func TestAReadOnlyDisk(t *testing.T) {
 	d := newLoopDisk(t)
 	p := launchGateway(t, d.folder)
 	defer func() { p.kill() }()
-	told := []string{"aa", "ab", "ac"}
-	for _, locale := range told {
+	answered := []string{"aa", "ab", "ac"}
+	for _, locale := range answered {
 		if status := p.put("shop", locale, `x{v{"1"}}`); status != 201 {
 			t.Fatal(status)
 		}
@@ -249,7 +249,7 @@ func TestAReadOnlyDisk(t *testing.T) {
 	if status, body := p.get("/readyz"); status != 200 {
 		t.Errorf("%d %s", status, body)
 	}
-	if _, text := p.get("/metrics"); !strings.Contains(text, "resb_shard_writes{shard=\"0\"} 0\n") {
+	if _, text := p.get("/metrics"); !strings.Contains(text, "resb_writes 0\n") {
 		t.Error("the metrics don't say that nothing is stored")
 	}
 	p.kill()
@@ -264,7 +264,7 @@ func TestAReadOnlyDisk(t *testing.T) {
 	}
 	d.again("loop")
 	p.start(d.folder, tokens)
-	for _, locale := range told {
+	for _, locale := range answered {
 		if status, body := p.get("/v1/shop/" + locale + "/v"); status != 200 || !strings.Contains(body, `"1"`) {
 			t.Errorf("%s: %d %s", locale, status, body)
 		}

@@ -255,22 +255,21 @@ func TestClusterWhoseLogIsSmall(t *testing.T) {
 	}
 }
 
-// TestTheSettingsOfNATS starts a nats-server with the settings of OPERATIONS.md: who has no login can do nothing.
+// TestTheSettingsOfNATS starts a nats-server with the settings of deploy/README.md: who has no login can do nothing.
 func TestTheSettingsOfNATS(t *testing.T) {
-	page, err := os.ReadFile("../OPERATIONS.md")
+	page, err := os.ReadFile("../README.md")
 	if err != nil {
 		t.Fatal(err)
 	}
-	var settings strings.Builder
-	for _, line := range strings.Split(string(page), "\n") {
-		if strings.HasPrefix(line, "    ") && !strings.HasPrefix(line, "    $") {
-			settings.WriteString(line + "\n")
-		}
+	_, settings, found := strings.Cut(string(page), "\n    server_name:")
+	settings, _, whole := strings.Cut("    server_name:"+settings, "\n\n")
+	if !found || !whole {
+		t.Fatal("the page has no settings")
 	}
 	ports := freePorts(t, 2)
 	text := strings.NewReplacer(`listen: "10.0.0.1:4222"`, fmt.Sprintf(`listen: "127.0.0.1:%d"`, ports[0]),
 		`listen: "10.0.0.1:6222"`, fmt.Sprintf(`listen: "127.0.0.1:%d"`, ports[1]), "/var/lib/nats", t.TempDir(), "10.0.0.", "127.0.0.").
-		Replace(settings.String())
+		Replace(settings)
 	file := filepath.Join(t.TempDir(), "nats.conf")
 	if err := os.WriteFile(file, []byte(text), 0o600); err != nil {
 		t.Fatal(err)

@@ -7,7 +7,6 @@ import (
 	"net"
 	"net/http"
 	"os"
-	"sort"
 	"strings"
 	"sync"
 	"testing"
@@ -41,20 +40,14 @@ func (s *site) alive() {
 	}
 }
 
-// replays gives how often the bundles of each shard were installed again.
+// replays returns how often servers were filled with the bundles.
 func (s *site) replays() string {
 	s.t.Helper()
-	var all []string
-	for name, value := range s.measuredOfAll() {
-		if strings.HasPrefix(name, "resb_shard_replays_total{") {
-			all = append(all, fmt.Sprintln(name, value))
-		}
+	value, found := s.measuredWhenServing()["resb_replays_total"]
+	if !found {
+		s.t.Fatal("there is no metric of how often servers were filled")
 	}
-	if len(all) == 0 {
-		s.t.Fatal("it isn't told how often bundles were installed again")
-	}
-	sort.Strings(all)
-	return strings.Join(all, "")
+	return fmt.Sprint(value)
 }
 
 // withBundle returns a gateway where `shop` has one bundle.
@@ -497,7 +490,7 @@ func TestATextThatEndsTheServer(t *testing.T) {
 		t.Skip("the real server doesn't end at a text")
 	}
 	s := withBundle(t)
-	if got := s.ask("PUT", "/v1/shop/fr.txt", shopWrites, "fr{end}"); got.StatusCode != 503 || got.body != "{\"error\":\"ShardEnded\"}\n" {
+	if got := s.ask("PUT", "/v1/shop/fr.txt", shopWrites, "fr{end}"); got.StatusCode != 503 || got.body != "{\"error\":\"ServerEnded\"}\n" {
 		t.Errorf("%d %s", got.StatusCode, got.body)
 	}
 	if got := s.ask("GET", "/v1/shop", shopReads, ""); got.body != "{\"names\":[\"de\"]}\n" {
@@ -551,7 +544,7 @@ func TestCallersThatLeaveTheirReplies(t *testing.T) {
 	if got := s.ask("PUT", "/v1/shop/de.txt", shopWrites, `de{a{"A"} long{"`+strings.Repeat("x", 1<<20)+`"}}`); got.StatusCode != 201 {
 		t.Fatalf("%d %s", got.StatusCode, got.body)
 	}
-	lines := func() float64 { return s.measured()[`resb_shard_lines_total{shard="0"}`] }
+	lines := func() float64 { return s.measured()[`resb_lines_total`] }
 	body := strings.Repeat(`{"locale":"de","path":"long"}`+"\n", 120)
 	request := begins("POST", "/v1/shop/look", fmt.Sprintf("Content-Length: %d\r\n\r\n%s", len(body), body))
 	for i := 0; i < 3; i++ {

@@ -383,19 +383,14 @@ func TestTokensPart(t *testing.T) {
 	}
 }
 
-// TestWhoHasNoRightReachesNothing asks with wrong tokens and in wrong ways: no line comes to a server by that.
-func TestWhoHasNoRightReachesNothing(t *testing.T) { open(t).noRights() }
+// TestWithoutARightNothingIsReached asks with wrong tokens and in wrong ways: no line comes to a server by that.
+func TestWithoutARightNothingIsReached(t *testing.T) { open(t).noRights() }
 
 func (s *site) noRights() {
 	s.t.Helper()
-	lines := func() (all float64) {
+	lines := func() float64 {
 		s.t.Helper()
-		for name, value := range s.measuredOfAll() {
-			if strings.HasPrefix(name, "resb_shard_lines_total{") {
-				all += value
-			}
-		}
-		return all
+		return s.measuredWhenServing()["resb_lines_total"]
 	}
 	before := lines()
 	for _, at := range []struct {

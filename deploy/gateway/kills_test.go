@@ -146,7 +146,7 @@ func (p *process) put(app, locale, text string) (status int) {
 // A writer changes one locale of an application over and over, and knows the values that it may have.
 type writer struct {
 	app, locale string
-	told        int // the last value that was acknowledged; 0 is no bundle
+	answered    int // the last value that was acknowledged; 0 is no bundle
 	tried       int // a later one that was tried since, without an acknowledgement
 	changes     int
 }
@@ -159,7 +159,7 @@ func (w *writer) step(p *process, value int) {
 		status, _ := p.send("DELETE", "/v1/"+w.app+"/"+w.locale, token, "")
 		switch {
 		case status == 200 || status == 404:
-			w.told, w.tried = 0, 0
+			w.answered, w.tried = 0, 0
 		default:
 			w.tried = -1
 		}
@@ -167,7 +167,7 @@ func (w *writer) step(p *process, value int) {
 	}
 	status := p.put(w.app, w.locale, fmt.Sprintf(`%s{v{"%d"} pad{"%s"}}`, w.locale, value, strings.Repeat("x", rand.Intn(3000))))
 	if status == 200 || status == 201 {
-		w.told, w.tried = value, 0
+		w.answered, w.tried = value, 0
 	} else {
 		w.tried = value
 	}
@@ -188,10 +188,10 @@ func (w *writer) check(p *process) error {
 		}
 		return status == 200 && strings.Contains(body, fmt.Sprintf(`"value":"%d"`, value))
 	}
-	if is(w.told) || w.tried != 0 && is(w.tried) {
+	if is(w.answered) || w.tried != 0 && is(w.tried) {
 		return nil
 	}
-	return fmt.Errorf("%s, %s: %d %s, where %d was told and then %d tried", w.app, w.locale, status, strings.TrimSpace(body), w.told, w.tried)
+	return fmt.Errorf("%s, %s: %d %s, where %d was acknowledged and then %d tried", w.app, w.locale, status, strings.TrimSpace(body), w.answered, w.tried)
 }
 
 // roundsOr returns the number of rounds that a variable asks for, or the usual one.
@@ -205,9 +205,9 @@ func roundsOr(variable string, usual int) int {
 	return usual
 }
 
-// TestNothingToldIsLost kills the gateway, and its server, again and again under changes and lookups; after each kill all
+// TestNoAcknowledgedChangeIsLost kills the gateway, and its server, again and again under changes and lookups; after each kill all
 // acknowledged changes are there. RESB_KILLS is how often.
-func TestNothingToldIsLost(t *testing.T) {
+func TestNoAcknowledgedChangeIsLost(t *testing.T) {
 	folder := t.TempDir()
 	p := launchGateway(t, folder)
 	defer func() { p.kill() }()
@@ -248,7 +248,7 @@ func TestNothingToldIsLost(t *testing.T) {
 			if err := w.check(p); err != nil {
 				t.Errorf("round %d: %v", round, err)
 			}
-			w.told, w.tried = now(p, w), 0
+			w.answered, w.tried = now(p, w), 0
 		}
 	}
 	changes := 0
@@ -277,11 +277,11 @@ func TestAReleaseIsStoredWhole(t *testing.T) {
 	if status := release(1); status != 200 {
 		t.Fatal(status)
 	}
-	told, acknowledged := 1, 0
+	answered, acknowledged := 1, 0
 	for round, number := roundsOr("RESB_RELEASE_KILLS", 6), 1; round > 0; round-- {
 		late := time.AfterFunc(time.Duration(rand.Intn(300))*time.Millisecond, func() { _ = p.command.Process.Kill() })
 		for number++; release(number) == 200; number++ {
-			told = number
+			answered = number
 			acknowledged++
 		}
 		late.Stop()
@@ -292,10 +292,10 @@ func TestAReleaseIsStoredWhole(t *testing.T) {
 			_, body := p.get(fmt.Sprintf("/v1/shop/l%c%c/v", 'a'+i/26, 'a'+i%26))
 			found = append(found, valueOf(body))
 		}
-		if one := strings.Repeat(found[0]+" ", bundles); one != strings.Join(found, " ")+" " || found[0] != fmt.Sprint(told) && found[0] != fmt.Sprint(number) {
-			t.Fatalf("release %d was acknowledged and then %d tried: %v", told, number, found)
+		if one := strings.Repeat(found[0]+" ", bundles); one != strings.Join(found, " ")+" " || found[0] != fmt.Sprint(answered) && found[0] != fmt.Sprint(number) {
+			t.Fatalf("release %d was acknowledged and then %d tried: %v", answered, number, found)
 		}
-		told, _ = strconv.Atoi(found[0])
+		answered, _ = strconv.Atoi(found[0])
 	}
 	t.Logf("%d releases acknowledged", acknowledged)
 }

@@ -50,19 +50,12 @@ func (s *site) measured() map[string]float64 {
 	return values
 }
 
-// measuredOfAll reads the metrics when each shard tells how it does: a bridge on a busy machine may be late.
-func (s *site) measuredOfAll() (values map[string]float64) {
+// measuredWhenServing reads the metrics once lookups are answered.
+func (s *site) measuredWhenServing() (values map[string]float64) {
 	s.t.Helper()
-	eventually(s.t, "all shards tell how they do", func() bool {
+	eventually(s.t, "lookups are answered", func() bool {
 		values = s.measured()
-		shards, serve := 0, 0
-		for name, value := range values {
-			if strings.HasPrefix(name, "resb_shard_serves{") {
-				shards, serve = shards+1, serve+int(value)
-			}
-		}
-		seen, overNATS := values["resb_gateway_shards_seen"]
-		return shards > 0 && serve == shards && (!overNATS || int(seen) == shards)
+		return values["resb_serves"] == 1
 	})
 	return values
 }
@@ -83,12 +76,12 @@ func TestMetrics(t *testing.T) {
 		`resb_gateway_requests_total{kind="other",status="401"}`:  1,
 		`resb_gateway_requests_total{kind="change",status="201"}`: 1,
 		`resb_gateway_request_seconds_count{kind="look"}`:         6,
-		`resb_shard_lines_total{shard="0"}`:                       7,
-		`resb_shard_replays_total{shard="0"}`:                     2, // of both servers
-		`resb_shard_left_out{shard="0"}`:                          0,
-		`resb_shard_writes{shard="0"}`:                            1,
-		`resb_shard_serves{shard="0"}`:                            1,
-		`resb_shard_bundles{shard="0"}`:                           1,
+		`resb_lines_total`:   7,
+		`resb_replays_total`: 2, // of both servers
+		`resb_left_out`:      0,
+		`resb_writes`:        1,
+		`resb_serves`:        1,
+		`resb_bundles`:       1,
 	} {
 		if values[at] != want {
 			t.Errorf("%s is %v", at, values[at])
@@ -102,7 +95,7 @@ func TestMetrics(t *testing.T) {
 		}
 		last = at
 	}
-	if values[`resb_gateway_request_seconds_bucket{kind="look",le="+Inf"}`] != 6 || values[`resb_shard_memory_bytes{shard="0"}`] < 1000 || values[`resb_shard_stream_bytes{shard="0"}`] < 20 {
+	if values[`resb_gateway_request_seconds_bucket{kind="look",le="+Inf"}`] != 6 || values[`resb_memory_bytes`] < 1000 || values[`resb_database_bytes`] < 20 {
 		t.Errorf("%v", values)
 	}
 }

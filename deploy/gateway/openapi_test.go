@@ -66,7 +66,7 @@ func TestTheDescriptionHasTheErrors(t *testing.T) {
 	if err != nil {
 		t.Fatal(err)
 	}
-	explained, err := os.ReadFile("../../docs/TROUBLESHOOTING.md")
+	explained, err := os.ReadFile("../../crates/rb_explain/src/words.rt")
 	if err != nil {
 		t.Fatal(err)
 	}
@@ -90,16 +90,16 @@ func TestTheDescriptionHasTheErrors(t *testing.T) {
 	for name, response := range description.Components.Responses {
 		_, named, _ := strings.Cut(response.Description, "Words: ")
 		for _, one := range regexp.MustCompile("`[A-Z]\\w+`").FindAllString(named, -1) {
-			if !bytes.Contains(explained, []byte(one)) {
+			if !bytes.Contains(explained, []byte("\n"+strings.Trim(one, "`")+"\\t")) {
 				t.Errorf("%s has %s, which isn't explained", name, one)
 			}
 		}
 	}
 }
 
-// TestTheTableOfTests looks for each test that README.md names.
-func TestTheTableOfTests(t *testing.T) {
-	page, err := os.ReadFile("README.md")
+// TestTheTestsOfInvariants looks for each test that docs/ARCHITECTURE.md names.
+func TestTheTestsOfInvariants(t *testing.T) {
+	page, err := os.ReadFile("../../docs/ARCHITECTURE.md")
 	if err != nil {
 		t.Fatal(err)
 	}
@@ -117,7 +117,7 @@ func TestTheTableOfTests(t *testing.T) {
 			t.Errorf("there is no test %s", one[1])
 		}
 	}
-	if len(named) < 40 {
+	if len(named) < 5 {
 		t.Errorf("only %d tests are named", len(named))
 	}
 }

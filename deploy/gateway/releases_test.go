@@ -107,7 +107,7 @@ func TestReleases(t *testing.T) {
 			if got := s.ask("POST", "/v1/shop/_releases", shopReads, pack(t), "Content-Type", kind); got.StatusCode != 403 {
 				t.Errorf("%d %s", got.StatusCode, got.body)
 			}
-			if text := s.ask("GET", "/metrics", "", "").body; !strings.Contains(text, "resb_shard_replays_total{shard=\"0\"} 2\n") {
+			if text := s.ask("GET", "/metrics", "", "").body; !strings.Contains(text, "resb_replays_total 2\n") {
 				t.Error("a refusal had a server filled again")
 			}
 		})

@@ -144,7 +144,7 @@ func TestABundleWithoutMemory(t *testing.T) {
 		if got := s.ask("GET", "/v1/shop", shopReads, ""); got.body != "{\"names\":[\"fr\"]}\n" {
 			t.Errorf("%d %s", got.StatusCode, got.body)
 		}
-		if left := s.measured()[`resb_shard_left_out{shard="0"}`]; left != 2 {
+		if left := s.measured()[`resb_left_out`]; left != 2 {
 			t.Errorf("%v are left out", left)
 		}
 		if got := s.ask("DELETE", "/v1/shop/nl", shopWrites, ""); got.StatusCode != 200 {

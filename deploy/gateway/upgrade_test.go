@@ -176,7 +176,7 @@ func TestTwentyUpgradesUnderLoad(t *testing.T) {
 	}
 	t.Logf("an upgrade took %v", time.Since(began)/20)
 	l.end()
-	if _, text := p.get("/metrics"); !strings.Contains(text, "resb_shard_replays_total{shard=\"0\"} 42\n") {
+	if _, text := p.get("/metrics"); !strings.Contains(text, "resb_replays_total 42\n") {
 		t.Error("a server was started again")
 	}
 	p.kill()
@@ -238,7 +238,7 @@ func other(refuses string) string {
 		`*list*) echo '{"names":[]}' ;; *) echo '{"error":"BadLine"}'`, 1)
 }
 
-// TestAnUpgradeWithoutBundles can't be told from the bundles; the program must still answer as a server does.
+// TestAnUpgradeWithoutBundles has no bundles by which a program could be judged; it must still answer like a server.
 func TestAnUpgradeWithoutBundles(t *testing.T) {
 	folder := t.TempDir()
 	p := launchGateway(t, folder)

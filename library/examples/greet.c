@@ -4,7 +4,7 @@
 #include <string.h>
 #include <sys/random.h>
 
-#define STRING(s) (const uint8_t *)(s), strlen(s)
+#define STRING(s) (s), strlen(s)
 
 int main(void) {
     resb engine = RESB_CLOSED;

@@ -39,7 +39,7 @@ type Error struct {
 // Code returns the name of the error, such as "BadPath".
 func (e *Error) Code() string {
 	var name [16]byte
-	n := C.resb_error_name(C.uint32_t(e.Number), (*C.uint8_t)(&name[0]), C.size_t(len(name)))
+	n := C.resb_error_name(C.uint32_t(e.Number), (*C.char)(unsafe.Pointer(&name[0])), C.size_t(len(name)))
 	return string(name[:n])
 }
 
@@ -66,17 +66,17 @@ func errorOf(number C.uint32_t) error {
 var nothing [1]byte
 
 // bytes returns where bytes begin, which is never nil, and how many there are.
-func bytes(b []byte) (*C.uint8_t, C.size_t) {
+func bytes(b []byte) (*C.char, C.size_t) {
 	if len(b) == 0 {
-		return (*C.uint8_t)(&nothing[0]), 0
+		return (*C.char)(unsafe.Pointer(&nothing[0])), 0
 	}
-	return (*C.uint8_t)(&b[0]), C.size_t(len(b))
+	return (*C.char)(unsafe.Pointer(&b[0])), C.size_t(len(b))
 }
 
 // Check returns nil for a valid .res file, and else its first error.
 func Check(file []byte) error {
 	p, n := bytes(file)
-	return errorOf(C.resb_check(p, n))
+	return errorOf(C.resb_check(unsafe.Pointer(p), n))
 }
 
 // Compile compiles a bundle text to a .res file. An error of the text has its line.
@@ -86,7 +86,7 @@ func Compile(text []byte) ([]byte, error) {
 	for {
 		var written C.size_t
 		var line C.uint64_t
-		switch number := C.resb_compile(p, n, (*C.uint8_t)(&out[0]), C.size_t(len(out)), &written, &line); number {
+		switch number := C.resb_compile(p, n, unsafe.Pointer(&out[0]), C.size_t(len(out)), &written, &line); number {
 		case C.RESB_OK:
 			return out[:written], nil
 		case C.RESB_NO_ROOM:
@@ -136,7 +136,7 @@ func OpenWith(options Options) (*Bundles, error) {
 	s, sn := bytes(seed[:])
 	p, pn := bytes(options.Parents)
 	var place C.uint64_t
-	number := C.resb_open_with(handle, s, sn, entries, C.size_t(len(options.ICUData)), p, pn, &place)
+	number := C.resb_open_with(handle, unsafe.Pointer(s), sn, entries, C.size_t(len(options.ICUData)), p, pn, &place)
 	if number == C.RESB_OK {
 		return &Bundles{handle: handle}, nil
 	}
@@ -155,9 +155,9 @@ func entriesOf(entries []Entry) (first *C.resb_entry, free func()) {
 	copies := unsafe.Slice(first, len(entries))
 	for i, entry := range entries {
 		copies[i] = C.resb_entry{
-			locale:     (*C.uint8_t)(C.CBytes([]byte(entry.Locale))),
+			locale:     (*C.char)(C.CBytes([]byte(entry.Locale))),
 			locale_len: C.size_t(len(entry.Locale)),
-			bytes:      (*C.uint8_t)(C.CBytes(entry.Bundle)),
+			bytes:      C.CBytes(entry.Bundle),
 			len:        C.size_t(len(entry.Bundle)),
 			is_text:    C.bool(entry.IsText),
 		}
@@ -165,7 +165,7 @@ func entriesOf(entries []Entry) (first *C.resb_entry, free func()) {
 	return first, func() {
 		for _, entry := range copies {
 			C.free(unsafe.Pointer(entry.locale))
-			C.free(unsafe.Pointer(entry.bytes))
+			C.free(entry.bytes)
 		}
 		C.free(unsafe.Pointer(first))
 	}
@@ -215,7 +215,9 @@ func (b *Bundles) Install(app, locale string, bundle []byte, isText bool) error 
 	a, an := bytes([]byte(app))
 	l, ln := bytes([]byte(locale))
 	p, n := bytes(bundle)
-	return b.with(func(h *C.resb) C.uint32_t { return C.resb_install(h, a, an, l, ln, p, n, C.bool(isText)) })
+	return b.with(func(h *C.resb) C.uint32_t {
+		return C.resb_install(h, a, an, l, ln, unsafe.Pointer(p), n, C.bool(isText))
+	})
 }
 
 // Replace replaces a bundle of an application.
@@ -223,7 +225,9 @@ func (b *Bundles) Replace(app, locale string, bundle []byte, isText bool) error 
 	a, an := bytes([]byte(app))
 	l, ln := bytes([]byte(locale))
 	p, n := bytes(bundle)
-	return b.with(func(h *C.resb) C.uint32_t { return C.resb_replace(h, a, an, l, ln, p, n, C.bool(isText)) })
+	return b.with(func(h *C.resb) C.uint32_t {
+		return C.resb_replace(h, a, an, l, ln, unsafe.Pointer(p), n, C.bool(isText))
+	})
 }
 
 // Remove removes a bundle of an application.
@@ -240,7 +244,7 @@ func (b *Bundles) List(app string) ([]string, error) {
 	for {
 		var length C.size_t
 		err := b.with(func(h *C.resb) C.uint32_t {
-			return C.resb_list(h, a, an, (*C.uint8_t)(&out[0]), C.size_t(len(out)), &length)
+			return C.resb_list(h, a, an, (*C.char)(unsafe.Pointer(&out[0])), C.size_t(len(out)), &length)
 		})
 		if errors.Is(err, &Error{Number: C.RESB_NO_ROOM}) {
 			out = make([]byte, length)
@@ -360,7 +364,7 @@ func (b *Bundles) Key(app, locale, path string, index int) (string, error) {
 	for {
 		var length C.size_t
 		err := b.with(func(h *C.resb) C.uint32_t {
-			return C.resb_key(h, a, an, l, ln, p, pn, C.size_t(index), (*C.uint8_t)(&out[0]), C.size_t(len(out)), &length)
+			return C.resb_key(h, a, an, l, ln, p, pn, C.size_t(index), (*C.char)(unsafe.Pointer(&out[0])), C.size_t(len(out)), &length)
 		})
 		if errors.Is(err, &Error{Number: C.RESB_NO_ROOM}) {
 			out = make([]byte, length)

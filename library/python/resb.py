@@ -75,7 +75,7 @@ _apps = _declare(_library, "apps", _handle, _number)
 _look_within = _declare(_library, "look_within", _handle, *_bytes, *_bytes, *_bytes, ctypes.c_uint64, ctypes.POINTER(_Found))
 _look = _declare(_library, "look", _handle, *_bytes, *_bytes, *_bytes, ctypes.POINTER(_Found))
 _text = _declare(_library, "text", _handle, *_bytes, *_bytes, *_bytes, ctypes.c_void_p, ctypes.c_size_t, _size)
-# The same function without declared types, whose arguments take half as long to convert. Each must have its C type: a plain int would
+# This function without declared types takes half as long to convert its arguments. Each must have its C type: a plain int would
 # leave half of a size_t undefined.
 _quick_text = ctypes.PyDLL(_file).resb_text
 _quick_text.restype = ctypes.c_uint32

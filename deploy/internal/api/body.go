@@ -78,7 +78,7 @@ func (c *call) readAll(from io.Reader) ([]byte, error) {
 			if err := c.Limits.hold(c.app, more); err != nil {
 				return body, err
 			}
-			c.held += more
+			c.counted += more
 			grown := make([]byte, len(body), int64(len(body))+more)
 			copy(grown, body)
 			body = grown

@@ -95,15 +95,15 @@ func (r rendering) describe(h http.Header, b store.Bundle) (tag string) {
 func (c *call) hold(bytes int64) error {
 	err := c.Limits.hold(c.app, bytes)
 	if err == nil {
-		c.held += bytes
+		c.counted += bytes
 	}
 	return err
 }
 
 // free takes back what hold counted, down to a number of bytes.
 func (c *call) free(bytes int64) {
-	c.Limits.free(c.app, c.held-bytes)
-	c.held = bytes
+	c.Limits.free(c.app, c.counted-bytes)
+	c.counted = bytes
 }
 
 // unchanged returns true if the caller has what the tag names.

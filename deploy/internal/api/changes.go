@@ -109,11 +109,11 @@ func (c *call) make(asked store.Change, puts bool, holds store.Condition) {
 		reply, revision, err = c.Backend.Change(ctx, asked, holds)
 	}
 	c.audit.note(c, asked.Op.String(), asked, reply, err)
-	c.tell(asked, reply, revision, err)
+	c.respond(asked, reply, revision, err)
 }
 
-// tell answers a change that was made or refused.
-func (c *call) tell(asked store.Change, reply []byte, revision store.Revision, err error) {
+// respond answers a change that was made or refused.
+func (c *call) respond(asked store.Change, reply []byte, revision store.Revision, err error) {
 	if err != nil {
 		c.refuse(problemOf(err))
 		return

@@ -78,16 +78,16 @@ func New(backend *replica.Replica, tokens *auth.Tokens, options Options) *Handle
 // A call is one request on its way.
 type call struct {
 	*Handler
-	w     http.ResponseWriter
-	r     *http.Request
-	app   string
-	who   string
-	kind  string // what it is counted as
-	held  int64  // bytes of its body that are counted
-	whole bool   // its body was read
-	wrote int    // the status
-	sent  int    // bytes of the reply
-	got   int    // bytes of the body
+	w       http.ResponseWriter
+	r       *http.Request
+	app     string
+	who     string
+	kind    string // what it is counted as
+	counted int64  // bytes of its body that are counted
+	whole   bool   // its body was read
+	wrote   int    // the status
+	sent    int    // bytes of the reply
+	got     int    // bytes of the body
 }
 
 // ServeHTTP answers each request.
@@ -223,7 +223,7 @@ func (c *call) limited(do func()) {
 		return
 	}
 	defer func() {
-		c.Limits.end(c.app, c.held)
+		c.Limits.end(c.app, c.counted)
 		c.rates.count(c.app, c.sent+c.got, time.Now())
 	}()
 	if p := c.after(); p != nil {

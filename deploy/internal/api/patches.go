@@ -65,7 +65,7 @@ func (c *call) patch(name string) {
 // patchOnce has the present bundle patched, and answers. It returns false if another caller has changed the bundle meanwhile, and
 // the condition of this one still holds.
 func (c *call) patchOnce(ctx context.Context, asked store.Change, patch *convert.MergePatch, given store.Condition) (answered bool) {
-	before := c.held
+	before := c.counted
 	defer func() {
 		if !answered {
 			c.free(before)
@@ -94,7 +94,7 @@ func (c *call) patchOnce(ctx context.Context, asked store.Change, patch *convert
 		return false
 	}
 	c.audit.note(c, "patch", asked, reply, err)
-	c.tell(asked, reply, revision, err)
+	c.respond(asked, reply, revision, err)
 	return true
 }
 

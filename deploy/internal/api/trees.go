@@ -128,7 +128,7 @@ func (c *call) lay(ctx context.Context, folder string) (files []string, of []sto
 
 // layOne writes a bundle into a file, and returns false if it was changed meanwhile.
 func (c *call) layOne(b store.Bundle, name string) (same bool, err error) {
-	before := c.held
+	before := c.counted
 	if err := c.hold(int64(b.Bytes)); err != nil {
 		return false, err
 	}

@@ -43,7 +43,7 @@ var (
 	notOffered   = problem{http.StatusNotImplemented, "NotOffered"}
 	busy         = problem{http.StatusServiceUnavailable, "Busy"}
 	replaying    = problem{http.StatusServiceUnavailable, "Replaying"}
-	ended        = problem{http.StatusServiceUnavailable, "ShardEnded"}
+	ended        = problem{http.StatusServiceUnavailable, "ServerEnded"}
 	unreached    = problem{http.StatusServiceUnavailable, "Unreached"}
 	notKept      = problem{http.StatusServiceUnavailable, "NotKept"}
 	behind       = problem{http.StatusServiceUnavailable, "Behind"}

@@ -134,8 +134,8 @@ func stands(pid int) bool {
 	return len(threads) > 0
 }
 
-// TestOneOfManyLinesGoesBefore asks 100 expensive lookups of one application, and then one of another, of a server that goes on once
-// all are asked.
+// TestOneOfManyLinesGoesBefore asks 100 expensive lookups of one application, and then one of another, of a server that continues
+// once all are asked.
 func TestOneOfManyLinesGoesBefore(t *testing.T) {
 	turns, server := begin(t)
 	halt(t, server.PID())

@@ -9,7 +9,7 @@ const MOST_BYTES = 8 << 20;
 const text = at("text");
 const NOTHING = at("opened").textContent;
 
-// What is edited: the gateway, the locale, what was installed when it was opened, and the line ends that the text had.
+// The open text: its gateway, its locale, what was installed when it was opened, and its line ends.
 let gateway = null, locale = "", opened = { text: null, tag: null }, ends = "\n", dirty = false;
 let waiting = 0, checking = null, acts = false;
 let opens = 0; // how often one was opened: an answer about an earlier one may come late

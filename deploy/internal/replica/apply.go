@@ -34,7 +34,7 @@ func (r *Replica) apply(ctx context.Context, batch []*pending) {
 	steps, ends, ok := r.read(ctx, judges, func([]store.Entry) bool { return true })
 	var accepted []*pending
 	if !ok || !ends {
-		r.changes.putBack(batch)
+		r.changes.requeue(batch)
 	} else if accepted, ok = r.judge(judges, r.holding(r.publishable(batch))); ok && len(accepted) > 0 {
 		var more []step
 		accepted, more, ok = r.keep(ctx, judges, accepted)
@@ -42,7 +42,7 @@ func (r *Replica) apply(ctx context.Context, batch []*pending) {
 	}
 	r.finish(judges, ok, steps, func() {
 		for _, p := range accepted {
-			p.tell(answer{reply: p.reply, revision: p.revision})
+			p.respond(answer{reply: p.reply, revision: p.revision})
 		}
 	})
 }
@@ -82,21 +82,21 @@ func (r *Replica) judge(judges *child.Child, batch []*pending) (accepted []*pend
 	for _, p := range batch {
 		switch {
 		case r.removes(p):
-			p.reply, p.later = []byte(done), true
+			p.reply, p.madeAfter = []byte(done), true
 			accepted = append(accepted, p)
 		case r.hasTooManyNames(p):
-			p.tell(answer{reply: []byte(overQuota)})
+			p.respond(answer{reply: []byte(overQuota)})
 		default:
-			p.later = false
+			p.madeAfter = false
 			asked, lines = append(asked, p), append(lines, p.line)
 		}
 	}
 	replies, err := r.ask(judges, lines)
 	if err != nil {
 		for _, p := range asked {
-			p.tell(answer{err: child.ErrEnded})
+			p.respond(answer{err: child.ErrEnded})
 		}
-		r.changes.putBack(accepted)
+		r.changes.requeue(accepted)
 		return nil, false
 	}
 	for i, p := range asked {
@@ -105,7 +105,7 @@ func (r *Replica) judge(judges *child.Child, batch []*pending) (accepted []*pend
 			accepted = append(accepted, p)
 			continue
 		}
-		p.tell(answer{reply: p.reply})
+		p.respond(answer{reply: p.reply})
 	}
 	return accepted, true
 }
@@ -158,7 +158,7 @@ func (r *Replica) keep(ctx context.Context, judges *child.Child, accepted []*pen
 func (r *Replica) makeRemovals(judges *child.Child, kept []*pending) bool {
 	var lines [][]byte
 	for _, p := range kept {
-		if p.later {
+		if p.madeAfter {
 			lines = append(lines, p.line)
 		}
 	}
@@ -179,7 +179,7 @@ func (r *Replica) keepOwn(judges *child.Child, accepted []*pending) (kept []*pen
 		all[i] = p.Change
 	}
 	r.mu.Lock()
-	appendAll := r.append
+	appendAll := r.storeAll
 	r.mu.Unlock()
 	if last, err := appendAll(context.Background(), all); err == nil {
 		for _, p := range accepted {
@@ -205,8 +205,8 @@ func (r *Replica) keepOwn(judges *child.Child, accepted []*pending) (kept []*pen
 // refuse answers a change that couldn't be stored, and takes it back. It returns false if it can't.
 func (r *Replica) refuse(judges *child.Child, p *pending, err error) bool {
 	log.Printf("changes: %v", err)
-	taken := r.takeBack(judges, p)
-	p.tell(answer{err: notKept(err)})
+	taken := r.rollback(judges, p)
+	p.respond(answer{err: notKept(err)})
 	return taken
 }
 
@@ -223,15 +223,15 @@ func notKept(err error) error {
 	return fmt.Errorf("%w: %v", ErrNotKept, err)
 }
 
-// takeBack has the judging server make the opposite of a change. A removal was made only if its locale is written in an unusual
+// rollback has the judging server make the opposite of a change. A removal was made only if its locale is written in an unusual
 // way; a bundle that is installed again would have another place in the list of names.
-func (r *Replica) takeBack(judges *child.Child, p *pending) bool {
+func (r *Replica) rollback(judges *child.Child, p *pending) bool {
 	opposite := store.Change{Op: store.Remove, App: p.App, Locale: p.Locale}
 	if p.release != nil {
-		return r.takeAllBack(judges, p.release.parts)
+		return r.rollbackAll(judges, p.release.parts)
 	}
 	if p.Op == store.Remove {
-		return p.later
+		return p.madeAfter
 	}
 	if p.Op == store.Replace {
 		stored, there, err := r.store.Stored(p.App, p.Locale)

@@ -25,19 +25,19 @@ type answer struct {
 // A pending change waits to be judged and stored.
 type pending struct {
 	store.Change
-	holds    store.Condition // or nil
-	release  *release        // or nil
-	index    int             // of a part of a release
-	ctx      context.Context
-	gone     func() bool // or nil
-	came     time.Time
-	line     []byte
-	reply    []byte
-	revision store.Revision
-	later    bool // the judging server makes it after it is stored
-	perhaps  bool // it was published, and may be stored
-	settled  bool // it was answered while it waited
-	answer   chan answer
+	holds       store.Condition // or nil
+	release     *release        // or nil
+	index       int             // of a part of a release
+	ctx         context.Context
+	callerGone  func() bool // or nil
+	came        time.Time
+	line        []byte
+	reply       []byte
+	revision    store.Revision
+	madeAfter   bool // the judging server makes it after it is stored
+	maybeStored bool // it was published, and may be stored
+	answered    bool // it was answered while it waited
+	answer      chan answer
 }
 
 type callerKey struct{}
@@ -48,10 +48,10 @@ func WithCaller(ctx context.Context, isGone func() bool) context.Context {
 	return context.WithValue(ctx, callerKey{}, isGone)
 }
 
-// tell answers a change, unless it has been answered: its caller may have given up while it was published. Of a change that
-// may be stored it only says that it is made.
-func (p *pending) tell(a answer) {
-	if p.perhaps && string(a.reply) != done {
+// respond answers a change, unless it has been answered: its caller may have given up while it was published. For a change that
+// may be stored it says only that it is made.
+func (p *pending) respond(a answer) {
+	if p.maybeStored && string(a.reply) != done {
 		a = answer{err: child.ErrTimeout}
 	}
 	select {
@@ -80,8 +80,8 @@ func (c *changes) add(p *pending) {
 	c.queues[p.App] = append(c.queues[p.App], p)
 }
 
-// putBack has changes that were taken wait again, before others of their applications.
-func (c *changes) putBack(all []*pending) {
+// requeue has changes that were taken wait again, before others of their applications.
+func (c *changes) requeue(all []*pending) {
 	c.mu.Lock()
 	defer c.mu.Unlock()
 	for i := len(all) - 1; i >= 0; i-- {
@@ -93,13 +93,13 @@ func (c *changes) putBack(all []*pending) {
 	}
 }
 
-// drop removes a change that waits; it returns false if it doesn't wait any more.
-func (c *changes) drop(p *pending) bool {
+// willBeLeftOut returns true if a change still waits and its caller has given up, so that take leaves it out.
+func (c *changes) willBeLeftOut(p *pending) bool {
 	c.mu.Lock()
 	defer c.mu.Unlock()
 	for _, waits := range c.queues[p.App] {
 		if waits == p {
-			return p.ctx.Err() != nil && !p.perhaps // it is left to take, which leaves it out
+			return p.ctx.Err() != nil && !p.maybeStored
 		}
 	}
 	return false
@@ -131,7 +131,7 @@ func (c *changes) take() (batch []*pending) {
 		queue := c.queues[app]
 		p := queue[0]
 		name := bundle{app, store.Canonical(p.Locale)}
-		given := p.settled || p.ctx.Err() != nil
+		given := p.answered || p.ctx.Err() != nil
 		if !given && (taken[name] || p.release != nil && len(batch) > 0 || len(batch) > 0 && size+len(p.line) > mostBytes) {
 			c.apps = append(c.apps, app)
 			passed++
@@ -143,8 +143,8 @@ func (c *changes) take() (batch []*pending) {
 		} else {
 			c.apps = append(c.apps, app)
 		}
-		if given && !p.settled {
-			p.tell(answer{err: child.ErrTimeout})
+		if given && !p.answered {
+			p.respond(answer{err: child.ErrTimeout})
 		}
 		if given {
 			continue

@@ -12,7 +12,7 @@ import (
 func (r *Replica) holding(batch []*pending) (left []*pending) {
 	for _, p := range batch {
 		if p.holds != nil && !p.holds(r.bundle(p.App, p.Locale)) {
-			p.tell(answer{err: store.ErrCondition})
+			p.respond(answer{err: store.ErrCondition})
 			continue
 		}
 		left = append(left, p)

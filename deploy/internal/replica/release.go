@@ -67,13 +67,13 @@ func (r *Replica) judgeRelease(judges *child.Child, p *pending) (accepted []*pen
 	of.parts = r.parts(p)
 	if tooMany := r.tooManyNames(p); tooMany != nil {
 		of.refused = tooMany.index
-		p.tell(answer{reply: []byte(overQuota)})
+		p.respond(answer{reply: []byte(overQuota)})
 		return nil, true
 	}
 	if answered, ok := r.judgeParts(judges, p); answered {
 		return nil, ok
 	}
-	if r.log != nil && !p.perhaps { // one that may be stored is published again as it was
+	if r.log != nil && !p.maybeStored { // one that may be stored is published again as it was
 		if err := r.address(p); err != nil {
 			return nil, r.refuse(judges, p, err)
 		}
@@ -105,7 +105,7 @@ func (r *Replica) parts(p *pending) (parts []*pending) {
 			c.Op = store.Install
 		}
 		part := &pending{Change: c, index: i, line: child.ChangeLine(c), reply: []byte(done)}
-		part.later = r.removes(part)
+		part.madeAfter = r.removes(part)
 		if c.Op == store.Remove {
 			removals = append(removals, part)
 			continue
@@ -130,7 +130,7 @@ func (r *Replica) judgeParts(judges *child.Child, p *pending) (answered, ok bool
 		switch {
 		case part.Op != store.Remove:
 			asked[0] = append(asked[0], part)
-		case !part.later:
+		case !part.madeAfter:
 			asked[1] = append(asked[1], part)
 		}
 	}
@@ -138,13 +138,13 @@ func (r *Replica) judgeParts(judges *child.Child, p *pending) (answered, ok bool
 	for _, some := range asked {
 		accepted, refused, err := r.askParts(judges, some)
 		if err != nil {
-			p.tell(answer{err: child.ErrEnded})
+			p.respond(answer{err: child.ErrEnded})
 			return true, false
 		}
 		if made = append(made, accepted...); refused != nil {
-			ok = r.takeAllBack(judges, made)
+			ok = r.rollbackAll(judges, made)
 			p.release.refused = refused.index
-			p.tell(answer{reply: refused.reply})
+			p.respond(answer{reply: refused.reply})
 			return true, ok
 		}
 	}
@@ -185,7 +185,7 @@ func (r *Replica) storeRelease(p *pending) (err error) {
 		all[i] = part.Change
 	}
 	r.mu.Lock()
-	appendAll := r.append
+	appendAll := r.storeAll
 	r.mu.Unlock()
 	p.revision, err = appendAll(context.Background(), all)
 	return err

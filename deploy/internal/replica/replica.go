@@ -71,7 +71,7 @@ type Replica struct {
 	fills     int
 	revision  store.Revision    // of the bundles with which lookups are answered
 	left      map[bundle]string // bundles that servers don't have, and why
-	append    func(context.Context, []store.Change) (store.Revision, error)
+	storeAll  func(context.Context, []store.Change) (store.Revision, error)
 	pause     func() // called before the server that is behind makes the changes, in tests
 }
 
@@ -82,7 +82,7 @@ type bundle struct{ app, locale string }
 func Open(s *sqlite.Store, settings Settings) *Replica {
 	ctx, stop := context.WithCancel(context.Background())
 	r := &Replica{settings: settings, program: settings.Program, store: s, turns: child.NewTurns(settings.Patience), changes: newChanges(), stop: stop,
-		left: map[bundle]string{}, append: s.AppendAll, pause: func() {}, shared: shared{log: settings.Log, theirs: map[bundle]time.Time{}}}
+		left: map[bundle]string{}, storeAll: s.AppendAll, pause: func() {}, shared: shared{log: settings.Log, changedElsewhere: map[bundle]time.Time{}}}
 	r.wake = sync.NewCond(&r.mu)
 	r.stopped.Add(2)
 	if r.log != nil {
@@ -169,7 +169,7 @@ func (r *Replica) await() (batch []*pending, more bool) {
 		return nil, false
 	}
 	if batch, more = r.changes.take(), r.moved; len(batch) == 0 {
-		r.theirs = map[bundle]time.Time{}
+		r.changedElsewhere = map[bundle]time.Time{}
 	}
 	r.moved, r.writing = false, len(batch) > 0 || more
 	r.borrowing.wrote = r.borrowing.wrote || r.writing
@@ -208,7 +208,7 @@ func (r *Replica) change(ctx context.Context, p *pending) (reply []byte, revisio
 		return nil, 0, store.ErrUnreached
 	}
 	p.ctx, p.came, p.line, p.answer = ctx, time.Now(), child.ChangeLine(p.Change), make(chan answer, 1)
-	p.gone, _ = ctx.Value(callerKey{}).(func() bool)
+	p.callerGone, _ = ctx.Value(callerKey{}).(func() bool)
 	r.changes.add(p)
 	r.mu.Lock()
 	r.wake.Broadcast()
@@ -217,7 +217,7 @@ func (r *Replica) change(ctx context.Context, p *pending) (reply []byte, revisio
 	case a := <-p.answer:
 		return a.reply, a.revision, a.err
 	case <-ctx.Done():
-		if !r.isWhole() && r.changes.drop(p) {
+		if !r.isWhole() && r.changes.willBeLeftOut(p) {
 			return nil, 0, child.ErrReplaying
 		}
 		return nil, 0, child.ErrTimeout
@@ -324,26 +324,26 @@ type measure struct {
 }
 
 func newMeasure(kind prometheus.ValueType, name, help string) measure {
-	return measure{prometheus.NewDesc("resb_shard_"+name, help, nil, prometheus.Labels{"shard": "0"}), kind}
+	return measure{prometheus.NewDesc("resb_"+name, help, nil, nil), kind}
 }
 
 var (
-	servesNow    = newMeasure(prometheus.GaugeValue, "serves", "Whether lookups are answered: 1 or 0.")
-	writesNow    = newMeasure(prometheus.GaugeValue, "writes", "Whether the last change could be stored: 1 or 0.")
-	linesTotal   = newMeasure(prometheus.CounterValue, "lines_total", "Lines of callers that were answered.")
-	replaysTotal = newMeasure(prometheus.CounterValue, "replays_total", "How often a server was filled with the bundles.")
-	leftOut      = newMeasure(prometheus.GaugeValue, "left_out", "Bundles that are stored, and that the servers don't have.")
-	memoryBytes  = newMeasure(prometheus.GaugeValue, "memory_bytes", "Memory of the servers.")
-	streamBytes  = newMeasure(prometheus.GaugeValue, "stream_bytes", "Length of the database and its WAL.")
-	bundlesBytes = newMeasure(prometheus.GaugeValue, "bundles_bytes", "Length of the stored bundles.")
-	bundlesNow   = newMeasure(prometheus.GaugeValue, "bundles", "Stored bundles.")
-	revisionNow  = newMeasure(prometheus.CounterValue, "revision", "The last change with which lookups are answered.")
+	servesNow     = newMeasure(prometheus.GaugeValue, "serves", "Whether lookups are answered: 1 or 0.")
+	writesNow     = newMeasure(prometheus.GaugeValue, "writes", "Whether the last change could be stored: 1 or 0.")
+	linesTotal    = newMeasure(prometheus.CounterValue, "lines_total", "Lines of callers that were answered.")
+	replaysTotal  = newMeasure(prometheus.CounterValue, "replays_total", "How often a server was filled with the bundles.")
+	leftOut       = newMeasure(prometheus.GaugeValue, "left_out", "Bundles that are stored, and that the servers don't have.")
+	memoryBytes   = newMeasure(prometheus.GaugeValue, "memory_bytes", "Memory of the servers.")
+	databaseBytes = newMeasure(prometheus.GaugeValue, "database_bytes", "Length of the database and its WAL.")
+	bundlesBytes  = newMeasure(prometheus.GaugeValue, "bundles_bytes", "Length of the stored bundles.")
+	bundlesNow    = newMeasure(prometheus.GaugeValue, "bundles", "Stored bundles.")
+	revisionNow   = newMeasure(prometheus.GaugeValue, "revision", "The last change with which lookups are answered.")
 )
 
 // Describe names the metrics of a replica.
 func (r *Replica) Describe(to chan<- *prometheus.Desc) {
 	for _, m := range []measure{
-		servesNow, writesNow, linesTotal, replaysTotal, leftOut, memoryBytes, streamBytes, bundlesBytes, bundlesNow, revisionNow,
+		servesNow, writesNow, linesTotal, replaysTotal, leftOut, memoryBytes, databaseBytes, bundlesBytes, bundlesNow, revisionNow,
 	} {
 		to <- m.desc
 	}
@@ -369,7 +369,7 @@ func (r *Replica) Collect(to chan<- prometheus.Metric) {
 	}
 	for m, value := range map[measure]float64{
 		servesNow: float64(serves), writesNow: float64(writes), linesTotal: float64(r.turns.Asked() + r.changes.answered()),
-		replaysTotal: float64(fills), leftOut: float64(left), memoryBytes: float64(memory), streamBytes: float64(stats.Files),
+		replaysTotal: float64(fills), leftOut: float64(left), memoryBytes: float64(memory), databaseBytes: float64(stats.Files),
 		bundlesBytes: float64(stats.Bytes), bundlesNow: float64(stats.Bundles), revisionNow: float64(r.Revision()),
 	} {
 		to <- prometheus.MustNewConstMetric(m.desc, m.kind, value)

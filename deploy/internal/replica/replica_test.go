@@ -236,9 +236,9 @@ func TestAChangeThatIsntStored(t *testing.T) {
 func (r *Replica) fail(err error) {
 	r.mu.Lock()
 	defer r.mu.Unlock()
-	r.append = r.store.AppendAll
+	r.storeAll = r.store.AppendAll
 	if err != nil {
-		r.append = func(context.Context, []store.Change) (store.Revision, error) { return 0, err }
+		r.storeAll = func(context.Context, []store.Change) (store.Revision, error) { return 0, err }
 	}
 }
 
@@ -340,7 +340,7 @@ func TestAServerThatEndsWhileAChangeIsStored(t *testing.T) {
 		value := fmt.Sprint(i)
 		kept := i%2 == 1
 		r.mu.Lock()
-		r.append = func(ctx context.Context, all []store.Change) (store.Revision, error) {
+		r.storeAll = func(ctx context.Context, all []store.Change) (store.Revision, error) {
 			r.killServing(t)
 			go func() { found <- r.look("shop", "de", "a") }()
 			time.Sleep(50 * time.Millisecond)

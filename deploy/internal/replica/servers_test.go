@@ -23,7 +23,7 @@ func TestAServerIsBorrowed(t *testing.T) {
 	r := open(t, t.TempDir(), sqlite.Options{})
 	r.put("shop", "de", text("de", "0"))
 	r.mu.Lock()
-	r.append = func(ctx context.Context, all []store.Change) (store.Revision, error) {
+	r.storeAll = func(ctx context.Context, all []store.Change) (store.Revision, error) {
 		if found := regexp.MustCompile(`"(\d+)"`).FindSubmatch(all[0].Body); found != nil && len(found[1])%2 == 0 {
 			return 0, errors.New("it fails")
 		}

@@ -56,8 +56,8 @@ type shared struct {
 	identified  bool
 	trouble     error // why nothing is read or published
 
-	theirs map[bundle]time.Time // when others changed bundles, while changes wait here; an erased application has no locale
-	slow   time.Time            // when a request of the log last took long
+	changedElsewhere map[bundle]time.Time // when others changed bundles, while changes wait here; an erased application has no locale
+	slow             time.Time            // when a request of the log last took long
 }
 
 // watch notes when the log may have more changes, until the context ends.
@@ -239,18 +239,18 @@ func (r *Replica) publishable(batch []*pending) (left []*pending) {
 	r.mu.Unlock()
 	for _, p := range batch {
 		switch {
-		case p.settled:
+		case p.answered:
 		case r.log != nil && p.isOld():
-			p.tell(answer{err: child.ErrTimeout})
-		case r.log != nil && !p.perhaps && (pulse.StoodStill(p.came) || r.isOvertaken(p)):
-			p.tell(answer{err: child.ErrReplaying})
+			p.respond(answer{err: child.ErrTimeout})
+		case r.log != nil && !p.maybeStored && (pulse.StoodStill(p.came) || r.isOvertaken(p)):
+			p.respond(answer{err: child.ErrReplaying})
 		case r.log == nil || trouble == nil:
 			left = append(left, p)
-		case p.perhaps:
-			r.changes.putBack([]*pending{p})
+		case p.maybeStored:
+			r.changes.requeue([]*pending{p})
 			time.Sleep(unreachable)
 		default:
-			p.tell(answer{err: store.ErrUnreached})
+			p.respond(answer{err: store.ErrUnreached})
 		}
 	}
 	return left
@@ -260,7 +260,7 @@ func (r *Replica) publishable(batch []*pending) (left []*pending) {
 // may have been read for long since the change was taken from its queue.
 func (p *pending) isOld() bool {
 	end, has := p.ctx.Deadline()
-	return p.ctx.Err() != nil || has && time.Now().After(end) || p.gone != nil && p.gone()
+	return p.ctx.Err() != nil || has && time.Now().After(end) || p.callerGone != nil && p.callerGone()
 }
 
 // overtake notes the bundles that entries of others change.
@@ -271,11 +271,11 @@ func (r *Replica) overtake(entries []store.Entry) {
 		case e.Op == store.MakeRelease:
 			for _, m := range e.Release.Changes {
 				if !m.Carried {
-					r.theirs[bundle{e.App, m.Locale}] = e.At
+					r.changedElsewhere[bundle{e.App, m.Locale}] = e.At
 				}
 			}
 		default:
-			r.theirs[bundle{e.App, e.Locale}] = e.At
+			r.changedElsewhere[bundle{e.App, e.Locale}] = e.At
 		}
 	}
 }
@@ -304,7 +304,7 @@ func (r *Replica) isOvertaken(p *pending) bool {
 			return true
 		}
 	}
-	for name, at := range r.theirs {
+	for name, at := range r.changedElsewhere {
 		if p.release.erases && name.app == p.App && at.After(p.came) {
 			return true
 		}
@@ -314,7 +314,7 @@ func (r *Replica) isOvertaken(p *pending) bool {
 
 // changedSince returns true if others changed a bundle, or erased its application, after a change came.
 func (r *Replica) changedSince(p *pending, locale string) bool {
-	return r.theirs[bundle{p.App, store.Canonical(locale)}].After(p.came) || r.theirs[bundle{p.App, ""}].After(p.came)
+	return r.changedElsewhere[bundle{p.App, store.Canonical(locale)}].After(p.came) || r.changedElsewhere[bundle{p.App, ""}].After(p.came)
 }
 
 // settle answers the change that was published and may have been stored, by the entry after the revision that it expected.
@@ -325,13 +325,13 @@ func (r *Replica) settle(entries []store.Entry) {
 	}
 	switch first := entries[0]; {
 	case first.ID == p.ID:
-		p.settled = true
-		p.tell(answer{reply: []byte(done), revision: first.Revision})
+		p.answered = true
+		p.respond(answer{reply: []byte(done), revision: first.Revision})
 	case first.Revision == p.revision+1:
-		p.perhaps = false
+		p.maybeStored = false
 	default: // it may have been stored, and followed by another change to its bundle
-		p.settled = true
-		p.tell(answer{err: child.ErrTimeout})
+		p.answered = true
+		p.respond(answer{err: child.ErrTimeout})
 	}
 }
 
@@ -471,17 +471,17 @@ func (r *Replica) publish(ctx context.Context, judges *child.Child, accepted []*
 			more, _, alive := r.read(ctx, judges, func(entries []store.Entry) bool {
 				again = r.concern(entries, accepted)
 				taken = again
-				return !again || r.takeAllBack(judges, accepted)
+				return !again || r.rollbackAll(judges, accepted)
 			})
 			steps = append(steps, more...)
 			if ok = alive; again {
-				r.changes.putBack(accepted)
-				return kept, steps, ok && (taken || r.takeAllBack(judges, accepted))
+				r.changes.requeue(accepted)
+				return kept, steps, ok && (taken || r.rollbackAll(judges, accepted))
 			}
-		case errors.Is(err, store.ErrUnsettled), errors.Is(err, store.ErrUnreached) && p.perhaps:
+		case errors.Is(err, store.ErrUnsettled), errors.Is(err, store.ErrUnreached) && p.maybeStored:
 			r.note(err)
-			ok = r.takeAllBack(judges, accepted)
-			r.changes.putBack(accepted)
+			ok = r.rollbackAll(judges, accepted)
+			r.changes.requeue(accepted)
 			time.Sleep(unreachable)
 			return kept, steps, ok
 		default:
@@ -489,7 +489,7 @@ func (r *Replica) publish(ctx context.Context, judges *child.Child, accepted []*
 			accepted = accepted[1:]
 		}
 	}
-	r.changes.putBack(accepted)
+	r.changes.requeue(accepted)
 	return kept, steps, ok
 }
 
@@ -512,7 +512,7 @@ func (r *Replica) publishOne(ctx context.Context, p *pending) error {
 	}
 	revision, err := r.publishEntry(ctx, p, &p.Change)
 	if errors.Is(err, store.ErrUnsettled) || err == nil {
-		p.perhaps, r.published = true, p
+		p.maybeStored, r.published = true, p
 	}
 	if err == nil {
 		err = r.followOwn(ctx, p.Change, revision)
@@ -554,11 +554,11 @@ func randomName() (string, error) {
 	return hex.EncodeToString(name[:]), err
 }
 
-// takeAllBack takes back changes in the opposite order. It returns false if one can't be taken back.
-func (r *Replica) takeAllBack(judges *child.Child, all []*pending) bool {
+// rollbackAll takes back changes in the opposite order. It returns false if one can't be taken back.
+func (r *Replica) rollbackAll(judges *child.Child, all []*pending) bool {
 	ok := true
 	for i := len(all) - 1; i >= 0 && ok; i-- {
-		ok = r.takeBack(judges, all[i])
+		ok = r.rollback(judges, all[i])
 	}
 	return ok
 }

@@ -601,7 +601,7 @@ func TestAJudgeThatEndsAfterTheChangeIsStored(t *testing.T) {
 	r := open(t, t.TempDir(), sqlite.Options{})
 	r.put("shop", "de", text("de", "A"))
 	r.mu.Lock()
-	r.append = func(ctx context.Context, all []store.Change) (store.Revision, error) {
+	r.storeAll = func(ctx context.Context, all []store.Change) (store.Revision, error) {
 		revision, err := r.store.AppendAll(ctx, all)
 		r.mu.Lock()
 		judges := r.judges

@@ -78,7 +78,7 @@ func (c *connection) pass(length int64) error {
 	return err
 }
 
-// What the header is searched for. A line of it isn't copied.
+// The header's names that are searched for. A line of it isn't copied.
 var colon, contentLength, transferEncoding = []byte(":"), []byte("Content-Length"), []byte("Transfer-Encoding")
 
 // header reads the header, and gives the length of the body, or that it comes in pieces.

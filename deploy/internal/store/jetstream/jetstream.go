@@ -1,5 +1,3 @@
-// Package jetstream is a log of accepted changes in a stream of NATS, which any number of gateways share. deploy/PROTOCOL.md
-// describes its messages, and why each change is stored at most once.
 package jetstream
 
 import (
@@ -42,7 +40,7 @@ const (
 	partsHeader   = "Resb-Parts"
 )
 
-// How long a request waits for its answer; one that reads a long entry again waits longer.
+// The times that a request waits for its answer; one that reads a long entry again waits longer.
 const (
 	patience     = 2 * time.Second
 	mostPatience = 32 * time.Second

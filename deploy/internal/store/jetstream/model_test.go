@@ -5,7 +5,7 @@ import (
 	"testing"
 )
 
-// This is a model of deploy/PROTOCOL.md: two gateways, the stream, and the messages between them. TestModel visits every state that any
+// This is a model of doc.go: two gateways, the stream, and the messages between them. TestModel visits every state that any
 // interleaving of their steps reaches, with lost and repeated messages, acknowledgements that don't arrive, a kill and a restart
 // with or without the gateway's database. A gateway that stands still is one that takes no step while others do. A release has one
 // part, and an application two slots.
@@ -148,7 +148,7 @@ func (v *view) remove(key uint8) {
 	}
 }
 
-// apply makes an entry of a revision, as a gateway does after it was stored.
+// apply makes an entry of a revision, like a gateway once the entry is stored.
 func (v *view) apply(d design, e entry, revision uint8) {
 	v.revision = revision
 	for key := uint8(0); key < 2; key++ {
