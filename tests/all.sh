@@ -1,12 +1,13 @@
 #!/usr/bin/env bash
-# Runs all tests, side by side where processors allow, and prints a line with its time for each part.
+# Runs all tests, side by side where processors allow, and prints a line for each part with its time and its processor time.
 #
 # usage: all.sh [--quick]
 #   --quick  leaves out the gate (`rt ci`), the mutants and the programs that the toolchain interprets; needs a built program
 #
 # The gate proves every crate from nothing, runs the tests in Rattle and builds the program. The mutants in crates/*/gate/ come after
-# it, as they are tried over the libraries that it proved. What runs the built program comes last. A part that can't run because a tool
-# is missing is skipped, counted, and named in the last lines; tools/need names the packages that are missing.
+# it, as they are tried over the libraries that it proved. What runs the built program comes last; tests in Python are run by pytest, which
+# prints a line for each file. What can't run because a tool is missing is skipped, counted by its reason, and named in the last lines;
+# tools/need names the packages that are missing. JUNIT names a file for pytest's results.
 # Ends with status 0 if every part that ran passed, and else with 1.
 set -u
 cd "$(dirname "$0")/.." || exit 2
@@ -23,16 +24,22 @@ program=crates/rb_tool/out/rb_tool
 logs=$(mktemp -d)
 trap 'rm -rf "$logs"' EXIT
 processors=$(nproc)
+# Debian's packages work with Debian's interpreter only
+python=$(for one in python3 /usr/bin/python3; do
+    if "$one" -c 'import hypothesis, pytest, xdist' 2>/dev/null; then command -v "$one" && break; fi
+done)
 
-# part NAME COMMAND..: runs a part, and prints its time, its skipped tests, and its output if it fails
+# part NAME COMMAND..: runs a part, and prints its times, its skipped tests, and its output if it fails
 part() {
-    local name=$1 began=$SECONDS status=0
+    local name=$1 began=$SECONDS status=0 used TIMEFORMAT='%U %S'
     local log="$logs/$name.log"
     shift
-    "$@" >"$log" 2>&1 </dev/null || status=$?
+    { time "$@" >"$log" 2>&1 </dev/null; } 2>"$logs/$name.used" || status=$?
+    used=$(awk '{ print int($1 + $2) }' "$logs/$name.used")
     if [ "$status" = 0 ]; then
-        printf 'ok      %5d s  %s\n' $((SECONDS - began)) "$name"
-        grep -i 'skipped' "$log" | sed "s/^/$name: /" >"$logs/$name.skipped"
+        printf 'ok      %5d s  %s, %d s of processor time\n' $((SECONDS - began)) "$name" "$used"
+        grep '^ok  ' "$log"
+        grep -i 'skipped' "$log" | grep -v ' passed' | sed "s/^skipped  */skipped /; s/^/$name: /" >"$logs/$name.skipped"
     else
         { printf 'FAILED  %5d s  %s, status %s:\n' $((SECONDS - began)) "$name" "$status" && failures "$log"; } | tee "$logs/$name.failed"
     fi
@@ -65,6 +72,17 @@ start_if() {
     fi
 }
 
+# pytest NAME MARKED OPTION..: starts the tests in Python with a mark, if an interpreter has what they need
+pytest() {
+    local name=$1 marked=$2
+    shift 2
+    if [ -z "$python" ]; then
+        echo "$name: skipped: pytest, hypothesis or xdist is missing" | tee "$logs/$name.skipped"
+        return
+    fi
+    part "$name" "$python" -m pytest tests -m "$marked" --program="$program" ${JUNIT:+--junit-xml "${JUNIT%.xml}-$name.xml"} "$@"
+}
+
 # proofs LANES: runs the gate with one job for each proof: a second one costs half as much processor time again for little gain
 proofs() {
     RT_JOBS=$1 rt ci
@@ -90,8 +108,8 @@ summary() {
     wait
     cat "$logs"/*.skipped 2>/dev/null >"$logs/all"
     echo "$(find "$logs" -name '*.log' | wc -l) parts in $((SECONDS / 60)) min $((SECONDS % 60)) s," \
-        "$(find "$logs" -name '*.failed' | wc -l) failed, $(wc -l <"$logs/all") tests skipped"
-    cat "$logs/all"
+        "$(find "$logs" -name '*.failed' | wc -l) failed, $(wc -l <"$logs/all") reasons why tests were skipped"
+    sort "$logs/all" | uniq -c
     for failed in "$logs"/*.failed; do
         [ ! -e "$failed" ] || head -n 1 "$failed"
     done
@@ -104,10 +122,11 @@ if [ -n "$quick" ] && [ ! -x "$program" ]; then
 fi
 lacks=$(tools/need) || printf 'These packages are missing, so tests are skipped (tools/need --install):\n%s\n' "$lacks"
 start launcher tests/launcher.sh
-start_if mandoc manual mandoc -T lint -W warning docs/resb.1 docs/icu2text.1 docs/resb-exchange.1
+start release tests/release.sh
 start_if python3 definitions tests/trusted.py --inner
-start_if python3 pictures bench/draw.py --check
-start_if python3 first_build bench/first_build.py --self-test
+start_if python3 functions bench/functions.py --self-test
+start_if pyflakes3 pyflakes pyflakes3 tests bench bin/*.py library/python tools/lsp tools/exchange tools/icu2text
+start_if mypy mypy mypy --cache-dir=/dev/null tests/support
 if [ -z "$quick" ]; then
     # these interpret programs and need no proof, so they run beside the gate
     part memory tests/memory.sh &
@@ -121,20 +140,20 @@ if [ -z "$quick" ]; then
     # `rt ci` proves the library and builds no archive: this one is built over the libraries that it left
     start_if gcc library tests/library.sh --bare
     if command -v python3 >/dev/null; then
-        part mutants tests/edits.py --gate --bare --jobs "$(lanes)" --within 15
+        part mutants tests/edits.py --gate --jobs "$(lanes)" --within 15
         tail -n 1 "$logs/mutants.log"
     fi
 fi
 [ -z "$quick" ] || gateways &
-for script in examples replies stdout files clients project package; do
+for script in examples replies stdout files clients project page_commands package; do
     start "$script" "tests/$script.sh" "$program"
 done
-for script in commands bundles fmt coverage diff lint_formats lint_texts lint_warnings messages terminals documents completions traces pipe ignored_members icu2text json_values json_in inherit parents exchange; do
-    start_if python3 "$script" "tests/$script.py" "$program"
+while [ "$(jobs -rp | wc -l)" -ge "$processors" ]; do
+    wait -n
 done
+start_if cc refused_allocations tests/refused_allocations.py "$program"
+pytest python 'not alone and not hand' -n $(((processors + 1) / 2)) &
 start_if python3 pages tools/pages --check "$program"
-start_if python3 daily bench/daily.py --self-test "$program"
-start_if python3 printing bench/text.py --self-test "$program"
 start_if genrb icu tests/icu.sh "$program" brkitr translit
 # the library was begun beside the mutants, unless nothing is to be proved
 if [ -n "$quick" ]; then
@@ -146,8 +165,5 @@ if [ -n "$quick" ]; then
 fi
 wait
 # what measures memory or time has the machine to itself
-if command -v python3 >/dev/null; then
-    part limits tests/limits.py "$program"
-    part costs tests/costs.py "$program"
-fi
+pytest alone 'alone and not hand'
 summary

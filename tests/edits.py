@@ -14,23 +14,18 @@ doesn't show what is left. It doesn't count that a function calls another one th
 mutant removed. A mutant that isn't refused together with others is tried alone before it is reported. A mutant that changes no function
 (a constant, for instance) is tried alone, and any function's goal counts.
 
-There are two ways to check:
-- Over out/incremental, on a copy of the crate with the work that `rt check` kept. The whole crate is checked.
-- With --bare, over the libraries in crates/*/out/rlib, which `rt ci` and `rt check` leave there. Only the functions that the mutants
-  change, and what these call, are checked (`rattle check --only`), the first time from nothing. A mutant of a constant is checked at
-  the functions whose text names the constant. The caller has to know that the crates are proved without a mutant: `rt ci` shows it.
+A mutant is checked over the libraries in crates/*/out/rlib, which `rt ci` and `rt check` leave there. Only the functions that it changes, and what
+these call, are checked (`rattle check --only`), the first time from nothing. A mutant of a constant is checked at the functions whose text names the
+constant. The caller has to know that the crates are proved without a mutant: `rt ci` shows it.
 
 Prints a line for each mutant that isn't refused, and at the end `N refused, M not`. Ends with status 1 if one is not. Reads the work
 tree only.
 
-usage: edits.py [--gate | --all] [--bare] [--alone] [--jobs N] [--within MINUTES] [--times FILE] [CRATE ..]   (default: edits/ of all crates)
+usage: edits.py [--gate | --all] [--jobs N] [--within MINUTES] [CRATE ..]   (default: edits/ of all crates)
   --gate        tries the mutants in gate/, and no others
   --all         tries those of gate/, edits/ and must-fail/
-  --bare        checks only what the mutants change, over the libraries that `rt ci` left
-  --alone       tries each mutant in its own check
   --jobs N      runs N checks side by side (default: 1; each takes one processor and 1 to 3 GB)
   --within M    begins no crate's mutants after this many minutes; they are counted as not tried
-  --times FILE  appends a line for each check: processor seconds, crate, mutants
 The variable RT names the command `rt`, if it is another one.
 """
 import argparse
@@ -46,7 +41,6 @@ import tempfile
 import time
 from concurrent.futures import ThreadPoolExecutor
 from dataclasses import dataclass, field
-from queue import Queue
 
 TOP = os.path.dirname(os.path.dirname(os.path.abspath(__file__)))
 RT = os.environ.get("RT", "rt")
@@ -172,49 +166,9 @@ def groups_of(edits):
 
 
 def run(words, folder):
-    """Runs a command in a folder; returns its status, what it printed on both streams, and its processor seconds."""
-    how = {"cwd": folder, "stdin": subprocess.DEVNULL, "stdout": subprocess.PIPE, "stderr": subprocess.STDOUT}
-    process = subprocess.Popen(words, **how)
-    said = process.stdout.read().decode(errors="replace")
-    process.stdout.close()
-    _, status, used = os.wait4(process.pid, 0)
-    process.returncode = os.waitstatus_to_exitcode(status)
-    return process.returncode, said, used.ru_utime + used.ru_stime
-
-
-class Mutated:
-    """A copy of a crate in which mutants are tried."""
-
-    def check(self, edits):
-        """Checks the crate with some mutants; returns what the check printed, and its processor seconds."""
-        texts = {}
-        for edit in edits:
-            for file, old, new in edit.texts:
-                if file not in texts:
-                    with open(f"{self.crate}/{file}", encoding="utf-8") as it:
-                        text = it.read()
-                        texts[file] = [text, text]
-                texts[file][1] = texts[file][1].replace(old, new, 1)
-        try:
-            for file, (_, text) in texts.items():
-                with open(f"{self.crate}/{file}", "w", encoding="utf-8") as it:
-                    it.write(text)
-            return self.run(edits)
-        finally:
-            for file, (text, _) in texts.items():
-                with open(f"{self.crate}/{file}", "w", encoding="utf-8") as it:
-                    it.write(text)
-
-
-class Copy(Mutated):
-    """A copy of all crates, with the work that their checks kept."""
-
-    def __init__(self, folder, crate):
-        self.folder, self.crate = folder, f"{folder}/crates/{crate}"
-
-    def run(self, _edits):
-        _, said, seconds = run([RT, "check", "--jobs", "1"], self.crate)
-        return said, seconds
+    """Runs a command in a folder; returns its status, and what it printed on both streams."""
+    done = subprocess.run(words, cwd=folder, stdin=subprocess.DEVNULL, stdout=subprocess.PIPE, stderr=subprocess.STDOUT, errors="replace", check=False)
+    return done.returncode, done.stdout
 
 
 @functools.lru_cache(maxsize=None)
@@ -260,7 +214,7 @@ def users_of(edit, crate):
     return found
 
 
-class Bare(Mutated):
+class Copy:
     """A copy of one crate, in which mutants are tried over the libraries that `rt ci` left."""
 
     def __init__(self, folder, crate):
@@ -269,20 +223,38 @@ class Bare(Mutated):
             if os.path.isdir(f"{TOP}/crates/{crate}/{part}"):
                 shutil.copytree(f"{TOP}/crates/{crate}/{part}", f"{self.crate}/{part}")
 
+    def check(self, edits):
+        """Checks the crate with some mutants; returns what the check printed."""
+        texts = {}
+        for edit in edits:
+            for file, old, new in edit.texts:
+                if file not in texts:
+                    with open(f"{self.crate}/{file}", encoding="utf-8") as it:
+                        text = it.read()
+                        texts[file] = [text, text]
+                texts[file][1] = texts[file][1].replace(old, new, 1)
+        try:
+            for file, (_, text) in texts.items():
+                with open(f"{self.crate}/{file}", "w", encoding="utf-8") as it:
+                    it.write(text)
+            return self.run(edits)
+        finally:
+            for file, (text, _) in texts.items():
+                with open(f"{self.crate}/{file}", "w", encoding="utf-8") as it:
+                    it.write(text)
+
     def run(self, edits):
         only = set()
         for edit in edits:
             only |= {path_of(it) for _, it in edit.functions} or {""}
         words = [rtlib().RATTLE, "check", *named(self.name).words(["--jobs", "1"], keeps=False), "--incremental", self.kept]
-        seconds = 0
         for paths in (only, {it.rpartition("::")[0] for it in only}, {""}):
             flags = [it for path in sorted(paths) for it in ("--only", path)] if "" not in paths else []
-            status, said, more = run([*rtlib().guarded(), *words, *flags], self.crate)
-            seconds += more
+            status, said = run([*rtlib().guarded(), *words, *flags], self.crate)
             # 2: a path names no function, as happens for the methods of an impl
             if status != 2:
                 break
-        return said, seconds
+        return said
 
 
 def reached(said):
@@ -301,31 +273,27 @@ def answered(names, error):
 
 
 def refusals(said, crate):
-    """Returns what is refused at a goal itself: (paths of functions, places in the source), each with the line that says so."""
-    paths, places = {}, {}
+    """Returns what is refused at a goal itself: paths of functions, and places in the source."""
+    paths, places = set(), set()
     for line in said.split("\n"):
         function = re.match(r"fn (\S+): (?:no proof|not proved)(.*)", line)
         proof = re.match(r"(?:\./)?proofs/(\S+)/(?:Answers|Proof|Invariants)\.antt:\d+:\d+: error: (.*)", line)
         place = re.match(r"(?:note: )?(?:\./)?(src/\S+?):(\d+):\d+: (?:error: )?.*(?:it is not proved that|not proved)", line)
         if function and "did not prove" in function[2]:
-            paths.setdefault(tuple(function[1].removeprefix(f"{crate}::").split("::")), line)
+            paths.add(tuple(function[1].removeprefix(f"{crate}::").split("::")))
         elif proof and not NAMES.search(proof[2]):
-            paths.setdefault(answered(proof[1].split("/"), proof[2]), line)
+            paths.add(answered(proof[1].split("/"), proof[2]))
         elif place:
-            places.setdefault((place[1], int(place[2]) - 1), line)
+            places.add((place[1], int(place[2]) - 1))
     return paths, places
 
 
 def is_refused(edit, said, crate):
+    """Returns whether a goal of a function that a mutant changes is refused, or of any function if it changes none."""
     paths, places = refusals(said, crate)
-    if edit.is_loose and (paths or places):
-        return True
-    for file, function in edit.functions:
-        if any(function.is_named(it) for it in paths):
-            return True
-        if any(at == file and function.first <= line <= function.last for at, line in places):
-            return True
-    return False
+    return edit.is_loose and bool(paths or places) or any(
+        any(function.is_named(it) for it in paths) or any(at == file and function.first <= line <= function.last for at, line in places)
+        for file, function in edit.functions)
 
 
 def why_not(edit, said, crate):
@@ -342,129 +310,43 @@ def why_not(edit, said, crate):
     return f"no goal of a function that it changes is refused{': ' + error[:160] if error else ''}"
 
 
-def trial(copy, edits, crate, times):
+def trial(copy, edits, crate):
     """Tries mutants together, and in halves if together they do not reach the prover; returns each with whether it is refused."""
-    said, seconds = copy.check(edits)
-    if times:
-        with open(times, "a", encoding="utf-8") as it:
-            it.write(f"{seconds:.1f} {crate} {' '.join(edit.label for edit in edits)}\n")
+    said = copy.check(edits)
     if reached(said) or len(edits) == 1:
         return [(it, is_refused(it, said, crate) and reached(said), said) for it in edits]
     half = len(edits) // 2
-    return trial(copy, edits[:half], crate, times) + trial(copy, edits[half:], crate, times)
+    return trial(copy, edits[:half], crate) + trial(copy, edits[half:], crate)
 
 
-def needed(crate, listed):
-    found = {crate}
-    for it in listed.get(crate, []):
-        if it in listed:
-            found |= needed(it, listed)
-    return found
-
-
-def copied(room, crate, listed):
-    """Copies a crate, with those below it and what their checks kept, and checks it once without edits."""
-    base = f"{room}/0"
-    os.makedirs(f"{base}/crates")
-    names = needed(crate, listed)
-    with open(f"{base}/crates.txt", "w") as it:
-        it.writelines(f"{name}: {' '.join(listed[name])}\n" for name in listed if name in names)
-    if os.path.isfile(f"{TOP}/HANDLES"):
-        shutil.copy(f"{TOP}/HANDLES", base)
-    for name in names:
-        ignored = ("must-fail", "edits", "*.log") + (() if name == crate else ("incremental",))
-        shutil.copytree(f"{TOP}/crates/{name}", f"{base}/crates/{name}", ignore=shutil.ignore_patterns(*ignored))
-    said, _ = Copy(base, crate).check([])
-    if not re.search(r"^logic=proved", said, re.M):
-        sys.exit(f"edits: {crate} is not proved without an edit:\n{said[-2000:]}")
-    return base
-
-
-def another(room, number, base, crate):
-    """One more copy: the crates below are shared by links between the copies, as a check only reads them."""
-    folder = f"{room}/{number}"
-    os.makedirs(f"{folder}/crates")
-    for name in os.listdir(f"{base}/crates"):
-        how = {"copy_function": shutil.copy2 if name == crate else os.link}
-        shutil.copytree(f"{base}/crates/{name}", f"{folder}/crates/{name}", **how)
-    for name in os.listdir(base):
-        if name != "crates":
-            shutil.copy(f"{base}/{name}", folder)
-    return folder
-
-
-@dataclass(frozen=True)
-class How:
-    """How mutants are tried: each alone or many together, in how many checks at a time, by which kind of check."""
-
-    alone: bool
-    jobs: int
-    bare: bool
-    times: str  # the file to which the times of checks are appended, or none
-
-
-def copies(room, crate, listed, how, number):
-    """Makes as many copies of a crate as there are checks side by side."""
-    free = Queue()
-    base = None if how.bare else copied(room, crate, listed)
-    for at in range(min(how.jobs, number)):
-        if how.bare:
-            free.put(Bare(f"{room}/{at}", crate))
-        else:
-            free.put(Copy(another(room, at, base, crate) if at else base, crate))
-    return free
-
-
-def tried(crate, groups, listed, how):
+def tried(crate, groups):
     """Tries groups of mutants, and alone those that were not refused together; returns what is known of each by its label."""
-    with tempfile.TemporaryDirectory(prefix="edits-") as room:
-        free = copies(room, crate, listed, how, len(groups))
-
-        def work(group):
-            copy = free.get()
-            try:
-                return trial(copy, group, crate, how.times)
-            finally:
-                free.put(copy)
-
-        with ThreadPoolExecutor(min(how.jobs, len(groups))) as pool:
-            together = [it for some in pool.map(work, groups) for it in some]
-            last = {it.label: (refused, said) for it, refused, said in together}
-            again = [it for it, refused, _ in together if not refused and [it] not in groups]
-            for some in pool.map(work, [[it] for it in again]):
-                last.update({it.label: (refused, said) for it, refused, said in some})
-    return last, len(again)
+    with tempfile.TemporaryDirectory(prefix="edits-") as folder:
+        copy = Copy(folder, crate)
+        together = [it for group in groups for it in trial(copy, group, crate)]
+        again = [it for it, refused, _ in together if not refused and [it] not in groups]
+        last = together + [it for one in again for it in trial(copy, [one], crate)]
+    return {it.label: (refused, said) for it, refused, said in last}, len(again)
 
 
-def try_in_time(crate, edits, listed, how, end):
-    """Tries a crate's mutants, unless the time is over; returns how many are refused, are not, and were not tried."""
+def try_crate(crate, edits, end):
+    """Tries a crate's mutants, unless the time is over, and prints those that are not refused; returns how many are refused, are not, and were not
+    tried."""
     if time.monotonic() > end:
         print(f"{crate}: {len(edits)} not tried, as the time is over", flush=True)
         return 0, 0, len(edits)
-    return *try_crate(crate, edits, listed, how), 0
-
-
-def try_crate(crate, edits, listed, how):
-    """Tries a crate's mutants, prints those that are not refused, and returns how many are refused and how many are not."""
-    for edit in edits:
-        if edit.fault:
-            print(f"{edit.label}: {edit.fault}", flush=True)
     good = [it for it in edits if not it.fault]
-    if not good:
-        return 0, len(edits)
-    for edit in good if how.bare else ():
-        if edit.is_loose:
-            users = users_of(edit, crate)
-            edit.functions |= users
-            edit.is_loose = not users
-    groups = [[it] for it in good] if how.alone else groups_of(good)
-    last, again = tried(crate, groups, listed, how)
-    for edit in good:
-        if not last[edit.label][0]:
-            print(f"{edit.label}: {why_not(edit, last[edit.label][1], crate)}", flush=True)
+    for edit in (it for it in good if it.is_loose):
+        users = users_of(edit, crate)
+        edit.functions, edit.is_loose = edit.functions | users, not users
+    groups = groups_of(good)
+    last, again = tried(crate, groups)
+    for edit in edits:
+        if edit.fault or not last[edit.label][0]:
+            print(f"{edit.label}: {edit.fault or why_not(edit, last[edit.label][1], crate)}", flush=True)
     refused = sum(it for it, _ in last.values())
     print(f"{crate}: {refused} of {len(edits)} refused, in {len(groups)} checks and {again} alone", flush=True)
-    return refused, len(edits) - refused
+    return refused, len(edits) - refused, 0
 
 
 def edits_in(crate, name):
@@ -486,11 +368,8 @@ def parsed():
     which = said.add_mutually_exclusive_group()
     which.add_argument("--gate", action="store_true")
     which.add_argument("--all", action="store_true")
-    said.add_argument("--bare", action="store_true")
-    said.add_argument("--alone", action="store_true")
     said.add_argument("--jobs", type=int, default=1)
     said.add_argument("--within", type=float, default=float("inf"))
-    said.add_argument("--times", default="")
     said.add_argument("crates", nargs="*")
     return said.parse_args()
 
@@ -499,24 +378,20 @@ def main():
     given = parsed()
     with open(f"{TOP}/crates.txt") as it:
         lines = [line.split("#")[0].partition(":") for line in it if ":" in line.split("#")[0]]
-    listed = {name.split()[0]: libraries.split() for name, _, libraries in lines}
+    listed = [name.split()[0] for name, _, _ in lines]
     unknown = [it for it in given.crates if it not in listed]
     if unknown:
         sys.exit(f"edits: no crate {unknown[0]}")
-    if given.bare:
-        # rtlib sets a signal handler, which only the main thread may do
-        rtlib()
+    rtlib()  # sets a signal handler, which only the main thread may do
     tasks = []
     for crate in given.crates or listed:
         edits = [edit for folder in folders_of(given) for edit in edits_in(crate, folder)]
         if edits:
             tasks.append((crate, edits))
-    jobs = max(1, given.jobs)
-    how = How(given.alone, 1 if given.bare else jobs, given.bare, given.times)
-    # With --bare the checks of one crate share what they keep, so crates run side by side.
-    with ThreadPoolExecutor(jobs if given.bare else 1) as pool:
+    # the checks of one crate share what they keep, so crates run side by side
+    with ThreadPoolExecutor(max(1, given.jobs)) as pool:
         end = time.monotonic() + 60 * given.within
-        found = list(pool.map(lambda task: try_in_time(*task, listed, how, end), tasks))
+        found = list(pool.map(lambda task: try_crate(*task, end), tasks))
     refused, others, left = (sum(it[at] for it in found) for at in (0, 1, 2))
     print(f"{refused} refused, {others} not" + (f", {left} not tried" if left else ""))
     return 1 if others else 0

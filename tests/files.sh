@@ -12,7 +12,6 @@ if [ ! -x "$program" ]; then
     exit 0
 fi
 program=$(realpath "$program")
-here=$(cd "$(dirname "$0")" && pwd)
 made=$(mktemp -d) || exit 2
 trap 'rm -rf "$made"' EXIT
 cd "$made" || exit 2
@@ -235,11 +234,6 @@ disk/fr.res: wrote 76 bytes
 2' small "'$program' compile big.txt /dev/stdout >disk/f || echo \$?; test -L /dev/stdout; test -f disk/f"
 else
     echo 'files: skipped: a full disk, which only root can make'
-fi
-
-# Random folders, command lines, limits and signals.
-if command -v python3 >/dev/null; then
-    holds 'five seconds of attack' "$here/attack_files.py" "$program" 5 "$RANDOM"
 fi
 
 # terminal COMMAND..: runs a command on a terminal, and removes the carriage returns that the terminal adds

@@ -17,36 +17,19 @@ import re
 import shlex
 import socket
 import struct
-import subprocess
 import sys
 import tempfile
 
-import documents
+from support.pages import bad_links, differences, indented, output_of, script_of, text_of
 
 # of Linux' if.h and sockios.h
 IFF_UP, IFF_RUNNING, SIOCSIFFLAGS = 0x1, 0x40, 0x8914
 
 
-def text_of(path):
-    with open(path, encoding="utf-8") as file:
-        return file.read()
-
-
-def bad_links(folder, page):
-    """Returns the relative links of a page that lead out of the folder or nowhere."""
-    for link in re.findall(r"\]\(([^)\s]+)\)", text_of(page)):
-        file, _, heading = link.partition("#")
-        if re.match(r"[a-z]+:", link):
-            continue
-        target = os.path.realpath(os.path.join(os.path.dirname(page), file)) if file else page
-        if os.path.commonpath([folder, target]) != folder or not os.path.exists(target) or heading and heading not in documents.anchors(target):
-            yield link
-
-
 def links(folder):
     folder = os.path.realpath(folder)
     pages = glob.glob(os.path.join(folder, "**", "*.md"), recursive=True)
-    wrong = [f"{os.path.relpath(page, folder)}: {link}" for page in pages for link in bad_links(folder, page)]
+    wrong = [f"{os.path.relpath(page, folder)}: {link}" for page in pages for link in bad_links(page, folder)]
     print("".join(f"{line}\n" for line in wrong), end="")
     if not pages:
         print(f"{folder} has no pages")
@@ -70,25 +53,17 @@ def block(page, name):
 def run(root, page, name=None):
     """Runs the commands of a page, or of a section of it, and prints what differs."""
     text = text_of(os.path.join(root, page.lstrip("/")))
-    asked = documents.readme_asked(section(text, name) if name else text)
+    asked = indented(section(text, name) if name else text)
     with tempfile.TemporaryDirectory(dir=os.path.join(root, "tmp")) as folder:
-        inside = folder[len(root.rstrip("/")) :]
-        with open(os.path.join(folder, "script"), "w", encoding="utf-8") as file:
-            file.write(f"cd {'/usr/lib/resb-gateway' if name else inside}\n" + documents.script_of(asked))
-        done = subprocess.run(
-            ["chroot", root, "/bin/sh", inside + "/script"],
-            env={"PATH": "/usr/bin:/usr/sbin:/bin:/sbin", "HOME": "/root", "LC_ALL": "C.UTF-8"},
-            stdin=subprocess.DEVNULL,
-            stdout=subprocess.PIPE,
-            stderr=subprocess.STDOUT,
-            timeout=120,
-            check=False,
-        )
-    differ = documents.count_differences(page, asked, documents.answers_in(done.stdout.decode("utf-8", "replace")))
+        inside = "/usr/lib/resb-gateway" if name else folder[len(root.rstrip("/")):]
+        given = {"PATH": "/usr/bin:/usr/sbin:/bin:/sbin", "HOME": "/root", "LC_ALL": "C.UTF-8"}
+        output = output_of(f"cd {inside}\n" + script_of(asked), "chroot", root, env=given)
+    wrong = differences(page, asked, output)
+    print(*wrong, sep="\n")
     if len(asked) < 2:
         sys.exit(f"installed: {page} has no commands")
-    print(f"{'FAILED' if differ else 'ok'}: {len(asked) - 1 - differ} commands of {page} agree, {differ} differ")
-    return 1 if differ else 0
+    print(f"{'FAILED' if wrong else 'ok'}: {len(asked) - 1 - len(wrong)} commands of {page} agree, {len(wrong)} differ")
+    return 1 if wrong else 0
 
 
 def step(file, name):

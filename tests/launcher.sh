@@ -58,9 +58,10 @@ trial 'a checkout that was moved' 'ran: serve; 0' "$made/second/bin/resb" serve
 # a toolchain that is nowhere
 tools=$made/tools
 mkdir "$tools"
-for tool in dirname readlink realpath find sed awk wc date nproc tee grep mktemp mv rm cat; do
+for tool in dirname readlink realpath find sed nproc tee grep mktemp mkdir mv rm cat sleep chmod touch env; do
     ln -s "$(command -v "$tool")" "$tools/$tool"
 done
+ln -s "$(python3 -c 'import sys; print(sys.executable)')" "$tools/python3"
 second=$made/second
 without() {
     env PATH="$tools" "$second/bin/resb" "$@"
@@ -82,7 +83,8 @@ rt() {
     printf '%s\n' '#!/bin/sh' 'echo "of rt: $*"' "$@" >"$tools/rt"
     chmod +x "$tools/rt"
 }
-building='resb: proving and building; a first build takes 25 to 40 minutes'
+building='resb: proving and building; a first build takes 25 to 40 minutes, and one that is interrupted continues where it stopped
+resb: bin/resb --unproved COMMAND answers in two to three minutes meanwhile'
 
 rt 'exit 1'
 trial 'a build that fails' "$building
@@ -91,23 +93,13 @@ resb: the build failed; 2" env RESB_JOBS=3 PATH="$tools" "$second/bin/resb" serv
 
 # It proves the crates, links the program, and prints its version, as the real one does.
 rt 'case $* in' \
-    "'all check --jobs 3') echo '== rb_arguments'; echo '== rb_tree'; echo '== rb_requests'; echo '== rb_tool'; echo '== summary' ;;" \
+    "'all check --jobs 3') ;;" \
     "*) $(command -v mv) '$made/rb_tool' out/rb_tool; echo 'resb 0.0.0' ;;" \
     'esac'
 trial 'a build says so on standard error, and nothing of it is on standard output' 'ran: check a; 0' \
     env RESB_JOBS=3 PATH="$tools" /bin/sh -c '"$0" check a 2>"$1"' "$second/bin/resb" "$made/said"
-trial 'each crate has a line' "$building
-resb: 0:00: rb_arguments is checked, 3 to go
-resb: a build from nothing takes about 1 min on this machine
-resb: bin/resb --unproved COMMAND answers in two minutes meanwhile; an interrupted build continues where it stopped
-resb: 0:00: rb_tree is checked, 2 to go
-resb: 0:00: rb_requests is checked, 1 to go
-resb: 0:00: rb_tool is checked, 0 to go; 0" sed -E 's/0:[0-9]+:/0:00:/' "$made/said"
+trial 'what a build writes' "$building; 0" cat "$made/said"
 cp "$second/crates/rb_tool/out/rb_tool" "$made/rb_tool"
-touch -d '1 hour' "$second/crates/rb_tool/src/main.rt"
-mkdir -p "$second/crates/rb_tree/out/rlib"
-trial 'a build over stored proofs says no time of a first one' '0; 0' \
-    env RESB_JOBS=3 PATH="$tools" /bin/sh -c '"$0" check a 2>&1 | grep -c "from nothing" || :' "$second/bin/resb"
 touch -d '1 hour ago' "$second/crates/rb_tool/src/main.rt"
 trial 'a program that was just built' 'ran: check a; 0' without check a
 
@@ -118,14 +110,25 @@ rm "$second/crates/rb_tool/out/rb_tool"
 trial 'no build is wanted, and there is no program' 'resb: not built, and RESB_NO_BUILD is set; 2' \
     env RESB_NO_BUILD=1 PATH="$tools" "$second/bin/resb" check a
 
-rt 'exit 0'
-echo 'de {}' >"$made/de.txt"
-cd "$made" || exit 2
-trial 'nothing proved, with a file' "resb: nothing is proved in this run; it begins in a minute or two
-of rt: try --seconds 600 --data de.txt=$made/de.txt -- check de.txt; 0" \
-    env PATH="$tools" "$second/bin/resb" --unproved check de.txt
-echo 'at {}' >"$made/at.txt"
-trial 'nothing proved, with files in the middle' "resb: nothing is proved in this run; it begins in a minute or two
-of rt: try --seconds 600 --data at.txt=$made/at.txt --data de.txt=$made/de.txt -- look de=de.txt at=at.txt -q; 0" \
-    env PATH="$tools" "$second/bin/resb" --unproved look de=de.txt at=at.txt -q
+touch -d '1 hour ago' "$second/crates/rb_tool/src/main.rt"
+rt 'echo cannot compile >&2' 'exit 1'
+compiling='resb: compiling with nothing proved, which takes two to three minutes; the next --unproved command begins at once'
+unproved='resb: nothing is proved of the program that runs'
+trial 'nothing proved, and it does not compile' "$compiling
+cannot compile
+resb: the compilation failed; 2" env PATH="$tools" "$second/bin/resb" --unproved check de.txt
+# It makes a program in its temporary folder and runs it there, as the real one does.
+rt 'mkdir -p "$TMPDIR/a/b"' \
+    "printf '#!/bin/sh\necho \"ran unproved: \$*\"\n' >\"\$TMPDIR/a/b/new\"" \
+    'chmod +x "$TMPDIR/a/b/new"' 'mv "$TMPDIR/a/b/new" "$TMPDIR/a/b/program"' 'sleep 9'
+trial 'nothing proved' "$compiling
+$unproved
+ran unproved: check de.txt -q; 0" env PATH="$tools" "$second/bin/resb" --unproved check de.txt -q
+rm "$tools/rt"
+trial 'nothing proved, the second time, without a toolchain' "$unproved
+ran unproved: look de=de.txt; 0" without --unproved look de=de.txt
+trial 'the proved program is another one' "resb: not built, and RESB_NO_BUILD is set; 2" \
+    env RESB_NO_BUILD=1 PATH="$tools" "$second/bin/resb" check a
+touch -d '2 hours' "$second/crates/rb_tool/src/main.rt"
+trial 'nothing proved, after a change' "resb: $missing; 2" without --unproved --version
 exit "$failed"

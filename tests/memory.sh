@@ -1,8 +1,7 @@
 #!/usr/bin/env bash
 # Refuses each allocation in turn. The program programs/memory.rt.in starts an engine, makes requests of each kind, and loads, installs
-# and lists bundles; after a call that is answered out of memory it compares the whole state, and calls once more. The program
-# programs/lines.rt.in serves lines of each kind; if memory runs out, the replies before are whole, and serving continues with the line. It
-# is also given extended requests, without and with --keep-serving.
+# and lists bundles; after a call that is answered out of memory it compares the whole state, and calls once more. Served lines are tried
+# over the built program (refused_allocations.py).
 # The program programs/acceptance.rt.in accepts a file of each kind that is expensive to check, which Python writes: out of memory the
 # file is returned, and within three times what its acceptance takes with memory.
 #
@@ -71,11 +70,12 @@ refuse() {
 }
 # Writes the files that are expensive to check, each after its number of blocks, as cases NUMBER-BLOCKS; prints the fewest blocks of each.
 dear_files() {
-    python3 - "$tests/../bench" "$@" <<'END'
+    python3 - "$tests" "$@" <<'END'
 import sys
 
 sys.path.insert(0, sys.argv[1])
-from hostile import *
+from support.files import shared_arrays
+from support.hostile import *
 
 folder, refused = sys.argv[2], int(sys.argv[3])
 # each with more allocations than its reading and acceptance make
@@ -104,12 +104,11 @@ refuse_files() {
         sum=$((sum + refused - fewest - 1 - $(left "$number-$fewest")))
         number=$((number + 1))
     done
-    echo "ok: each of $sum allocations refused in turn over $number files that are dear to check"
+    echo "ok: each of $sum allocations refused in turn over $number files that are expensive to check"
 }
 
 # each FEWEST leaves about 30 blocks more than the calls allocate
 refuse memory 900 :88 88q rb_engine rb_packages rb_validator rb_format rb_locales rb_parents rb_views rb_tree
 [ "$(left 88q)" = "$(left 88)" ] || fails 'lookups, replacements or removals take memory'
 echo 'ok: lookups, replacements and removals take none'
-refuse lines 600 ':442 x:186 k:186' '' rb_requests rb_engine rb_parents
 refuse_files 220

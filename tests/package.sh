@@ -78,11 +78,39 @@ fi
 examples=$made/root/usr/share/doc/resb/examples
 "$made/root/usr/bin/resb" serve <"$examples/first-run.jsonl" | diff - "$examples/first-run.replies.jsonl"
 echo 'ok: the first session'
+if command -v python3 >/dev/null && python3 -c 'import tomllib' 2>/dev/null; then
+    body='{"jsonrpc":"2.0","id":1,"method":"initialize","params":{"capabilities":{}}}'
+    printf 'Content-Length: %s\r\n\r\n%s' ${#body} "$body" | RESB=$made/root/usr/bin/resb python3 "$made/root/usr/bin/resb-lsp" |
+        grep -q '"serverInfo":{"name":"resb-lsp"}' || fail 'resb-lsp of the package answers no editor'
+    "$made/root/usr/bin/resb-ci" --help >/dev/null
+    "$made/root/usr/share/resb/editors/vscode/pack" "$made/resb.vsix"
+    echo 'ok: the language server, and the files for editors'
+else
+    echo 'skipped: the language server: python3 3.11 is not there'
+fi
 # page_of NAME: prints a manual page of the package
-page_of() { gunzip -c "$made/root/usr/share/man/man1/$1.1.gz" | mandoc -T ascii | col -b; }
+page_of() { gunzip -c "$made/root/usr/share/man/man1/$1.1.gz" | mandoc -T ascii | col -bx; }
+
+# has_entry COMMAND: checks that the manual page resb(1) has a command with each option and each status of its help
+has_entry() {
+    local option status
+    page_of resb | sed "1,/^   $1\$/d; /^   [a-z]/,\$d" >"$made/entry"
+    grep -q "^ *resb $1" "$made/entry" || fail "the manual page has no entry of $1"
+    for option in $("$program" help "$1" | sed -n '/^Options:/,/^$/s/^[^-]*\(-., \)*\(--[a-z-]*\).*/\2/p'); do
+        [ "$option" = --help ] || grep -qE -e "^     (-., )?$option( |$)" "$made/entry" || fail "the manual page lacks $option of $1"
+    done
+    for status in $("$program" help "$1" | sed -n '/^Status:/,$s/^  \([0-9]\)  .*/\1/p'); do
+        grep -q "^     $status  " "$made/entry" || fail "the manual page lacks the status $status of $1"
+    done
+}
+
 if command -v mandoc >/dev/null && command -v col >/dev/null && command -v python3 >/dev/null; then
-    page_of resb | grep -q 'resb'
-    for call in icu2text 'resb-exchange export' 'resb-exchange import'; do
+    commands=$("$program" --help | sed -n '/^Commands:/,/^$/s/^  \([a-z]*\) .*/\1/p')
+    [ -n "$commands" ] || fail 'the program lists no commands'
+    for command in $commands; do
+        [ "$command" = help ] || has_entry "$command"
+    done
+    for call in icu2text 'resb-exchange export' 'resb-exchange import' 'resb-exchange convert'; do
         # shellcheck disable=SC2086
         for option in $("$made/root/usr/bin/"$call --help | grep -o -e '--[a-z-]*' | sort -u); do
             page_of "${call%% *}" | grep -q -e "$option" || fail "the manual page of $call lacks $option"

@@ -5,7 +5,8 @@ usage: tests/trusted.py [--inner]
 
 Prints three numbers for each crate, and at last for all: how many lines the contracts of the core's calls reach, how many more those of
 all other calls, and how many more those of laws. The core is texts, files, items, names, lookups, requests and the lines of `serve`
-without limits; the rest is in BEYOND. With --inner it prints the files of specs/ that are in the wrong place, with status 1 if there is
+without limits. Limits, extended requests, drafts of releases, open locales, trees, JSON that is read, formatting, messages, commands
+and the library are in BEYOND. With --inner it prints the files of specs/ that are in the wrong place, with status 1 if there is
 any: what no public contract reaches serves only proofs and private functions, and is in specs/inner/.
 
 A line counts if it is not blank, no comment and no `use`. Public are the items that a crate's lib.rt names, with the methods of its types
@@ -23,22 +24,39 @@ CRATES = pathlib.Path(__file__).resolve().parent.parent / "crates"
 # Parts of crates beyond the core: all, or some types, functions and clauses (FUNCTION.CLAUSE).
 BEYOND = {
     "rb_arguments": "all",
+    "rb_compiler": "all",
     "rb_console": "all",
     "rb_convert": "all",
-    "rb_engine": {"compile", "one_compiled", "put", "usage", "file_len", "apps", "look_within"},
+    "rb_coverage": "all",
+    "rb_engine": {
+        "put", "usage", "file_len", "apps", "look_within", "bundle", "sizes", "shelves", "AppShelves",
+        "judge", "ReadFault", "draft", "release", "open_locale", "OpenLocale", "Stale", "look_at", "find_at", "find_kept", "look_kept",
+        "keep_locales", "keep_open", "keep_items", "keep_item", "keep_hints", "fetch", "gains_by_fetch", "Upcoming",
+    },
     "rb_explain": "all",
-    "rb_fallback": {"look_watched", "look_within"},
+    "rb_fallback": {"look_watched", "look_within", "look_from", "find_from", "Watch"},
+    "rb_fmt": "all",
     "rb_handle": "all",
+    "rb_inherit": "all",
     "rb_inspect": "all",
-    "rb_json": {"json_text", "characters", "ascii", "Outlet"},
+    "rb_json": {"put_value", "put_leaf", "put_key", "Outlet"},
+    "rb_json_reader": "all",
+    "rb_layout": "all",
     "rb_lexer": {"Tokens"},
     "rb_lint": "all",
-    "rb_packages": {"usage", "file_len", "apps"},
+    "rb_messages": "all",
+    "rb_packages": {"usage", "file_len", "apps", "Draft", "DraftFault", "draft", "release", "BundleHint", "shelf_near"},
     "rb_parser": {"parse_unweighed"},
     "rb_printer": "all",
-    "rb_replies": {"found_is_above", "reply_is_above", "tell_usage", "put_usage"},
-    "rb_requests": {"serve_limited", "handle", "put", "look", "limited"},
+    "rb_project": "all",
+    "rb_replies": {
+        "found_is_above", "reply_is_above", "put_usage", "Detail", "file_is_above", "put_file", "put_refusal", "put_sizes",
+        "put_stored", "put_text", "put_tree_line", "sizes_are_above", "text_is_above", "tree_is_above",
+    },
+    "rb_requests": {"serve_limited", "serve_extended", "handle", "put", "look", "limited", "extended_isolated"},
     "rb_review": "all",
+    "rb_settings": "all",
+    "rb_tool": "all",
     "rb_validator": {"blocks"},
     "resb": "all",
     "rb_writer": {"write.front", "write.end", "write.longest", "write.bytes", "write_if_light"},
@@ -64,7 +82,7 @@ class Definition:
 
 
 class Scope:
-    """What the `use` lines of a file name."""
+    """Returns what the `use` lines of a file name."""
 
     def __init__(self, text):
         self.names = {}
@@ -120,7 +138,7 @@ def read_specs():
 
 def blocks(file, text):
     """Yields the definitions of a file: those at its left edge, and those within a `module _` block, each with the block's head."""
-    lines, head = [], []
+    lines, head, started = [], [], []
     for line in text.splitlines():
         inner = line.removeprefix("  ") if head else line
         if line and not line.startswith(" "):
@@ -194,7 +212,7 @@ def clauses_joined(text):
 
 
 def is_public(signature, owner, is_inherent, module, names, modules):
-    """Whether a function can be called from outside: one of a trait without a word, an export to C, any other only if it is `pub`."""
+    """Checks whether a function can be called from outside: one of a trait, an export to C, any other only if it is `pub`."""
     if owner:
         return owner in names and (signature[1] == "pub " or not is_inherent)
     is_export = signature[2] == 'extern "C" '

@@ -30,11 +30,11 @@ static void opens(resb *e) {
     EXPECT(resb_look(e, S("shop"), S("de"), S("greeting"), &f) == RESB_NOT_OPEN);
     EXPECT(resb_install(e, S("shop"), S("de"), out, written, false) == RESB_NOT_OPEN);
     EXPECT(resb_remove(e, S("shop"), S("de")) == RESB_NOT_OPEN);
-    EXPECT(resb_list(e, S("shop"), out, 0, &len) == RESB_NOT_OPEN && len == 7);
+    EXPECT(resb_list(e, S("shop"), (char *)out, 0, &len) == RESB_NOT_OPEN && len == 7);
     EXPECT(resb_share(e, &other) == RESB_NOT_OPEN && !other.is_open);
     EXPECT(resb_open(e, seed, 16) == RESB_OK && e->is_open && e->engine);
     EXPECT(resb_open(e, seed, 16) == RESB_ALREADY_OPEN && e->is_open);
-    EXPECT(resb_list(e, S("shop"), out, 0, &len) == RESB_OK && len == 0);
+    EXPECT(resb_list(e, S("shop"), (char *)out, 0, &len) == RESB_OK && len == 0);
 }
 
 static void installs(resb *e) {
@@ -52,14 +52,14 @@ static void installs(resb *e) {
 }
 
 static void lists(resb *e) {
-    uint8_t names[32] = {0};
+    char names[32] = {0};
     size_t len = 0;
     EXPECT(resb_list(e, S("shop"), names, sizeof names, &len) == RESB_OK && len == 8 && memcmp(names, "root\0de\0", 8) == 0);
     names[0] = 'x';
     EXPECT(resb_list(e, S("shop"), names, 7, &len) == RESB_NO_ROOM && len == 8 && names[0] == 'x');
     EXPECT(resb_list(e, S("none"), names, sizeof names, &len) == RESB_OK && len == 0);
     EXPECT(resb_list(e, S("ICUDATA"), names, sizeof names, &len) == RESB_RESERVED);
-    uint8_t key[8];
+    char key[8];
     EXPECT(resb_key(e, S("shop"), S("de"), S("menu"), 0, key, sizeof key, &len) == RESB_OK && len == 5 && memcmp(key, "close", 5) == 0);
     EXPECT(resb_key(e, S("shop"), S("de"), S("menu"), 1, key, sizeof key, &len) == RESB_OK && len == 4 && memcmp(key, "open", 4) == 0);
     EXPECT(resb_key(e, S("shop"), S("de"), S("menu"), 2, key, sizeof key, &len) == RESB_NO_ENTRY);

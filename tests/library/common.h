@@ -4,7 +4,7 @@
 
 #include "resb.h"
 
-#define U8 (const uint8_t *)
+#define U8 (const char *)
 #define S(x) U8(x), strlen(x)
 #define EXPECT(c)                                              \
     do {                                                       \

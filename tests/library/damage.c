@@ -26,7 +26,7 @@ static void walk(resb *e, char *path, size_t len, int depth) {
         if (f.kind == RESB_ARRAY)
             key = (size_t)sprintf(path + at, "%zu", i);
         else
-            EXPECT(resb_key(e, S("a"), S("de_AT"), U8 path, len, i, (uint8_t *)path + at, 200, &key) != RESB_NO_ENTRY);
+            EXPECT(resb_key(e, S("a"), S("de_AT"), U8 path, len, i, (char *)path + at, 200, &key) != RESB_NO_ENTRY);
         if (at + key < 700)
             walk(e, path, at + key, depth - 1);
     }

@@ -38,7 +38,8 @@ static bool worked(uint32_t error) {
 }
 
 static void history(void) {
-    static uint8_t out[4096], names[64];
+    static uint8_t out[4096];
+    static char names[64];
     uint16_t units[8];
     size_t written = 0, len = 0;
     uint64_t line;

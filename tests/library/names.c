@@ -3,13 +3,13 @@
 
 int main(void) {
     for (uint32_t error = 0; error < 200; error++) {
-        uint8_t name[16];
+        char name[16];
         size_t len = resb_error_name(error, name, sizeof name);
         EXPECT(len <= sizeof name);
         if (len)
-            printf("%u %.*s\n", error, (int)len, (const char *)name);
+            printf("%u %.*s\n", error, (int)len, name);
     }
-    uint8_t short_one[3] = "xy";
+    char short_one[3] = "xy";
     EXPECT(resb_error_name(RESB_MEMORY, short_one, 2) == 6 && short_one[0] == 'x');
     return 0;
 }

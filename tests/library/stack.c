@@ -18,7 +18,7 @@ static void *none(void *a) {
 }
 
 static void *compile(void *a) {
-    result = resb_compile(text, text_len, out, FILE_ROOM, &written, &line);
+    result = resb_compile((char *)text, text_len, out, FILE_ROOM, &written, &line);
     return a;
 }
 

@@ -1,57 +1,17 @@
 """Extended requests by the line and their replies, after docs/SERVER.md.
 
-Of an error of a text that the reader may report otherwise, a reply has the code `?` and the line 0. A tree of which the model isn't sure is
-`?`, and so is the error of one that is over two limits (`blurred` changes the program's replies alike).
+A tree of which the model isn't sure is `?`, and so is the error of one that is over two limits (`blurred` changes the program's replies alike).
 """
 import re
 
-from model import files, inherited, lookups, texts
-from model.server import BUNDLE_LIMIT, HEX, NotRequest, Refused, Server, app_of, data_of, locale_of, spelled, text_at
+from model import inherited, lookups
+from model.server import BUNDLE_LIMIT, NotRequest, Refused, Server, app_of, locale_of, payload_of, text_at
 from model.trees import segments
 
-OPERATIONS = ("install", "replace", "remove", "list", "look", "usage", "put", "export", "release", "tree")
 UNSURE = b'"code":"?"'
 UNSURE_TREE = b'{"error":"?"}\n'
 TREE_SIZE = 2000
 TREE_REPLY = re.compile(rb'\{"actual":"\w+","tree":.*\n|\{"error":"(TooManySteps|TreeTooLarge|ReplyTooLong)"\}\n')
-
-
-class Detailed(Refused):
-    """A refusal that says more than its word."""
-
-    def __init__(self, word, **detail):
-        super().__init__(word)
-        self.detail = detail
-
-
-def text_file(source):
-    """The bundle of a text, and the file that it compiles to."""
-    try:
-        bundle = texts.read(source)
-    except texts.BadText as error:
-        sure = error.word in texts.LEXICAL
-        raise Detailed("BadText", code=error.word if sure else "?", line=error.line if sure else 0) from None
-    return bundle, files.write(bundle)
-
-
-def stored_file(source):
-    """The bundle of a file, and the file."""
-    try:
-        return files.read(source)[0], source
-    except files.BadFile as error:
-        raise Detailed("BadFile", code=str(error)) from None
-
-
-def payload_of(data):
-    """How a payload is read, and its bytes."""
-    if ("text" in data) == ("file" in data):
-        raise NotRequest
-    if "text" in data:
-        return text_file, text_at(data, "text").encode("utf-8")
-    digits = text_at(data, "file")
-    if not HEX.fullmatch(digits):
-        raise NotRequest
-    return stored_file, bytes.fromhex(digits)
 
 
 def change_of(data):
@@ -74,52 +34,16 @@ def blurred(wanted, given):
 
 
 class ExtendedServer(Server):
-    """A server with extended requests: also the files of all applications' bundles."""
+    """A server with extended requests."""
 
-    def __init__(self, common, parents, limits=None):
-        super().__init__(common, parents, limits)
-        self.files = {}
+    operations = (*Server.operations, "usage", "put", "export", "release", "tree")
+    long_members = (*Server.long_members, "bundles", "file")
 
-    def files_of(self, app):
-        return self.files.setdefault(app, {})
-
-    def judged(self, locale, payload):
-        """The name, the bundle and the file of a payload."""
-        name = locale_of(locale)
-        read, source = payload
-        self.limits.refuse("bundle_bytes", len(source), "BundleTooLong")
-        return name, *read(source)
-
-    def store(self, data, may_be_there, may_be_new):
-        app, locale, payload = text_at(data, "app"), text_at(data, "locale"), payload_of(data)
-        bundles = self.bundles(app_of(app))
-        name, bundle, file = self.judged(locale, payload)
-        is_there = name in bundles
-        if is_there and not may_be_there:
-            raise Refused("Exists")
-        if not is_there and not may_be_new:
-            raise Refused("Absent")
-        if not is_there and len(bundles) == BUNDLE_LIMIT:
-            raise Refused("Full")
-        self.refuse_file(app, name, len(file))
-        bundles[name], self.files_of(app)[name], self.lengths_of(app)[name] = bundle, file, len(file)
-        return is_there
-
-    def install(self, data):
-        self.store(data, False, True)
-        return {"ok": True}
-
-    def replace(self, data):
-        self.store(data, True, False)
-        return {"ok": True}
+    def error(self, refused):
+        return {"error": refused.args[0], **refused.detail}
 
     def put(self, data):
         return {"ok": True, "replaced": self.store(data, True, True)}
-
-    def remove(self, data):
-        answer = super().remove(data)
-        self.files_of(data["app"]).pop(lookups.canonical(data["locale"]))
-        return answer
 
     def list(self, data):
         sizes = data.get("sizes", False)
@@ -128,8 +52,8 @@ class ExtendedServer(Server):
         answer = super().list(data)
         if not sizes:
             return answer
-        lengths = self.lengths_of(data["app"])
-        return {"bundles": [{"bytes": lengths[name], "locale": name} for name in answer["names"]]}
+        held = self.files_of(data["app"])
+        return {"bundles": [{"bytes": len(held[name]), "locale": name} for name in answer["names"]]}
 
     def export(self, data):
         app, locale = text_at(data, "app"), text_at(data, "locale")
@@ -192,27 +116,7 @@ class ExtendedServer(Server):
                     raise Refused("Full")
                 self.change(locale, payload, bundles, held)
             except Refused as refused:
-                raise Detailed(refused.args[0], index=index, **getattr(refused, "detail", {})) from None
-        self.limits.refuse("app_bytes", sum(map(len, held.values())), "OverQuota")
-        if bundles and not self.bundles(app):
-            self.limits.refuse("apps", 1 + sum(1 for others in self.lengths.values() if others), "TooManyApps")
+                raise Refused(refused.args[0], index=index, **refused.detail) from None
+        self.refuse_files(app, held)
         self.apps[app], self.files[app] = bundles, held
-        self.lengths[app] = {name: len(file) for name, file in held.items()}
         return {"ok": True}
-
-    def answered(self, line):
-        try:
-            self.limits.refuse_line(len(line))
-            data = data_of(line)
-            if data.get("op") not in OPERATIONS:
-                raise NotRequest
-            return self.short(getattr(self, data["op"])(data))
-        except NotRequest:
-            return {"error": "BadLine"}
-        except Refused as refused:
-            return {"error": refused.args[0], **getattr(refused, "detail", {})}
-
-    def short(self, answer):
-        if any(name in answer for name in ("actual", "names", "bundles", "file")) and "app_bytes" not in answer:
-            self.limits.refuse("reply_bytes", len(spelled(answer)), "ReplyTooLong")
-        return answer

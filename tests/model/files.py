@@ -15,7 +15,7 @@ class BadFile(Exception):
 
 
 class Layout:
-    """What a writer may choose: the header's size, the minor version, the number of indexes, long tables, keys that share their ends,
+    """The choices of a writer: the header's size, the minor version, the number of indexes, long tables, keys that share their ends,
     items that share a value, and what comes after the bundle."""
 
     def __init__(self):
@@ -29,7 +29,7 @@ class Layout:
 
 
 def keys_of(item):
-    """All keys of an item."""
+    """Returns all keys of an item."""
     kind, content = item
     if kind == "table":
         return set(content).union(*map(keys_of, content.values()))

@@ -5,7 +5,7 @@ item that is none.
 """
 from model import lookups
 from model.lookups import Refused
-from model.trees import child, members, segments, walk
+from model.trees import child, value_of, walk
 
 LEVELS = 64
 SIZE_LIMIT = 20000
@@ -15,19 +15,8 @@ class TooLong(Exception):
     """The tree has more items than the model makes."""
 
 
-def leaf_value(item):
-    """The value of an item that is no table, array or alias."""
-    shown = members(item)
-    kind = shown["type"]
-    if kind == "string":
-        return shown["value"] if "value" in shown else {":units": shown["units"]}
-    if kind == "int":
-        return shown["signed"]
-    return {":intvector": list(shown["values"])} if kind == "intvector" else {":bin": shown["hex"]}
-
-
 def alias_steps(units):
-    """How many steps it takes to read an alias."""
+    """Returns the steps that it takes to read an alias."""
     return 1 + len(units) // 64
 
 
@@ -131,7 +120,7 @@ class Tree:
         if kind == "array":
             self.steps += len(content)
             return [self.tree(below + [str(i)]) for i in range(len(content))]
-        return leaf_value(found[0])
+        return value_of(found[0])
 
     def table(self, tables, below):
         """The value of tables that are merged. Each key takes a step at the first of them that has it, and at each after that one."""

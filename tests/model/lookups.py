@@ -75,7 +75,7 @@ def after(parents, name):
 
 
 def next_name(bundle, parents, name):
-    """Whether a name is a stop, and the name after it, or None."""
+    """Returns whether a name is a stop, and the name after it, or None."""
     if bundle is None:
         return False, after(parents, name)
     tree, no_fallback = bundle
@@ -88,7 +88,7 @@ def next_name(bundle, parents, name):
 
 
 def trail_of(bundles, parents, name):
-    """How many names a trail has, and its stops."""
+    """Returns the number of names of a trail, and its stops."""
     stops = []
     for count in range(1, 33):
         is_stop, following = next_name(bundles.get(name), parents, name)
@@ -100,7 +100,7 @@ def trail_of(bundles, parents, name):
 
 
 def target(units, valid):
-    """Where an alias leads: whether to ICUDATA, the name, and the segments of its path, or None if it has none."""
+    """Returns where an alias leads: whether to ICUDATA, the name, and the segments of its path, or None if it has none."""
     text = "".join(map(chr, units))
     if text == "" or not is_printable(text):
         raise Refused("AliasText")

@@ -10,7 +10,6 @@ APP = re.compile("[A-Za-z0-9_.-]{1,64}")
 HEX = re.compile("(?:[0-9a-fA-F]{2})*")
 SURROGATE = re.compile("[\ud800-\udfff]")
 BUNDLE_LIMIT = 4096
-OPERATIONS = ("install", "replace", "remove", "list", "look")
 MOST = 1 << 63
 LINE_LIMIT = 268435456
 SIZES = ("app_bytes", "bundle_bytes", "reply_bytes", "line_bytes", "apps", "steps")
@@ -21,7 +20,11 @@ class NotRequest(Exception):
 
 
 class Refused(Exception):
-    """A request that is refused, with the error's word."""
+    """A request that is refused, with the error's word, and what extended requests add to it."""
+
+    def __init__(self, word, **detail):
+        super().__init__(word)
+        self.detail = detail
 
 
 class Limits:
@@ -92,7 +95,7 @@ def well_formed(value):
 
 
 def nesting(text):
-    """How many levels of lists and objects are nested in a text that is JSON."""
+    """Counts the nested levels of lists and objects in a text that is JSON."""
     deepest = level = 0
     for sign in re.findall(r'"(?:[^"\\]|\\.)*"|[\[\]{}]', text):
         level += {"[": 1, "{": 1, "]": -1, "}": -1}.get(sign, 0)
@@ -114,7 +117,7 @@ def data_of(line):
 
 
 def payload_of(data):
-    """What an install or a replacement brings: a function that reads it, and its bytes."""
+    """Returns what reads the payload of an install or a replacement, and its bytes."""
     if ("text" in data) == ("file" in data):
         raise NotRequest
     if "text" in data:
@@ -133,22 +136,21 @@ def text_at(data, name):
 
 
 def read_text(source):
+    """Returns the bundle of a text, and the file that it compiles to. Of an error that the reader may report otherwise the code is `?` and the line 0."""
     try:
-        return texts.read(source)
-    except texts.BadText:
-        raise Refused("BadText") from None
+        bundle = texts.read(source)
+    except texts.BadText as error:
+        is_sure = error.word in texts.LEXICAL
+        raise Refused("BadText", code=error.word if is_sure else "?", line=error.line if is_sure else 0) from None
+    return bundle, files.write(bundle)
 
 
 def read_file(source):
+    """Returns the bundle of a file, and the file."""
     try:
-        return files.read(source)[0]
-    except files.BadFile:
-        raise Refused("BadFile") from None
-
-
-def length_of(read, source, bundle):
-    """The length of the file that is kept: of a text what it compiles to, and else the file as it came."""
-    return len(files.write(bundle)) if read is read_text else len(source)
+        return files.read(source)[0], source
+    except files.BadFile as error:
+        raise Refused("BadFile", code=str(error)) from None
 
 
 def app_of(name):
@@ -168,68 +170,76 @@ def locale_of(text):
 
 
 class Server:
-    """The bundles of all applications with the lengths of their files, those of ICUDATA, the explicit parents, and limits."""
+    """The bundles of all applications and their files, those of ICUDATA, the explicit parents, and limits."""
+
+    operations: tuple[str, ...] = ("install", "replace", "remove", "list", "look")
+    # what is in replies that may be too long
+    long_members: tuple[str, ...] = ("actual", "names")
 
     def __init__(self, common, parents, limits=None):
         self.common = common
         self.parents = parents
         self.limits = limits or Limits()
         self.apps = {}
-        self.lengths = {}
+        self.files = {}
 
     def bundles(self, app):
         return self.apps.setdefault(app, {})
 
-    def lengths_of(self, app):
-        return self.lengths.setdefault(app, {})
+    def files_of(self, app):
+        return self.files.setdefault(app, {})
 
-    def refuse_file(self, app, name, length):
-        """Refuses a file of this length at a name, if it is past a limit."""
-        lengths = self.lengths_of(app)
-        self.limits.refuse("bundle_bytes", length, "BundleTooLong")
-        self.limits.refuse("app_bytes", sum(lengths.values()) - lengths.get(name, 0) + length, "OverQuota")
-        if not lengths:
-            self.limits.refuse("apps", 1 + sum(1 for others in self.lengths.values() if others), "TooManyApps")
+    def refuse_files(self, app, held):
+        """Refuses files that an application would have after a change, if they are past a limit."""
+        self.limits.refuse("app_bytes", sum(map(len, held.values())), "OverQuota")
+        if held and not self.files_of(app):
+            self.limits.refuse("apps", 1 + sum(1 for others in self.files.values() if others), "TooManyApps")
 
-    def put(self, data, may_be_there):
-        """An install or a replacement."""
-        app, locale = text_at(data, "app"), text_at(data, "locale")
-        read, source = payload_of(data)
-        bundles, name = self.bundles(app_of(app)), locale_of(locale)
+    def judged(self, locale, payload):
+        """Returns the name, the bundle and the file of a payload."""
+        name, (read, source) = locale_of(locale), payload
         self.limits.refuse("bundle_bytes", len(source), "BundleTooLong")
-        bundle = read(source)
-        if not may_be_there and name in bundles:
+        return name, *read(source)
+
+    def store(self, data, may_be_there, may_be_new):
+        """Stores a bundle, and returns whether one was there."""
+        app, locale, payload = text_at(data, "app"), text_at(data, "locale"), payload_of(data)
+        bundles, held = self.bundles(app_of(app)), self.files_of(app)
+        name, bundle, file = self.judged(locale, payload)
+        is_there = name in bundles
+        if is_there and not may_be_there:
             raise Refused("Exists")
-        if may_be_there and name not in bundles:
+        if not is_there and not may_be_new:
             raise Refused("Absent")
-        if not may_be_there and len(bundles) == BUNDLE_LIMIT:
+        if not is_there and len(bundles) == BUNDLE_LIMIT:
             raise Refused("Full")
-        length = length_of(read, source, bundle) if self.limits.is_any() else 0
-        self.refuse_file(app, name, length)
-        bundles[name] = bundle
-        self.lengths_of(app)[name] = length
-        return {"ok": True}
+        self.limits.refuse("bundle_bytes", len(file), "BundleTooLong")
+        self.refuse_files(app, {**held, name: file})
+        bundles[name], held[name] = bundle, file
+        return is_there
 
     def install(self, data):
-        return self.put(data, False)
+        self.store(data, False, True)
+        return {"ok": True}
 
     def replace(self, data):
-        return self.put(data, True)
+        self.store(data, True, False)
+        return {"ok": True}
 
     def remove(self, data):
         app, locale = text_at(data, "app"), text_at(data, "locale")
         bundles, name = self.bundles(app_of(app)), locale_of(locale)
         if bundles.pop(name, None) is None:
             raise Refused("Absent")
-        self.lengths_of(app).pop(name)
+        self.files_of(app).pop(name)
         return {"ok": True}
 
     def list(self, data):
         return {"names": list(self.bundles(app_of(text_at(data, "app"))))}
 
     def usage(self, data):
-        lengths = self.lengths_of(app_of(text_at(data, "app")))
-        return {"app_bytes": sum(lengths.values()), "bundles": len(lengths)}
+        held = self.files_of(app_of(text_at(data, "app")))
+        return {"app_bytes": sum(map(len, held.values())), "bundles": len(held)}
 
     def look(self, data):
         app, locale, path = (text_at(data, name) for name in ("app", "locale", "path"))
@@ -242,21 +252,24 @@ class Server:
         return {**told, "actual": actual, "valid": valid}
 
     def answered(self, line):
-        """The data of a line's reply."""
+        """Returns the data of a line's reply."""
         try:
             self.limits.refuse_line(len(line))
             data = data_of(line)
-            if data.get("op") not in OPERATIONS + ("usage",) * self.limits.is_any():
+            if data.get("op") not in self.operations + ("usage",) * self.limits.is_any():
                 raise NotRequest
             return self.short(getattr(self, data["op"])(data))
         except NotRequest:
             return {"error": "BadLine"}
         except Refused as refused:
-            return {"error": refused.args[0]}
+            return self.error(refused)
+
+    def error(self, refused):
+        return {"error": refused.args[0]}
 
     def short(self, answer):
-        """An answer whose line isn't too long. Only that of an item or of names may be."""
-        if "actual" in answer or "names" in answer:
+        """Returns an answer whose line isn't too long."""
+        if any(name in answer for name in self.long_members) and "app_bytes" not in answer:
             self.limits.refuse("reply_bytes", len(spelled(answer)), "ReplyTooLong")
         return answer
 

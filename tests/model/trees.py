@@ -49,7 +49,7 @@ def walk(item, parts):
 
 
 def height(item):
-    """How many levels an item has."""
+    """Counts the levels of an item."""
     kind, content = item
     below = content.values() if kind == "table" else content if kind == "array" else ()
     return 1 + max(map(height, below), default=0)
@@ -90,7 +90,7 @@ def compact(value):
 
 
 def gotten(item, path):
-    """What `resb get` prints for a path, and whether there is an item."""
+    """Returns what `resb get` prints for a path, and whether there is an item."""
     parts = segments(path)
     if parts is None:
         return "BadPath", False
@@ -100,3 +100,30 @@ def gotten(item, path):
     if ended is None:
         return "Missing", False
     return compact(members(ended[0], "/".join(parts[ended[1]:]))), True
+
+
+# what a terminal acts on, and the controls of the writing direction: they are escaped
+ESCAPED = {code: f"\\u{code:04x}" for code in (*range(0x7F, 0xA0), *range(0x202A, 0x202F), *range(0x2066, 0x206A))}
+
+
+def value_of(item):
+    """Returns an item as the value of JSON that `resb json` prints, after docs/JSON.md."""
+    kind, content = item
+    if kind == "table":
+        return {(":" + key if key.startswith(":") else key): value_of(inner) for key, inner in content.items()}
+    if kind == "array":
+        return [value_of(inner) for inner in content]
+    shown = members(item)
+    if kind == "string":
+        return shown["value"] if "value" in shown else {":units": shown["units"]}
+    if kind == "alias":
+        return {":alias": shown.get("value", shown.get("units"))}
+    if kind == "int":
+        return shown["signed"]
+    return {":intvector": list(content)} if kind == "intvector" else {":bin": content.hex()}
+
+
+def printed(value, **form):
+    """Returns a value as `resb json` prints it: compact, or with `indent=2`, and its line feed."""
+    form = form or {"separators": (",", ":")}
+    return (json.dumps(value, ensure_ascii=False, **form).translate(ESCAPED) + "\n").encode()

@@ -1,0 +1,579 @@
+"""The limits of `resb serve`, after docs/SERVER.md: each at its value, one below and one above; the order of refusals; a quota under replacements and
+removals; a line of 300 MB; 100,000 applications; memory under attacks; a lack of memory, also while replies wait to be written; and command lines that
+are invalid. In test_histories an application beside others that are at their limits gets the replies of one that has the server alone.
+"""
+import itertools
+import random
+import tempfile
+import time
+
+import pytest
+from model import files, texts
+from support.program import MEGABYTE, Skipped, least_memory, limited, limited_output
+from support.server import SETTINGS, Server, limit_words, line_of, reply_of
+from support.texts import big
+
+READER = 8192  # the bytes of the reader's buffer
+MOST = 1 << 63
+NUMBERS = ("--app-bytes", "--bundle-bytes", "--reply-bytes", "--line-bytes", "--apps", "--steps")
+
+OK = {"ok": True}
+SMALL = "x{}"  # its file has 56 bytes, the fewest that there are
+TEXT = 'de{a{"b"}}'  # 10 bytes, and its file 76
+LONG = TEXT + "/*" + "x" * 100 + "*/"  # 114 bytes, and the same file
+FILE = files.write(texts.read(TEXT.encode())).hex()
+FOUND = {"actual": "de", "type": "string", "valid": "de", "value": "b"}  # a line of 57 bytes
+
+
+def refused(word):
+    return {"error": word}
+
+
+def install(app, locale, text=TEXT):
+    return {"op": "install", "app": app, "locale": locale, "text": text}
+
+
+def install_file(app, locale, digits):
+    return {"op": "install", "app": app, "locale": locale, "file": digits}
+
+
+def replace(app, locale, text=TEXT):
+    return {"op": "replace", "app": app, "locale": locale, "text": text}
+
+
+def remove(app, locale):
+    return {"op": "remove", "app": app, "locale": locale}
+
+
+def names(app):
+    return {"op": "list", "app": app}
+
+
+def look(app, locale, path):
+    return {"op": "look", "app": app, "locale": locale, "path": path}
+
+
+def usage(app):
+    return {"op": "usage", "app": app}
+
+
+def used(size, count):
+    return {"app_bytes": size, "bundles": count}
+
+
+def served(resb, arguments, lines, **options):
+    """Serves requests; returns the status, the replies and standard error."""
+    status, stdout, stderr = resb.serve(map(line_of, lines), *arguments, **options)
+    return status, stdout.splitlines(keepends=True), stderr
+
+
+def serves(resb, arguments, pairs):
+    """Compares the replies to requests."""
+    status, replies, errors = served(resb, arguments, [request for request, _ in pairs])
+    for (request, wanted), given in zip(pairs, replies):
+        assert given == reply_of(wanted), (arguments, line_of(request)[:300])
+    assert (status, len(replies), errors) == (0, len(pairs), b"")
+
+
+CHAIN = install("shop", "root", 'root{b{"B"} x:alias{"de/a"}}')
+# a limit, its value, what comes before, the request, the error below the value, and the answer at it
+AT_VALUES = [
+    ("--app-bytes", 76, [], install("shop", "de"), "OverQuota", OK),
+    ("--app-bytes", 152, [(install("shop", "de"), OK)], install("shop", "fr"), "OverQuota", OK),
+    ("--app-bytes", 76, [], install_file("shop", "de", FILE), "OverQuota", OK),
+    ("--app-bytes", 80, [], install_file("shop", "de", FILE + "00112233"), "OverQuota", OK),
+    ("--bundle-bytes", 76, [], install("shop", "de"), "BundleTooLong", OK),
+    ("--bundle-bytes", 114, [], install("shop", "de", LONG), "BundleTooLong", OK),
+    ("--bundle-bytes", 76, [], install_file("shop", "de", FILE), "BundleTooLong", OK),
+    ("--bundle-bytes", 76, [], install_file("shop", "de", "00" * 76), "BundleTooLong", refused("BadFile")),
+    ("--bundle-bytes", 12, [], install("shop", "de", "de{a{" + " " * 7), "BundleTooLong", refused("BadText")),
+    ("--reply-bytes", 57, [(install("shop", "de"), OK)], look("shop", "de", "a"), "ReplyTooLong", FOUND),
+    ("--reply-bytes", 17, [(install("shop", "de"), OK)], names("shop"), "ReplyTooLong", {"names": ["de"]}),
+    ("--line-bytes", len(line_of(install("shop", "de"))), [], install("shop", "de"), "LineTooLong", OK),
+    ("--line-bytes", 1000, [], b" " * 1000, "LineTooLong", refused("BadLine")),
+    ("--apps", 2, [(install("shop", "de"), OK), (install("bank", "de", SMALL), OK)], install("bank", "fr"), None, OK),
+    ("--apps", 2, [(install("shop", "de"), OK)], install("bank", "de"), "TooManyApps", OK),
+    ("--steps", 6, [(install("shop", "de"), OK)], look("shop", "de_AT", "a"), "TooManySteps", FOUND),
+    ("--steps", 3, [(install("shop", "de"), OK)], look("shop", "de_AT", ""), "TooManySteps", {"actual": "de", "keys": ["a"], "type": "table", "valid": "de"}),
+    ("--steps", 6, [], look("bank", "de_AT", "a"), "TooManySteps", refused("NoBundle")),
+    ("--steps", 12, [(install("shop", "de"), OK)], look("shop", "de_AT", "a/b/c"), "TooManySteps", refused("Missing")),
+    ("--steps", 8, [(install("shop", "de"), OK), (CHAIN, OK)], look("shop", "de", "x"), "TooManySteps", FOUND),
+]
+
+
+def putting(locale, text=TEXT):
+    """A change of a release."""
+    return {"locale": locale, "text": text}
+
+
+def removing(locale):
+    return {"locale": locale, "remove": True}
+
+
+def release(app, *changes):
+    return {"op": "release", "app": app, "changes": list(changes)}
+
+
+TREE = {"actual": "de", "tree": {"a": "b"}, "valid": "de"}  # a line of 46 bytes
+TREE_LIMIT = 33_554_432
+
+
+def tree(app, locale, **path):
+    return {"op": "tree", "app": app, "locale": locale, **path}
+
+
+def long_tree(missing):
+    """Returns a bundle whose tree has this many bytes fewer than the most, and the tree."""
+    text, rest = "x" * 986_000, "y" * (30_120 - missing)
+    aliases = [f"a{number}" for number in range(10, 43)]
+    bundle = f'x{{s{{"{text}"}} p{{"{rest}"}}' + "".join(f'{key}:alias{{"/LOCALE/s"}}' for key in aliases) + "}"
+    value = {"p": rest, "s": text, **dict.fromkeys(aliases, text)}
+    length = len(reply_of(value)) - 1
+    assert length == TREE_LIMIT - missing, length
+    return install("long", "root", bundle), {"actual": "root", "tree": value, "valid": "root"}
+
+
+ONE, TWO = (install("shop", "de"), OK), release("shop", putting("de"), putting("fr"))
+SIZES, EXPORT = {"op": "list", "app": "shop", "sizes": True}, {"op": "export", "app": "shop", "locale": "de"}
+MERGED, INNER = {"actual": "de", "tree": {"a": "b", "b": "B", "x": "b"}, "valid": "de"}, {"actual": "de", "tree": "b", "valid": "de"}
+# as above, for extended requests; the sum of a release counts at its end, not on the way
+EXTENDED_AT_VALUES = [
+    ("--app-bytes", 152, [], TWO, "OverQuota", OK),
+    ("--app-bytes", 76, [ONE], release("shop", putting("fr"), removing("de")), None, OK),
+    ("--app-bytes", 152, [ONE], release("shop", putting("fr"), removing("fr"), putting("it")), "OverQuota", OK),
+    ("--app-bytes", 132, [ONE], release("shop", putting("de", SMALL), putting("fr")), "OverQuota", OK),
+    ("--bundle-bytes", 76, [], TWO, {"error": "BundleTooLong", "index": 0}, OK),
+    ("--bundle-bytes", 114, [], release("shop", putting("fr", SMALL), putting("de", LONG)), {"error": "BundleTooLong", "index": 1}, OK),
+    ("--apps", 2, [ONE], release("bank", putting("de")), "TooManyApps", OK),
+    ("--apps", 1, [ONE], release("bank", putting("de"), removing("de")), None, OK),
+    ("--line-bytes", len(line_of(TWO)), [], TWO, "LineTooLong", OK),
+    ("--reply-bytes", 41, [ONE], SIZES, "ReplyTooLong", {"bundles": [{"bytes": 76, "locale": "de"}]}),
+    ("--reply-bytes", 164, [ONE], EXPORT, "ReplyTooLong", {"file": FILE}),
+    ("--reply-bytes", 38, [ONE], {**EXPORT, "as": "text"}, "ReplyTooLong", {"text": 'de {\n    a { "b" }\n}\n'}),
+    ("--reply-bytes", 46, [ONE], tree("shop", "de"), "ReplyTooLong", TREE),
+    ("--reply-bytes", 40, [ONE], tree("shop", "de", path="a"), "ReplyTooLong", INNER),
+    # the lookup takes 3 steps, one for each name; the tree as many and one for each key
+    ("--steps", 4, [ONE], tree("shop", "de_AT"), "TooManySteps", TREE),
+    ("--steps", 6, [ONE], tree("shop", "de_AT", path="a"), "TooManySteps", INNER),
+    # 3 names; `a` at two tables, `b` and `x` at one; the alias, and 2 names times 2 for where it leads
+    ("--steps", 12, [ONE, (CHAIN, OK)], tree("shop", "de_AT"), "TooManySteps", MERGED),
+    ("--line-bytes", len(line_of(tree("shop", "de"))), [], tree("shop", "de"), "LineTooLong", refused("NoBundle")),
+]
+
+
+@pytest.mark.parametrize("words, row", [*(([], row) for row in AT_VALUES), *((["--extended"], row) for row in EXTENDED_AT_VALUES)])
+def test_at_value(resb, words, row):
+    """Each limit at its value and one above is kept, and one below refuses."""
+    limit, value, before, asked, error, answer = row
+    for number in range(max(value - 1 if error else value, 1), value + 2):
+        refusal = error if isinstance(error, dict) else refused(error)
+        serves(resb, [*words, limit, str(number)], [*before, (asked, refusal if number < value else answer)])
+
+
+def test_full_releases(resb):
+    full = [putting(f"aa_{number}", SMALL) for number in range(4096)]
+    serves(resb, ["--extended"], [
+        (release("shop", *full, removing("aa_1")), {"error": "Full", "index": 4096}), (usage("shop"), used(0, 0)),
+        (release("shop", *full, putting("a b", SMALL)), {"error": "Full", "index": 4096}), (usage("shop"), used(0, 0)),
+        (release("shop", *full), OK), (usage("shop"), used(4096 * 56, 4096)),
+        (release("shop", putting("de"), removing("aa_1")), {"error": "Full", "index": 0}),
+        (release("shop", removing("aa_1"), putting("de")), OK), (release("shop", putting("de", SMALL)), OK),
+        (usage("shop"), used(4096 * 56, 4096)), (release("shop", *[removing("aa_2"), putting("aa_2", SMALL)] * 2048), OK),
+        (release("shop", *[removing("de")] * 5000), {"error": "Absent", "index": 1}), (names("bank"), {"names": []})])
+
+
+def test_refusals_of_trees(resb):
+    serves(resb, ["--extended", "--steps", "1", "--reply-bytes", "1"], [
+        ONE, (tree("a b", "de"), refused("BadApp")), (tree("ICUDATA", "de"), refused("Reserved")), (tree("shop", "d"), refused("BadLocale")),
+        (tree("shop", "de", path="a//b"), refused("BadPath")), (tree("shop", "de"), refused("TooManySteps")),
+        (tree("shop", "root"), refused("NoBundle")), (tree("shop", "de", path="a" * 1025), refused("PathTooLong"))])
+    serves(resb, ["--extended", "--reply-bytes", "1"], [
+        ONE, (tree("shop", "de"), refused("ReplyTooLong")), (tree("shop", "de", path="b"), refused("Missing"))])
+    for missing in (0, 1):
+        request, longest = long_tree(missing)
+        length = len(reply_of(longest))
+        for words, wanted in (([], longest), (["--reply-bytes", str(length)], longest),
+                              (["--reply-bytes", str(length - 1)], refused("ReplyTooLong"))):
+            serves(resb, ["--extended", *words], [(request, OK), (tree("long", "de"), wanted)])
+    # without a limit on steps 100,000: one for the level, one for the key and one for each item
+    for items in (99_998, 99_999):
+        many = install("long", "root", "root{a{" + "1," * items + "}}")
+        found = {"actual": "root", "tree": {"a": ["1"] * items}, "valid": "root"}
+        serves(resb, ["--extended"], [(many, OK), (tree("long", "root"), found if items == 99_998 else refused("TooManySteps")),
+                                      (tree("long", "root", path="a/1"), {"actual": "root", "tree": "1", "valid": "root"})])
+    longer, _ = long_tree(-1)
+    for words in ([], ["--reply-bytes", str(TREE_LIMIT + 1)], ["--reply-bytes", str(MOST)]):
+        serves(resb, ["--extended", *words], [(longer, OK), (tree("long", "de"), refused("TreeTooLarge")), ONE,
+                                                 (tree("shop", "de"), TREE)])
+    serves(resb, ["--extended", "--reply-bytes", str(TREE_LIMIT)], [(longer, OK), (tree("long", "de"), refused("ReplyTooLong"))])
+
+
+# requests that no limit applies to, and refusals that come before those of a limit
+NOT_REFUSED = [
+    (["--reply-bytes", "1"], [
+        (install("shop", "de"), OK), (replace("shop", "de"), OK), (install("shop", "de"), refused("Exists")), (b"", refused("BadLine")),
+        (look("shop", "de", "a/b/c"), refused("Missing")), (names("shop"), refused("ReplyTooLong")), (names("a b"), refused("BadApp")),
+        (usage("shop"), used(76, 1)), (usage("ICUDATA"), refused("Reserved")), (remove("shop", "de"), OK)]),
+    (["--steps", "1"], [
+        (look("a b", "de", "a"), refused("BadApp")), (look("ICUDATA", "de", "a"), refused("Reserved")),
+        (look("shop", "d", "a"), refused("BadLocale")), (look("shop", "de", "a//b"), refused("BadPath")),
+        (look("shop", "de", "a"), refused("TooManySteps")), (look("shop", "root", ""), refused("NoBundle")),
+        (look("shop", "de", "a" * 1025), refused("PathTooLong")),
+        (install("shop", "xa", 'xa{%%Parent{"xb"}}'), OK), (install("shop", "xb", 'xb{%%Parent{"xa"}}'), OK),
+        (look("shop", "xa", "a"), refused("Chain"))]),
+    (["--bundle-bytes", "75"], [
+        (install("a b", "de", LONG), refused("BadApp")), (install("ICUDATA", "de", LONG), refused("Reserved")),
+        (install("shop", "d", LONG), refused("BadLocale")), (install("shop", "de", LONG + "}"), refused("BundleTooLong")),
+        (install("shop", "de", "}"), refused("BadText")), (replace("shop", "de"), refused("Absent")), (install("shop", "de", SMALL), OK),
+        (install("shop", "de"), refused("Exists")), (replace("shop", "de"), refused("BundleTooLong")),
+        (install("shop", "fr"), refused("BundleTooLong")), (replace("shop", "de", LONG), refused("BundleTooLong")),
+        ({**install("shop", "de"), "file": FILE}, refused("BadLine")), (names("shop"), {"names": ["de"]})]),
+    (["--app-bytes", "75", "--apps", "1"], [
+        (replace("shop", "de"), refused("Absent")), (install("shop", "de"), refused("OverQuota")), (install("shop", "de", SMALL), OK),
+        (install("shop", "de"), refused("Exists")), (install("bank", "de"), refused("OverQuota")),
+        (install("bank", "de", SMALL), refused("TooManyApps")), (remove("bank", "de"), refused("Absent")),
+        (look("bank", "de", "a"), refused("NoBundle")), (names("bank"), {"names": []}), (usage("bank"), used(0, 0)),
+        (remove("shop", "de"), OK), (install("bank", "de", SMALL), OK), (install("shop", "de", SMALL), refused("TooManyApps"))]),
+    (["--bundle-bytes", "75", "--app-bytes", "75", "--apps", "1"], [
+        (install("shop", "de", SMALL), OK), (install("bank", "de"), refused("BundleTooLong"))]),
+    (["--bundle-bytes", "60"],
+           [(install("shop", f"aa_{number}", SMALL), OK) for number in range(4096)]
+           + [(install("shop", "de"), refused("Full")), (install("shop", "aa_1"), refused("Exists"))]),
+    ([], [(usage("shop"), refused("BadLine")), (install("shop", "de"), OK), (usage("shop"), refused("BadLine"))]),
+    (["--keep-serving"], [
+        (usage("shop"), used(0, 0)), (usage("a b"), refused("BadApp")), (usage(""), refused("BadApp")),
+        (usage("ICUDATA"), refused("Reserved")), ({"op": "usage"}, refused("BadLine")),
+        ({"op": "usage", "app": 1}, refused("BadLine"))]),
+    *(([limit, str(MOST)], [ONE, (usage("shop"), used(76, 1)), (look("shop", "de", "a"), FOUND)]) for limit in NUMBERS),
+]
+
+
+@pytest.mark.parametrize("arguments, pairs", NOT_REFUSED, ids=lambda value: " ".join(value) if value and isinstance(value[0], str) else "")
+def test_not_refused(resb, arguments, pairs):
+    serves(resb, arguments, pairs)
+
+
+def test_at_the_quota(resb):
+    """At the quota a bundle gives way to a smaller one, not to a larger one, and what is removed can be installed again."""
+    serves(resb, ["--app-bytes", "152"], [
+        (install("shop", "de"), OK), (install("shop", "fr"), OK), (usage("shop"), used(152, 2)),
+        (install("shop", "it", SMALL), refused("OverQuota")), (replace("shop", "de", 'de{a{"c"}}'), OK), (usage("shop"), used(152, 2)),
+        (replace("shop", "de", 'de{a{"bcd"}}'), refused("OverQuota")), (look("shop", "de", "a"), {**FOUND, "value": "c"}),
+        (replace("shop", "de", SMALL), OK), (usage("shop"), used(132, 2)), (install("shop", "it", SMALL), refused("OverQuota")),
+        (replace("shop", "de"), OK), (usage("shop"), used(152, 2)), (look("shop", "de", "a"), FOUND),
+        (remove("shop", "fr"), OK), (usage("shop"), used(76, 1)), (install("shop", "fr"), OK), (usage("shop"), used(152, 2)),
+        (install("bank", "de"), OK), (install("bank", "fr"), OK), (usage("bank"), used(152, 2)), (remove("shop", "de"), OK),
+        (remove("shop", "fr"), OK), (usage("shop"), used(0, 0)), (names("shop"), {"names": []}), (usage("bank"), used(152, 2))])
+
+
+def test_long_line(program):
+    """A line of 300 MB between two good ones is passed over; so is one at the end that has no line feed."""
+    server = Server([program, "serve", "--line-bytes", "1000"])
+    server.send(line_of(install("shop", "de")) + b"\n")
+    for _ in range(300):
+        server.send(b"x" * MEGABYTE)
+    server.send(b"\n" + line_of(look("shop", "de", "a")) + b"\n")
+    server.await_replies(3)
+    peak = server.peak()
+    server.send(b"y" * 5000)
+    assert server.end() == 0
+    assert server.replies == [reply_of(answer) for answer in (OK, refused("LineTooLong"), FOUND, refused("LineTooLong"))]
+    assert peak is None or peak < 32 * MEGABYTE
+
+
+def test_longest_line(resb):
+    """Without limits a line of 268,435,456 bytes is answered, and one of a byte more ends serving."""
+    longest = b" " * 268_435_456
+    assert served(resb, [], [longest, longest + b" ", b"{}"]) == (1, [reply_of(refused("BadLine"))], b"LineTooLong\n")
+
+
+def test_many_apps(resb):
+    """A hundred thousand applications, of which a thousand may have bundles."""
+    pairs = [(install(f"app{number}", "de", SMALL), OK if number < 1000 else refused("TooManyApps")) for number in range(100000)]
+    pairs += [(install("app7", "fr", SMALL), OK), (usage("app7"), used(112, 2)), (usage("app5000"), used(0, 0)),
+              (remove("app7", "de"), OK), (install("other", "de", SMALL), refused("TooManyApps")), (remove("app7", "fr"), OK),
+              (install("other", "de", SMALL), OK), (install("app7", "de", SMALL), refused("TooManyApps")),
+              (look("app7", "de", ""), refused("NoBundle")), (look("app8", "de", "a"), refused("Missing"))]
+    serves(resb, ["--apps", "1000"], pairs)
+
+
+ATTACK_SECONDS = 3
+
+
+def bound(limits):
+    """Returns the most memory that a server is to have under these limits: the sum of docs/SERVER.md."""
+    bundles = min(4096, limits["--app-bytes"] // 56)
+    return (24 * MEGABYTE + limits["--apps"] * (2 * limits["--app-bytes"] + 512 * (bundles + 1))
+            + 60 * min(limits["--bundle-bytes"], 8388608) + 4 * limits["--line-bytes"] + 4 * limits["--reply-bytes"])
+
+
+def everything(apps, quota, largest):
+    """Lines of more applications than there may be, which fill what there is, each kind until its application is full, and then at random."""
+    chosen, names_of_apps = random.Random(11), [f"app{number}" for number in range(apps + 4)]
+    for number in range(4096):
+        yield from (install(app, f"aa_{number}", SMALL) for app in names_of_apps[:8])
+    wide, fits = ("x{a{" + "b," * count + "}}" for count in (100000, 15000))  # each byte an item, more or less
+    keys = files.write((("table", {f"k{number:05d}": ("int", number) for number in range(15000)}), False)).hex()
+    alias = "x{" + "".join(f'a{number}:alias{{"de_A_B_C/a{(number + 1) % 300}"}}' for number in range(300)) + "}"
+    end = time.monotonic() + ATTACK_SECONDS
+    while time.monotonic() < end:
+        app, locale = chosen.choice(names_of_apps), f"aa_{chosen.randrange(40)}"
+        yield chosen.choice((
+            lambda: install(app, locale, wide), lambda: install(app, locale, fits), lambda: replace(app, locale, fits),
+            lambda: install_file(app, locale, keys), lambda: {**install_file(app, locale, keys), "op": "replace"},
+            lambda: install(app, locale, big(3000, 60)), lambda: install(app, locale, 'x{a{"' + "\\u0001" * 30000 + '"}}'),
+            lambda: install(app, "de", alias), lambda: look(app, "de_A_B_C", "a0"), lambda: look(app, locale, ""), lambda: look(app, locale, "a"),
+            lambda: look(app, locale, "k5"), lambda: remove(app, locale), lambda: names(app), lambda: usage(app),
+            lambda: b'{"op":' * 127, lambda: b'{"op":"install","text":"' + b"\\u0061" * (largest // 3) + b'"}',
+            lambda: b"[" * (2 * largest), lambda: b'"' + b"z" * (8 * largest),
+            lambda: chosen.randbytes(chosen.randrange(100000)).replace(b"\n", b" "),
+            lambda: {**install(app, locale, big(2000, 60)), "x" * largest: ["y" * (largest // 3)]},
+        ))()
+
+
+class Fragmenter:
+    """The bundles of one application that fragments memory: it removes every second one, and fills its quota with bundles of twice the size,
+    which no hole holds. Each doubling costs half of the quota again in an allocator that never moves (Robson's bound)."""
+
+    def __init__(self, app, quota):
+        self.app, self.quota, self.made, self.live = app, quota, 0, []
+
+    def halve(self):
+        for locale, _ in self.live[::2]:
+            yield remove(self.app, locale)
+        self.live = self.live[1::2]
+
+    def fill(self, size, file):
+        held = sum(each for _, each in self.live)
+        while held + size <= self.quota and len(self.live) < 4096:
+            locale = locale_of(self.made)
+            self.made, held = self.made + 1, held + size
+            self.live.append((locale, size))
+            yield install_file(self.app, locale, file)
+
+
+def binary_of(size):
+    """Returns a file of `size` bytes in hexadecimal, whose one item is a binary."""
+    least = len(files.write((("table", {"a": ("bin", b"")}), False)))
+    file = files.write((("table", {"a": ("bin", bytes(max(size - least - 32, 0)))}), False))
+    return file.hex(), len(file)
+
+
+def locale_of(number):
+    return f"{chr(97 + number // 676 % 26)}{chr(97 + number // 26 % 26)}{chr(97 + number % 26)}_{number}"
+
+
+def filled(app, size, quota, begin=0):
+    """Fills an application with bundles of one size."""
+    file, length = binary_of(size)
+    for number in range(begin, begin + min(4096, quota // length)):
+        yield install_file(app, locale_of(number), file)
+
+
+def just_above_a_page(apps, quota, largest):
+    """Bundles of one byte more than fits into a page with the allocator's head, so that each takes two."""
+    return itertools.chain.from_iterable(filled(f"app{number}", 4096, quota) for number in range(apps))
+
+
+def without_maps(apps, quota, largest):
+    """Half of the applications take all maps that a process may have, by bundles of a page; the others fragment the rest."""
+    most, taken, half = 66_000, 0, 0
+    while taken < most and half < apps:
+        requests = list(filled(f"map{half}", 4096, quota))
+        taken, half = taken + len(requests), half + 1
+        yield from requests
+    yield from fragmenters(apps - half, quota, largest)
+
+
+def fragmenters(apps, quota, largest):
+    """Yields the requests of applications that all fragment their memory."""
+    attackers, size, first = [Fragmenter(f"app{number}", quota) for number in range(apps)], max(quota // 4096, 256), True
+    while size <= largest:
+        file, length = binary_of(size)
+        for attacker in attackers:
+            yield from itertools.chain(() if first else attacker.halve(), attacker.fill(length, file))
+        size, first = 2 * size, False
+
+
+def text_of(size):
+    return 'x{a:bin{"' + "00" * (size - 100) + '"}}'
+
+
+def texts_beside(apps, quota, largest):
+    """Bundles that come as texts, for whose files more memory is reserved than they need, each replaced by a longer one."""
+    for size in (1100, 2100, 4200, 8300, 16500, 33000):
+        count = min(4096, quota // size)
+        for app in range(apps):
+            for number in range(count):
+                yield (install if size == 1100 else replace)(f"app{app}", locale_of(number), text_of(size))
+        for app in range(apps):
+            for number in range(min(4096, quota // (2 * size)), count):
+                yield remove(f"app{app}", locale_of(number))
+
+
+def two_sizes(apps, quota, largest):
+    """Applications that take turns: small bundles of all, then every 16th stays and large ones fill the gaps, over and over."""
+    for turn in range(4):
+        sizes = (300, 3900) if turn % 2 == 0 else (1000, 60000)
+        for app in range(apps):
+            yield from filled(f"app{app}", sizes[0], quota)
+        for app in range(apps):
+            count = min(4096, quota // sizes[0])
+            yield from (remove(f"app{app}", locale_of(number)) for number in range(count) if number % 16)
+            yield from filled(f"app{app}", sizes[1], quota - quota // 8, 5000)
+        for app in range(apps):
+            yield from (remove(f"app{app}", locale_of(number)) for number in range(10000))
+
+
+def names_that_come_and_go(apps, quota, largest):
+    """Applications with names of 64 letters, of which each has a bundle for a moment, beside ones that stay."""
+    yield from itertools.chain.from_iterable(filled(f"app{number}", 300, quota) for number in range(apps - 1))
+    for turn in range(200_000):
+        app = f"{turn:064d}"
+        yield install(app, "de", "x{}")
+        yield remove(app, "de")
+
+
+def longest_lines(apps, quota, largest):
+    """Yields the longest lines of each kind beside applications that are full."""
+    yield from itertools.chain.from_iterable(filled(f"app{number}", 100_000, quota) for number in range(apps))
+    wide = "x{a{" + "b," * (largest // 2 - 10) + "}}"
+    for turn in range(8):
+        yield replace("app0", locale_of(turn), wide)
+        yield replace("app0", locale_of(turn), "x{" + "".join(f"k{i}{{}}" for i in range(largest // 9)) + "}")
+        yield replace("app0", locale_of(turn), "x{a{" + ("{" * 50 + "}" * 50) * (largest // 101) + "}}")
+        yield names("app0")
+        yield b'{"op":"' + b"\\u0061" * (largest // 4) + b'"}'
+        yield b"[" * largest
+
+
+def at_random(apps, quota, largest):
+    """Installs, replacements and removals of random sizes."""
+    chosen, made = random.Random(3), [binary_of(round(60 * 1.4 ** power))[0] for power in range(28)]
+    for _ in range(60_000):
+        app, locale = f"app{chosen.randrange(apps)}", locale_of(chosen.randrange(600))
+        request = install_file(app, locale, chosen.choice(made))
+        yield chosen.choice((request, {**request, "op": "replace"}, remove(app, locale)))
+
+
+def one_bundle_each(apps, quota, largest):
+    """Applications of one bundle, with the longest names, whose bundle grows and shrinks."""
+    locale = ("aa_Latn_US_" + "_".join(f"{part:08d}" for part in range(16)))[:64]
+    for size in (60, 4096, 60, largest - 200, 4097, largest - 200):
+        file = binary_of(size)[0]
+        for app in range(apps):
+            request = install_file(f"{app:064d}", locale, file)
+            yield {**request, "op": "replace"}
+            yield request
+
+
+def up_and_down(apps, quota, largest):
+    """Bundles of sizes that grow and shrink again, of which a quarter stays each time until the next but one."""
+    sizes = [round(300 * 1.7 ** power) for power in range(16) if 300 * 1.7 ** power < largest]
+    for turn, size in enumerate(sizes + sizes[::-1]):
+        for app in range(apps):
+            begin = turn % 3 * 10_000
+            yield from (remove(f"app{app}", locale_of(number)) for number in range(begin, begin + min(4096, quota // size)))
+            yield from filled(f"app{app}", size, quota, begin)
+            yield from (remove(f"app{app}", locale_of(number)) for number in range(begin, begin + min(4096, quota // size)) if number % 4)
+
+
+def refused_lines(apps, quota, largest):
+    """Requests that are refused late: files and texts with a fault at the end, a byte more than the quota, and replies that are too long."""
+    yield from itertools.chain.from_iterable(filled(f"app{number}", 60_000, quota) for number in range(apps))
+    fault = "x{" + "".join(f"k{i}{{}}" for i in range(largest // 12)) + "k1{}}"
+    deep = "x{a" + "{" * 64 + "}" * 64 + "}"
+    for turn in range(40):
+        app = f"app{turn % apps}"
+        for text in (fault, deep, text_of(largest - 60), "x{a{" + '"b",' * (largest // 8) + '}}"'):
+            yield replace(app, locale_of(turn), text)
+        yield {"op": "look", "app": app, "locale": locale_of(turn), "path": ""}
+
+
+# the strategy, and the applications, their MB and the MB of a bundle; all but the first two by hand
+STRATEGIES = [
+    (everything, 16, 1, 0.25), (fragmenters, 4, 16, 1),
+    (just_above_a_page, 32, 4, 1), (texts_beside, 16, 4, 1), (two_sizes, 16, 4, 1), (names_that_come_and_go, 16, 1, 1), (longest_lines, 8, 4, 1),
+    (at_random, 16, 4, 1), (fragmenters, 32, 4, 1), (fragmenters, 256, 1, 1), (without_maps, 128, 4, 1), (without_maps, 200, 4, 1),
+    (one_bundle_each, 200, 1, 0.25), (up_and_down, 4, 4, 1), (refused_lines, 16, 4, 1),
+]
+
+
+@pytest.mark.alone
+@pytest.mark.parametrize("strategy, apps, quota, largest",
+                         [*STRATEGIES[:2], *(pytest.param(*row, marks=pytest.mark.hand) for row in STRATEGIES[2:])])
+def test_attack(program, strategy, apps, quota, largest):
+    """Memory stays below the sum of docs/SERVER.md whatever applications do within their limits (notes/attacks.md)."""
+    quota, largest, sent = quota * MEGABYTE, round(largest * MEGABYTE), 0
+    limits = {"--app-bytes": quota, "--bundle-bytes": largest, "--reply-bytes": 65536, "--line-bytes": 2 * largest + 65536, "--apps": apps,
+              "--steps": 20000}
+    settings = [f"{name}={value}" for name, value in SETTINGS.items()]
+    server = Server(["env", *settings, program, "serve", *limit_words(limits), "--keep-serving"], keeps=False)
+    for request in strategy(apps, quota, largest):
+        server.send(line_of(request) + b"\n")
+        sent += 1
+    server.await_replies(sent)
+    peak = server.peak()
+    assert server.end() == 0 and server.longest <= limits["--reply-bytes"] and (strategy is not fragmenters or server.good == sent)
+    if peak is None:
+        raise Skipped("the system doesn't tell the memory of a process")
+    assert peak < bound(limits), f"{peak / MEGABYTE:.1f} MB of memory, of {bound(limits) / MEGABYTE:.1f} MB"
+
+
+@pytest.mark.alone
+def test_without_memory(resb):
+    """A text for which there is no memory is answered by `--keep-serving`, and the server continues; without it, serving ends."""
+    memory = {"preexec_fn": limited(least_memory(resb.program) + 40 * MEGABYTE)}
+    requests = [install("shop", "de"), install("shop", "fr", big(250000)), look("shop", "fr", "a"), look("shop", "de", "a"), usage("shop")]
+    assert served(resb, [], requests[:4], **memory) == (1, [reply_of(OK)], b"Memory\n")
+    wanted = [reply_of(answer) for answer in (OK, refused("Memory"), refused("NoBundle"), FOUND, used(76, 1))]
+    assert served(resb, ["--keep-serving"], requests, **memory) == (0, wanted, b"")
+
+
+def over_a_file(resb, source, prepare):
+    """Runs a server over a file of lines, which it reads in buffers that are full: its status, its replies and its standard error."""
+    with tempfile.TemporaryFile() as lines, tempfile.TemporaryFile() as replies:
+        lines.write(source)
+        lines.seek(0)
+        done = resb("serve", stdin=lines, stdout=replies, preexec_fn=prepare)
+        replies.seek(0)
+        return done.status, replies.read().splitlines(keepends=True), done.stderr
+
+
+@pytest.mark.alone
+def test_waiting_replies(resb):
+    """Replies that wait to be written, as the reader's buffer holds further lines, are written before serving ends without memory. If they
+    can't be, the code is `Write`."""
+    source = b"".join(line_of(install(f"app{number:08}", "de")) + b"\n" for number in range(100000))
+    flushed = [source.count(b"\n", 0, end) for end in range(0, len(source), READER)]
+    for spare in (4, 5, 6):
+        size = least_memory(resb.program) + spare * MEGABYTE
+        status, replies, errors = over_a_file(resb, source, limited(size))
+        assert (status, set(replies), errors) == (1, {reply_of(OK)}, b"Memory\n")
+        before = max(count for count in flushed if count <= len(replies))
+        if before < len(replies):
+            break
+    assert before < len(replies), "replies that waited are lost"
+    status, replies, errors = over_a_file(resb, source, limited_output(before * len(reply_of(OK)), size))
+    assert (status, len(replies), errors) == (1, before, b"Write\n")
+
+
+BAD_VALUES = ("0", "00", "", "-1", "1.0", "1e3", "0x10", "10k", " 1", "1 ", "one", "1_000", str(MOST + 1), str(1 << 64), "9" * 40)
+
+
+@pytest.mark.parametrize("limit", NUMBERS)
+def test_bad_limit(resb, limit):
+    """A limit that is no number from 1 to 2^63 is refused before anything is read or written."""
+    for value in BAD_VALUES:
+        status, replies, errors = served(resb, [f"{limit}={value}"], [names("shop")])
+        assert (status, replies) == (2, []) and limit.encode() in errors, value
+    for words in ([limit], [limit, "1", limit, "2"], [limit, "--keep-serving"]):
+        status, replies, errors = served(resb, words, [names("shop")])
+        assert (status, replies, bool(errors)) == (2, [], True), words
+    for value in ("1", "0001", str(MOST)):
+        assert served(resb, [limit, value], []) == (0, [], b"")
+
+
+@pytest.mark.parametrize("words", [["--keep-serving=yes"], ["--keep-serving", "--keep-serving"], ["--keep-serving", "x"]])
+def test_bad_command_line(resb, words):
+    assert served(resb, words, [])[:2] == (2, [])

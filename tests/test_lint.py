@@ -1,0 +1,347 @@
+"""`resb lint`: each warning and the nearest text without it, the texts of lint/texts.jsonl, docs/LINT.md, and the four formats.
+
+A line of lint/texts.jsonl has "text" (or "hex", its bytes), "name" (that of the file, without .txt), "root" if it is linted against that text, and
+"options". What is expected: "warnings", the line and the rule of each in order; "among", some of them; "messages", those of the warnings; "error",
+the line, the column and the message of the error.
+"""
+import json
+import re
+import urllib.parse
+
+import pytest
+from support.program import TOP
+
+ENGLISH = {
+    "menu": 'menu { open { "Open" } close { "Close" } }',
+    "hello": 'hello { "Hello {name}" }',
+    "until": 'until { "Until {day, date}" }',
+    "days": 'days { "Mon", "Tue", "Wed" }',
+    "hi": 'hi { "<b>Hello</b>" }',
+    "size": 'size { "%d of %d" }',
+    "name": 'name { "Name: " }',
+    "limit": 'limit { "up to 8" }',
+    "page": 'page { "http://example.org" }',
+}
+GERMAN = {
+    "menu": 'menu { open { "Öffnen" } close { "Schließen" } }',
+    "hello": 'hello { "Hallo {name}" }',
+    "until": 'until { "Bis {day, date}" }',
+    "days": 'days { "Mo", "Di", "Mi" }',
+    "hi": 'hi { "<b>Hallo</b>" }',
+    "size": 'size { "%d von %d" }',
+    "name": 'name { "Name: " }',
+    "limit": 'limit { "bis 8" }',
+    "page": 'page { "http://example.org" }',
+}
+ROOT = "root {\n" + "".join(f"  {entry}\n" for entry in ENGLISH.values()) + "}\n"
+# The warnings that are off unless they are denied.
+OPTIONAL = {"other-numbers", "same-text"}
+
+
+def bundle(*entries, name="de"):
+    """Returns a text with some entries, each in a line."""
+    return name + " {\n" + "".join(f"  {entry}\n" for entry in entries) + "}\n"
+
+
+def message(pattern, name="de"):
+    return bundle('a { "' + pattern + '" }', name=name)
+
+
+def beside(**others):
+    """Returns a text with the root's entries in German, except some others."""
+    return bundle(*{**GERMAN, **others}.values())
+
+
+# The warning, a text that has it, and the nearest one without it.
+ALONE = [
+    ("open-quote", bundle('a { "un }', 'b { "x" }'), bundle('a { "un" }', 'b { "x" }')),
+    ("open-quote", bundle('a { "un }', 'b { deux" }'), bundle('a { "un', '    deux" }')),
+    ("mixed-quotes", bundle('a { "un" deux }'), bundle('a { "un deux" }')),
+    ("mixed-quotes", bundle('a { un "deux" }'), bundle('a { "un" "deux" }')),
+    ("joined-strings", bundle('a { "un", "deux" "trois" }'), bundle('a { "un", "deux", "trois" }')),
+    ("joined-strings", bundle('a { "un", "deux"', '      "trois" }'), bundle('a { "un deux"', '      "trois" }')),
+    ("joined-strings", bundle("a:intvector { 1, 2 3 }"), bundle("a:intvector { 1, 2, 3 }")),
+    ("joined-strings", bundle("a {", '  "un",', '  "deux"', '  "trois"', "}"), bundle("a {", '  "un",', '  "deux"', '    "trois"', "}")),
+    ("joined-strings", bundle('a { "un", "deux"', '      "trois" }'), bundle('a { "un", "deux" // deux', '      "trois" }')),
+    ("mixed-quotes", bundle('a { "un", deux trois }'), bundle('a { "un", deux }')),
+    ("unknown-escape", bundle('a { "C:\\quit" }'), bundle('a { "C:\\\\quit" }')),
+    ("doubled-backslash", bundle('a { "\\\\u00E9" }'), bundle('a { "\\u00E9" }')),
+    ("doubled-backslash", bundle('a { "\\\\u00E9" }'), bundle('a { "\\\\u00E" }')),
+    ("doubled-backslash", bundle('a { "' + "gr\\\\u00FCn" * 12 + '" }'), bundle('a { "' + "\\\\u00FC > x; " * 12 + '" }')),
+    ("bundle-name", 'fr { a { "x" } }\n', 'de { a { "x" } }\n'),
+    ("open-direction", bundle('a { "x \u202ey" }'), bundle('a { "x \u202ey\u202c" }')),
+    ("open-direction", bundle('a { "x \u2067y" }'), bundle('a { "x \\u202Ey" }')),
+    ("suspicious-key", bundle('a { "x" }; b { "y" }'), bundle('a { "x" } b { "y" }')),
+    ("suspicious-key", bundle('a b { "x" }'), bundle('"a b" { "x" }')),
+    ("suspicious-key", bundle('a= { "x" }'), bundle('"a=" { "x" }')),
+    ("suspicious-key", bundle("`a` { \"x\" }"), bundle('"`a`" { "x" }')),
+    ("suspicious-key", bundle('a\0b { "x" }'), bundle('ab { "x" }')),
+    ("conflict-marker", 'de {\n<<<<<<< HEAD\n  a { "x" }\n}\n', bundle('a { "x" }')),
+    ("conflict-marker", 'de {\n  a {\n    "x",\n=======\n  }\n}\n', 'de {\n  a {\n    "x",\n======\n  }\n}\n'),
+    ("entry-in-array", bundle('a { "x", b { "y" } }'), bundle('a { x { "x" } b { "y" } }')),
+    ("entry-in-array", bundle('a { "x", b { "y" } }'), bundle('a { "x", { "y" } }')),
+    ("other-quotes", bundle("a { 'x' }"), bundle('a { "x" }')),
+    ("other-quotes", bundle("a { „x“ }"), bundle('a { "„x“" }')),
+    ("other-quotes", bundle("a { 'x' }"), bundle("a { it's }")),
+    ("unknown-allowed", bundle("// resb-lint: allow joined", 'a { "x" }'), bundle("// resb-lint: allow joined-strings", 'a { "x" }')),
+    ("unquoted-address", bundle("a { http://x.org }"), bundle('a { "http://x.org" }')),
+    ("misspelled-key", bundle('%%parent { "root" }'), bundle('%%Parent { "root" }')),
+    ("misspelled-key", bundle('%%Alias { "root" }'), bundle('x { %%Alias { "root" } }')),
+    ("bad-parent", bundle('%%Parent { "de root" }'), bundle('%%Parent { "" }')),
+    ("bad-parent", bundle('%%Parent { "de" }'), bundle('%%Parent { "root" }')),
+    ("alias-to-nothing", bundle('a { "x" } b:alias { "root/aa" }', name="root"), bundle('a { "x" } b:alias { "root/a" }', name="root")),
+    ("alias-to-nothing", bundle('a { "x" } b:alias { "root/a/0" }', name="root"), bundle('a { "x" } b:alias { "/LOCALE/aa" }', name="root")),
+    ("replacement-character", bundle('a { "Gr\ufffdn" }'), bundle('a { "Gr\\uFFFDn" }')),
+    ("mojibake", bundle('a { "GrÃ¼n" }'), bundle('a { "Grün" }')),
+    ("mojibake", bundle('a { "Ã–ffnen" }'), bundle('a { "NÃO – SÃO" }')),
+    ("mixed-scripts", bundle('a { "cервер" }'), bundle('a { "сервер" }')),
+    ("mixed-scripts", bundle('a { "c\u0435rver" }'), bundle('a { "URL-адрес и Wi-Fi" }')),
+    ("missing-close-brace", bundle('a { "x"', 'b { "y" }'), bundle('a { "x" }', 'b { "y" }')),
+    ("missing-open-brace", bundle('b "x" }', 'c { "y" }'), bundle('b { "x" }', 'c { "y" }')),
+    ("missing-open-brace", bundle("a", '  b { "x" }', "}"), bundle("a {", '  b { "x" }', "}")),
+    ("bad-message", message("{0 of {1}"), message("{0} of {1}")),
+    ("bad-message", message("{n, plurl, other {x}}"), message("{n, plural, =1 {y} other {x}}")),
+    ("bad-message", message("{n, plurl, other {x}}"), message("{surname} {given-informal}")),
+    ("stray-brace", message("0} of {1}"), message("{0} of {1}")),
+    ("stray-brace", message("0} of {1}"), message("0'}' of {1}")),
+    ("quoted-argument", message("d'{0}"), message("d''{0}")),
+    ("quoted-argument", message("'{name}'"), message("'{'name'}'")),
+    ("missing-other", message("{n, plural, one {x}}"), message("{n, plural, one {x} other {y}}")),
+    (
+        "repeated-selector",
+        message("{g, select, m {x} m {y} other {z}}"),
+        message("{g, select, m {x} f {y} other {z}}"),
+    ),
+    ("unknown-selector", message("{n, plural, one {x} twos {y} other {z}}"), message("{n, plural, one {x} =2 {y} other {z}}")),
+    ("unused-category", message("{n, plural, zero {x} one {y} other {z}}"), message("{n, plural, =0 {x} one {y} other {z}}")),
+    (
+        "missing-category",
+        message("{n, plural, one {x} few {y} other {z}}", name="ru"),
+        message("{n, plural, one {x} few {y} many {w} other {z}}", name="ru"),
+    ),
+    ("bad-pattern", message("{d, date, DD.MM.YYYY}"), message("{d, date, dd.MM.y}")),
+    ("bad-pattern", message("{d, date, dd.mm.y}"), message("{d, date, HH:mm dd.MM.y}")),
+    ("bad-pattern", message("{d, time, HH:MM}"), message("{d, time, HH:mm}")),
+    ("bad-pattern", message("{d, date, TT.MM.y}"), message("{d, date, dd. 'TT' MMM y}")),
+    ("bad-pattern", message("{d, date, YYYY}"), message("{d, date, w YYYY}")),
+    ("bad-pattern", message("{n, number, #.##0,00}"), message("{n, number, #,##0.00}")),
+    ("bad-pattern", message("{n, number, #.##0}"), message("{n, number, #.00#}")),
+    (
+        "one-branch-argument",
+        message("{g, select, f {{name} came} other {came}}"),
+        message("{g, select, f {{name} came} other {{name} came}}"),
+    ),
+]
+
+# Entries of GERMAN that are those of the root, in other words.
+OWN_WORDS = {"name": 'name { "Ihr Name: " }', "page": 'page { "Seite http://example.org" }'}
+# Texts beside ROOT, in the same form.
+BESIDE = [
+    ("missing-key", beside(menu='menu { close { "Schließen" } }'), beside()),
+    ("unused-key", beside(menu='menu { open { "Öffnen" } close { "Schließen" } opne { "Öffnen" } }'), beside()),
+    ("other-type", beside(menu='menu { "Menü" }'), beside()),
+    ("alias-to-nothing", beside(hi='hi:alias { "/LOCALE/ho" }'), beside(hi='hi:alias { "/LOCALE/menu" }')),
+    ("other-length", beside(days='days { "Mo", "Di" }'), beside()),
+    ("empty-text", beside(hi='hi { "" }'), beside()),
+    ("broken-message", beside(hello='hello { "Hallo {{name}}" }'), beside()),
+    ("broken-message", beside(hello='hello { "[{{name}}]" }'), beside(hello='hello { "[{name}]" }')),
+    ("broken-message", beside(hello='hello { "Hallo {user-name}" }'), beside()),
+    ("other-placeholders", beside(size='size { "%s von %d" }'), beside()),
+    ("other-placeholders", beside(size='size { "%d" }'), beside()),
+    ("other-placeholders", beside(hello='hello { "Hallo ${name}" }'), beside(limit='limit { "8 % so" }')),
+    ("other-tags", beside(hi='hi { "<b>Hallo<b>" }'), beside()),
+    ("other-tags", beside(hi='hi { "<b>Hallo &lt;</b>" }'), beside(hi='hi { "<b >Hallo <Du></b>" }')),
+    ("other-addresses", beside(page='page { "http://exmaple.org" }'), beside(page='page { "(http://example.org), so." }')),
+    ("other-addresses", beside(page='page { "http://example.org/de" }'), beside()),
+    ("other-blanks", beside(name='name { "Name:" }'), beside()),
+    ("other-blanks", beside(name='name { " Name: " }'), beside()),
+    ("other-numbers", beside(limit='limit { "bis 9" }'), beside()),
+    ("same-text", beside(hi='hi { "<b>Hello</b>" }', **OWN_WORDS), beside(**OWN_WORDS)),
+    ("other-arguments", beside(hello='hello { "Hallo" }'), beside()),
+    ("other-arguments", beside(hello='hello { "Hallo {name} {nmae}" }'), beside()),
+    ("other-arguments", beside(until='until { "Bis {day, number}" }'), beside(until='until { "Bis {day}" }')),
+]
+
+
+def lint(resb, path, *options, stdin=b""):
+    """Returns the warnings and the errors of a text as objects of JSON; its status says whether it has an error."""
+    done = resb("lint", "--format", "json", *options, path, stdin=stdin)
+    found = [json.loads(line) for line in done.stdout.splitlines()]
+    errors = [finding for finding in found if finding["severity"] == "error"]
+    assert (done.status, done.stderr) == (1 if errors else 0, b"")
+    return [finding for finding in found if finding["severity"] == "warning"], errors
+
+
+def name_of(text):
+    return re.match(r"\w+", text)[0].replace("fr", "de") + ".txt"
+
+
+@pytest.mark.parametrize("at", range(len(ALONE + BESIDE)))
+def test_each_warning_and_the_nearest_text(resb, at):
+    rule, text, nearest = (ALONE + BESIDE)[at]
+    options = ("--against", resb.put("root.txt", ROOT)) if at >= len(ALONE) else ()
+    options += ("--deny", rule) if rule in OPTIONAL else ()
+    warnings, errors = lint(resb, resb.put(name_of(text), text), *options)
+    rules = {finding["rule"] for finding in warnings + errors}
+    # a text that isn't compiled may have others: the code of its error has capitals
+    assert rule in rules and (rules == {rule} or not all(map(str.islower, rules)))
+    assert lint(resb, resb.put(name_of(nearest), nearest), *options) == ([], [])
+
+
+# Strings with a stray brace behind `¦`: the warning is there, whatever comes before it.
+PLACES = [
+    '"{0} é😀 ¦}"',
+    r'"{0} \u00e9\U0001F600\x4\x41\101\"\\\q ¦}"',
+    '"{0} " // }\n    "ab" /* } */ "¦}"',
+    '"{0}\n\n  \\\n ¦}"',
+    '"" "{0}", "{1}¦}"',
+    '{ "x" } { "{0}"\n"¦}" }',
+]
+
+
+@pytest.mark.parametrize("at", range(len(PLACES)))
+def test_place_in_a_string(resb, at):
+    before, after = bundle("a { " + PLACES[at] + " }").split("¦")
+    line = before.rpartition("\n")[2]
+    place = before.count("\n") + 1, len(line.encode("utf-16-le")) // 2 + 1
+    warnings, _ = lint(resb, resb.put("de.txt", before + after))
+    assert [(finding["line"], finding["column"]) for finding in warnings if finding["rule"] == "stray-brace"] == [place]
+
+
+def rules_of_program(resb):
+    return [line.split(":")[0] for line in resb.output("lint", "--list").decode().splitlines()]
+
+
+def spans(cell):
+    """Returns the pieces of code in a cell of a table."""
+    return [span.replace("\\|", "|") for span in re.findall(r"`` (.*?) ``|`([^`]+)`", cell) for span in span if span]
+
+
+def test_the_page_has_each_warning(resb):
+    """Each warning has a row in docs/LINT.md, whose example and fix are in the texts above."""
+    page = (TOP / "docs" / "LINT.md").read_text(encoding="utf-8")
+    rows = [(found[1], re.split(r"(?<!\\)\|", found[0])[1:-1]) for found in re.finditer(r"^\| `([a-z-]+)`: .*$", page, re.M)]
+    rules = set(rules_of_program(resb))
+    assert rules == {rule for rule, _ in rows} == {case[0] for case in ALONE + BESIDE}
+    for rule, row in rows:
+        for at in (1, 2):
+            shown, texts = spans(row[at]), [case[at] for case in ALONE + BESIDE if case[0] == rule]
+            assert not shown or any(span in text for span in shown for text in texts), (rule, shown)
+
+
+def test_names_that_allow_takes(resb):
+    names = rules_of_program(resb)
+    assert len(names) >= 27
+    assert resb("lint", *(word for name in names for word in ("--allow", name)), "-", stdin=b"de{}").status == 0
+    assert resb("lint", "--allow", "joined", "-", stdin=b"de{}").status == 2
+
+
+WRITTEN = [json.loads(line) for line in (TOP / "tests" / "lint" / "texts.jsonl").read_text(encoding="utf-8").splitlines()]
+
+
+@pytest.mark.parametrize("at", range(len(WRITTEN)))
+def test_text(resb, at):
+    case = WRITTEN[at]
+    words = ["--name", case["name"] + ".txt", *case.get("options", ())]
+    if "root" in case:
+        words += ["--against", resb.put("root.txt", case["root"])]
+    text = bytes.fromhex(case["hex"]) if "hex" in case else case["text"].encode()
+    warnings, errors = lint(resb, "-", *words, stdin=text)
+    found = [[finding["line"], finding["rule"]] for finding in warnings]
+    assert found == case.get("warnings", found)
+    assert [wanted for wanted in case.get("among", ()) if wanted not in found] == []
+    messages = [finding["message"] for finding in warnings]
+    assert messages == case.get("messages", messages)
+    if "error" in case:
+        assert [f"{error['line']}:{error['column']} {error['message']}" for error in errors] == [case["error"]]
+
+
+TEXTS = {
+    "de.txt": 'de {\n  a { "é😀" b, "y" "z" }\n  open { "\\q" }\n  open { "x" }\n}\n',
+    "größe ü%.txt": "de {\n  a { 'x' }\n}\n",
+    "bad.txt": "bad { a { \"x\n } }",
+    "many.txt": 'many { a { "' + "\\q" * 120 + '" } }',
+}
+LEVELS = {"none", "note", "warning", "error"}
+# The properties of the objects that resb writes, by the published JSON schema of SARIF 2.1.0: the required ones, and others of those that
+# it names. It refuses all other names. A message needs a text or an id, and a physical location an artifact location or an address.
+PROPERTIES = {
+    "log": ({"version", "runs"}, {"$schema"}),
+    "run": ({"tool"}, {"columnKind", "results"}),
+    "tool": ({"driver"}, set()),
+    "driver": ({"name"}, {"rules"}),
+    "rule": ({"id"}, {"shortDescription"}),
+    "shortDescription": ({"text"}, set()),
+    "result": ({"message"}, {"level", "locations", "ruleId"}),
+    "message": ({"text"}, set()),
+    "location": (set(), {"physicalLocation"}),
+    "physicalLocation": ({"artifactLocation"}, {"region"}),
+    "artifactLocation": (set(), {"uri"}),
+    "region": (set(), {"startColumn", "startLine"}),
+}
+# The characters of a reference of a URI; `%` is followed by two digits.
+URI = re.compile(r"(?:[\w.~!$&'()*+,;=:@/?#-]|%[0-9A-F]{2})*", re.ASCII)
+
+
+def of_text(output):
+    """Yields each finding as a file, a line and a column or None, a level and a message."""
+    for line in output.splitlines():
+        file, number, column, level, text = re.fullmatch(r"(.*?):(?:(\d+):(\d+):)? (error|warning|note): (.*?)(?: \[[a-z-]+\])?", line).groups()
+        yield file, number and int(number), column and int(column), level, text
+
+
+def of_json(output):
+    for line in output.splitlines():
+        found = json.loads(line)
+        yield found["file"], found.get("line"), found.get("column"), found["severity"], found["message"]
+
+
+def of_github(output):
+    def plain(text):
+        return text.replace("%3A", ":").replace("%2C", ",").replace("%0A", "\n").replace("%0D", "\r").replace("%25", "%")
+
+    for line in output.splitlines():
+        command, properties, text = re.fullmatch(r"::(\w+) (.*?)::(.*)", line).groups()
+        given = dict(part.split("=", 1) for part in properties.split(","))
+        number, column = given.get("line"), given.get("col")
+        yield plain(given["file"]), number and int(number), column and int(column), "note" if command == "notice" else command, plain(text)
+
+
+def check_schema(kind, value):
+    """Checks that an object of SARIF and the objects in it have the properties that they need and no unknown ones."""
+    for one in value if isinstance(value, list) else [value]:
+        required, others = PROPERTIES[kind]
+        assert isinstance(one, dict) and required <= one.keys() <= required | others, (kind, one)
+        for name, inner in one.items():
+            if name.removesuffix("s") in PROPERTIES or name in PROPERTIES:
+                check_schema(name if name in PROPERTIES else name.removesuffix("s"), inner)
+
+
+def of_sarif(output):
+    log = json.loads(output)
+    check_schema("log", log)
+    (found,) = log["runs"]
+    assert (log["version"], found["columnKind"]) == ("2.1.0", "utf16CodeUnits")
+    names = [rule["id"] for rule in found["tool"]["driver"]["rules"]]
+    assert len(names) == len(set(names))
+    for result in found["results"]:
+        place = result["locations"][0]["physicalLocation"]
+        region, uri = place.get("region", {}), place["artifactLocation"]["uri"]
+        assert all(isinstance(number, int) and number >= 1 for number in region.values()) and URI.fullmatch(uri)
+        assert result["level"] in LEVELS and (result["level"] != "warning" or result["ruleId"] in names)
+        yield urllib.parse.unquote(uri, errors="strict"), region.get("startLine"), region.get("startColumn"), result["level"], result["message"]["text"]
+
+
+def test_formats_say_the_same(resb):
+    for name, text in TEXTS.items():
+        resb.put(name, text)
+    found = {}
+    for reader in (of_text, of_json, of_github, of_sarif):
+        done = resb("lint", "--format", reader.__name__.removeprefix("of_"), *TEXTS)
+        assert (done.status, done.stderr) == (1, b"")
+        found[reader] = list(reader(done.stdout.decode()))
+        assert found[reader] == found[of_text]
+    # `é` is one unit and U+1F600 two, as in editors and in SARIF
+    line = TEXTS["de.txt"].splitlines()[1]
+    column = len(line[:line.index("b,")].encode("utf-16-le")) // 2 + 1
+    assert (2, column) in [(place[1], place[2]) for place in found[of_text] if place[0] == "de.txt"]

@@ -1,0 +1,87 @@
+"""`resb lint` reads messages beside ICU's MessageFormat, by PyICU (Debian's python3-icu): 10,000 patterns, written by hand, joined at random and mutated.
+
+Each pattern comes after an argument with a type, so that lint takes it as a message: without one it says nothing of a string that may be something
+else. Lint parses the patterns and doesn't look into the styles of numbers; MessageFormat makes formatters of them. A style of numbers explains
+a difference if MessageFormat accepts the pattern with dates in place of numbers, for which it takes any style.
+"""
+import json
+import re
+
+import pytest
+from hypothesis import given
+from model.trees import units_of
+from support import making
+
+AT_ONCE, BEFORE = 1000, "{t, number}"
+
+WRITTEN = [
+    "", "{0}", "Hello {name}!", "{n, plural, one {# file} other {# files}}", "{n,plural,offset:1 =0{none}=1{one}one{# a}other{# b}}",
+    "{g, select, female {She} male {He} other {They}} came", "{n, selectordinal, one {#st} two {#nd} few {#rd} other {#th}}", "{0,number}",
+    "{0, number, ::compact-short}", "{0,number,#,##0.00}", "{0,number,integer}", "{d, date, short}", "{d, date, ::yMMMd}", "{d,time,HH:mm}",
+    "{0,spellout}", "{0,ordinal}", "{0,duration}", "{0,choice,0#none|1#one|1<many {0}}", "It''s {0}", "it's {0}", "'{0}' is {0}", "'{'0'}'", "a } b",
+    "}{0}", "{g, select, a {{n, plural, one{x{0}} other{y '#' #}}} other {z}}", "{n,plural,other{'#'{0,date,''yy''}}}", "{0,date,yyyy'}'}",
+    "{0,choice,-1#a|\u221e<b|0\u2264c}", "{ 0 , number , percent }", "{\u00e4b, plural, other{\u2028x}}", "don't '{' do '}' that", "{12}{3}{12}",
+    "{n,plural,=0.5{x}=+1e3{y}other{z}}", "{0,choice,1#'|'a|2#b}", "{32767}", "{a, PLURAL, other{#}}",
+]
+PIECES = [
+    "{", "}", "'", "''", "#", "|", ",", "0", "1", "00", "32767", "32768", "99999", "name", "a b", " ", "\t", "\u2028", "\u200e", "plural", "select",
+    "selectordinal", "choice", "number", "date", "time", "spellout", "ordinal", "duration", "PLURAL", "Number", "foo", "other", "one", "few", "=1", "=",
+    "=-", "=1.5", "=1e", "=.5", "=.", "=\u221e", "offset:", "offset:1", "offset", ":", "::", "<", "\u2264", "\u221e", "-", "+", ".", "e", "\U0001f600",
+    "\ud800", "\u00a7", "\u3030", "{0}", "{n,plural,", "other{", "one{", "{g,select,", "{0,choice,", "0#", "1<", "x", "\u00e9", "{0,date,", "{0,number,",
+]
+
+
+def error_of(icu, pattern):
+    """Returns the error of a pattern, or None if MessageFormat accepts it."""
+    try:
+        icu.MessageFormat(pattern, icu.Locale("en"))
+    except icu.ICUError as error:
+        return f"error {error.args[0]}"
+    return None
+
+
+def mutated(dice, pattern):
+    """Returns a pattern with something removed, doubled or inserted at some places."""
+    for _ in range(dice.choice((1, 1, 1, 2, 3, 5))):
+        first = dice.randint(0, len(pattern))
+        past = min(len(pattern), first + dice.choice((0, 0, 1, 1, 2, 5)))
+        other = dice.choice(("", dice.choice(PIECES), dice.choice(PIECES), dice.choice(WRITTEN), pattern[first:past] * 2))
+        pattern = pattern[:first] + other + pattern[past:]
+    return pattern
+
+
+def patterns(dice):
+    """Returns patterns: those written by hand, and others."""
+    made = list(WRITTEN)
+    while len(made) < AT_ONCE:
+        is_joined = dice.random() < 0.25
+        made.append("".join(dice.choices(PIECES, k=dice.randint(1, 12))) if is_joined else mutated(dice, dice.choice(WRITTEN)))
+    return [BEFORE + pattern for pattern in made]
+
+
+def is_style(icu, pattern):
+    """Checks whether MessageFormat rejects a pattern for the style of a number alone."""
+    return error_of(icu, re.sub("number", "date", pattern, flags=re.IGNORECASE)) is None
+
+
+def escaped(pattern):
+    """Returns a pattern as a quoted text of a bundle."""
+    return "".join(chr(code) if 0x20 <= code < 0x7F and chr(code) not in '"\\' else f"\\u{code:04x}" for code in units_of(pattern))
+
+
+def rejected(resb, made):
+    """Returns the indexes of the patterns that lint rejects."""
+    text = "root {\n" + "".join(f'k{at:06} {{ "{escaped(pattern)}" }}\n' for at, pattern in enumerate(made)) + "}\n"
+    found = [json.loads(line) for line in resb.output("lint", "--all", "--format", "json", resb.put("root.txt", text)).splitlines()]
+    assert "error" not in {finding["severity"] for finding in found}
+    return {finding["line"] - 2 for finding in found if finding["rule"] in ("bad-message", "missing-other")}
+
+
+@making.times(0.1)
+@given(making.sources)
+def test_patterns(shared, dice):
+    icu, made = pytest.importorskip("icu", reason="python3-icu is missing"), patterns(dice)
+    ours = rejected(shared, made)
+    for at, pattern in enumerate(made):
+        error = error_of(icu, pattern)
+        assert (at in ours) == (error is not None) or at not in ours and is_style(icu, pattern), (pattern, error)

@@ -1,0 +1,128 @@
+"""Settings of a project: the same names in the program, the schema and the language server; many modules; old warnings; `init`."""
+import json
+import os
+import pathlib
+import resource
+import sys
+
+import pytest
+from support.program import TOP, run
+
+sys.path.insert(0, str(TOP / "tools"))
+from lsp import settings  # noqa: E402
+
+SCHEMA = json.loads((TOP / "editors" / "resb.schema.json").read_text(encoding="utf-8"))
+MODULE = '[[module]]\nfolder = "m"\n'
+
+
+def value_of(kind):
+    """Returns a good value of a kind, as TOML, and a wrong one."""
+    if isinstance(kind, tuple):
+        return str(kind[1]), str(kind[1] + 1)
+    return {
+        settings.TEXT: ('"m"', "1"),
+        settings.TEXTS: ('["m"]', '"m"'),
+        settings.NAMES: ('["bundle-name"]', '["no-such"]'),
+        settings.FLAG: ("true", '"true"'),
+    }[kind]
+
+
+def key_kinds():
+    return [(table, key, kind) for table, keys in settings.KEYS.items() for key, kind in keys.items()]
+
+
+def written(table, key, value):
+    """Returns the text of a settings file with one key, and the line of the key."""
+    needed = 'folder = "m"\n' if table == "module" and key not in ("folder", "patterns") else ""
+    header = f"[[{table}]]" if table in settings.MANY else f"[{table}]"
+    return f"# one key\n{header}\n{needed}{key} = {value}\n", 3 + bool(needed)
+
+
+@pytest.fixture(scope="module")
+def rules(program):
+    return [line.partition(":")[0] for line in run([program, "lint", "--list"]).stdout.decode().splitlines()]
+
+
+@pytest.mark.parametrize("table, key, kind", key_kinds())
+def test_each_key(resb, rules, table, key, kind):
+    resb.put("m/root.txt", "root {\n}\n")
+    good, wrong = value_of(kind)
+    text, _ = written(table, key, good)
+    resb.put("resb.toml", text)
+    status, _, stderr = resb("fmt", "--check", "m/root.txt")
+    assert (status, stderr) == (0, b""), text
+    assert not [it for it in settings.read(text, str(resb.folder), rules)[1] if "no file of the root" not in it.message]
+    text, line = written(table, key, wrong)
+    resb.put("resb.toml", text)
+    status, _, stderr = resb("lint", "m/root.txt")
+    (problem,) = (it for it in settings.read(text, str(resb.folder), rules)[1] if "no file of the root" not in it.message)
+    assert (status, stderr.decode()) == (2, f"resb.toml:{line}:1: {problem.message}\n"), text
+    assert text.count("\n", 0, problem.offset) + 1 == line
+
+
+def test_the_schema():
+    def kind(value):
+        if "$ref" in value:
+            return {"strings": settings.TEXTS, "warnings": settings.NAMES}[value["$ref"].rpartition("/")[2]]
+        if value["type"] == "integer":
+            return value["minimum"], value["maximum"]
+        return {"string": settings.TEXT, "boolean": settings.FLAG}[value["type"]]
+
+    tables = {name: value.get("items", value) for name, value in SCHEMA["properties"].items()}
+    assert {name: {key: kind(one) for key, one in table["properties"].items()} for name, table in tables.items()} == settings.KEYS
+    assert {name for name, value in SCHEMA["properties"].items() if value["type"] == "array"} == set(settings.MANY)
+
+
+def test_many_modules(resb):
+    texts = 0
+    for module in range(78):
+        keys = "".join(f'    key{number} {{ "text {number} of {{0}}" }}\n' for number in range(20))
+        for locale in ("root", "de", "fr", "it", "es", "pt", "ja", "ru", "zh"):
+            less = keys.replace("key7 ", "other7 ") if locale == "fr" else keys
+            resb.put(f"texts/m{module:02}/{locale}.txt", f"{locale} {{\n{less}}}\n")
+            texts += 1
+    before = resource.getrusage(resource.RUSAGE_CHILDREN)
+    status, stdout, _ = resb("lint", "--format", "sarif", ".")
+    after = resource.getrusage(resource.RUSAGE_CHILDREN)
+    taken = after.ru_utime + after.ru_stime - before.ru_utime - before.ru_stime
+    (log,) = json.loads(stdout)["runs"]
+    found = [(it["locations"][0]["physicalLocation"]["artifactLocation"]["uri"], it["ruleId"]) for it in log["results"]]
+    assert status == 0 and found == [
+        (f"texts/m{module:02}/fr.txt", rule) for module in range(78) for rule in ("missing-key", "unused-key")
+    ]
+    assert taken <= 2, f"{texts} texts took {taken:.1f} s of processor time"
+
+
+def test_old_warnings(resb):
+    resb.put("m/root.txt", 'root { a { "A" } b { "B" } }\n')
+    resb.put("m/de.txt", 'de {\n  a { "A" }\n  x { "x" y }\n}\n')
+    _, first, _ = resb("lint", "--format", "json", ".")
+    assert first.count(b"\n") == 3
+    resb.put("old", first.decode())
+    resb.put("resb.toml", '[lint]\nstrict = true\nbaseline = "old"\n')
+    assert resb("lint", ".") == (0, b"", b"")
+    resb.put("m/de.txt", 'de {\n  a { "A" }\n\n  x { "x" y }\n  y { "x" y }\n}\n')
+    status, stdout, _ = resb("lint", ".")
+    assert status == 1 and [line.split(b": ")[0] for line in stdout.splitlines()] == [b"m/de.txt:5:3", b"m/de.txt:5:11"]
+    resb.put("m/de.txt", "de {\n")
+    assert resb("lint", ".").status == 1
+
+
+def test_source_language(resb):
+    resb.put("resb.toml", '[[module]]\nfolder = "m"\nsource-language = "en-GB"\n')
+    resb.put("m/root.txt", 'root { a { "A" } }\n')
+    resb.put("m/de.txt", "de { }\n")
+    words = ("export", "--format", "xliff1", "--source", "m/root.txt", "--target", "m/de.txt")
+    done = run([TOP / "tools" / "resb-exchange", *words], cwd=resb.folder, env={**os.environ, "RESB": resb.program})
+    assert done.status == 0 and b'source-language="en-GB"' in done.stdout, done.stderr
+
+
+def test_init(resb):
+    for name in ("root.txt", "a/root.txt", "a/b/root.txt", "c/de.txt"):
+        resb.put(f"p/{name}", pathlib.Path(name).stem + " { }\n")
+    assert resb("init", "p") == (0, b"p/resb.toml: written\n", b"")
+    text = resb.get("p/resb.toml").decode()
+    assert [line for line in text.splitlines() if line.startswith("folder")] == ['folder = "."', 'folder = "a"', 'folder = "a/b"']
+    assert settings.read(text, str(resb.folder / "p"), ["bundle-name"])[1] == []
+    assert resb("lint", "--config", "p/resb.toml", "p").status == 0
+    assert resb("init", "p").status == 2 and resb.get("p/resb.toml").decode() == text
