@@ -1,18 +1,20 @@
 # Completion of resb for bash: source this file, or put it into /usr/share/bash-completion/completions/resb.
 _resb() {
-    local word=${COMP_WORDS[COMP_CWORD]} before=${COMP_WORDS[COMP_CWORD - 1]} flags=
+    local word=${COMP_WORDS[COMP_CWORD]} before=${COMP_WORDS[COMP_CWORD - 1]} flags= formats=
+    local commands='compile check get lint fmt coverage init explain lines look text json diff serve help --help --version'
     if [ "$COMP_CWORD" -eq 1 ]; then
-        COMPREPLY=($(compgen -W 'compile check get lint fmt coverage explain lines look text json diff serve help --help --version' -- "$word"))
+        COMPREPLY=($(compgen -W "$commands" -- "$word"))
         return
     fi
     case ${COMP_WORDS[1]} in
         # options, by tools/pages
-        compile) flags='--to --from --json --no-fallback --quiet --help' ;;
+        compile) flags='--to --from --json --no-fallback --force --quiet --help' ;;
         check) flags='--json --quiet --help' ;;
         get) flags='--raw --help' ;;
-        lint) flags='--against --root --allow --deny --strict --all --format --name --list --help' ;;
-        fmt) flags='--check --diff --quiet --help' ;;
-        coverage) flags='--parents --cldr-parents --format --help' ;;
+        lint) flags='--against --root --allow --deny --strict --all --format --name --config --no-config --list --help' formats='text json sarif github' ;;
+        fmt) flags='--check --diff --quiet --config --no-config --help' ;;
+        coverage) flags='--parents --cldr-parents --format --config --no-config --help' formats='table list json csv' ;;
+        init) flags='--help' ;;
         explain) flags='--help' ;;
         lines) flags='--op --json --help' ;;
         look) flags='--parents --cldr-parents --trace --help' ;;
@@ -25,6 +27,10 @@ _resb() {
     case $before in
         --to) COMPREPLY=($(compgen -d -- "$word")) && return ;;
         --app-bytes | --bundle-bytes | --reply-bytes | --line-bytes | --apps | --steps) COMPREPLY=() && return ;;
+        --allow | --deny) COMPREPLY=($(compgen -W "$(resb lint --list 2>/dev/null | cut -d: -f1)" -- "$word")) && return ;;
+        --format) COMPREPLY=($(compgen -W "$formats" -- "$word")) && return ;;
+        explain) COMPREPLY=($(compgen -W "$(resb explain 2>/dev/null | sed -n 's/^  \([A-Za-z]*\):.*/\1/p')" -- "$word")) && return ;;
+        help) COMPREPLY=($(compgen -W "$commands" -- "$word")) && return ;;
         --op) COMPREPLY=($(compgen -W 'install replace' -- "$word")) && return ;;
     esac
     case $word in

@@ -39,7 +39,7 @@ export class Resb {
     });
   }
 
-  // Ends the server, and gives its status.
+  // Ends the server, and returns its status.
   close() {
     this.#process.stdin.end();
     return this.#ended;
@@ -68,37 +68,37 @@ export class Resb {
     await this.#ask({ op, app, locale, ...content });
   }
 
-  // Installs a bundle, of its text or of the bytes of its file.
+  // Installs a bundle from its text or from the bytes of its file.
   install(app, locale, content) {
     return this.#put("install", app, locale, content);
   }
 
-  // Puts a bundle in the place of the one that is there.
+  // Replaces the bundle that is there.
   replace(app, locale, content) {
     return this.#put("replace", app, locale, content);
   }
 
-  // Takes a bundle out.
+  // Removes a bundle.
   async remove(app, locale) {
     await this.#ask({ op: "remove", app, locale });
   }
 
-  // The names of an application's bundles.
+  // Returns the names of an application's bundles.
   async list(app) {
     return (await this.#ask({ op: "list", app })).names;
   }
 
-  // The reply to a lookup: its `type`, its value, and the members that docs/SERVER.md has beside them.
+  // Returns the reply to a lookup: its `type`, its value, and the members that docs/SERVER.md has beside them.
   look(app, locale, path) {
     return this.#ask({ op: "look", app, locale, path });
   }
 
-  // The item at a path with everything that it inherits: `tree`, with `actual` and `valid`. The server needs `--extended`.
+  // Returns the item at a path with everything that it inherits: `tree`, with `actual` and `valid`. The server needs `--extended`.
   tree(app, locale, path = "") {
     return this.#ask({ op: "tree", app, locale, path });
   }
 
-  // The replies to many lookups, each a pair of a locale and a path, in their order; an error is a reply with `error`.
+  // Returns the replies to many lookups, each a pair of a locale and a path, in their order; an error is a reply with `error`.
   lookMany(app, asked) {
     return Promise.all(asked.map(([locale, path]) => this.#send({ op: "look", app, locale, path })));
   }

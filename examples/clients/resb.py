@@ -21,7 +21,7 @@ class ResbError(Exception):
 
 
 class Resb:
-    """A server of its own, which ends with the block."""
+    """Runs a separate server, which ends with the block."""
 
     def __init__(self, program="resb", *arguments):
         self.process = subprocess.Popen(
@@ -35,7 +35,7 @@ class Resb:
         self.close()
 
     def close(self):
-        """Ends the server, and gives its status."""
+        """Ends the server, and returns its status."""
         self.process.stdin.close()
         self.process.stdout.close()
         return self.process.wait()
@@ -62,27 +62,27 @@ class Resb:
         self._ask({"op": op, "app": app, "locale": locale, **content})
 
     def install(self, app, locale, text=None, file=None):
-        """Installs a bundle, of its text or of the bytes of its file."""
+        """Installs a bundle from its text or from the bytes of its file."""
         self._put("install", app, locale, text, file)
 
     def replace(self, app, locale, text=None, file=None):
-        """Puts a bundle in the place of the one that is there."""
+        """Replaces the bundle that is there."""
         self._put("replace", app, locale, text, file)
 
     def remove(self, app, locale):
-        """Takes a bundle out."""
+        """Removes a bundle."""
         self._ask({"op": "remove", "app": app, "locale": locale})
 
     def list(self, app):
-        """The names of an application's bundles."""
+        """Returns the names of an application's bundles."""
         return self._ask({"op": "list", "app": app})["names"]
 
     def look(self, app, locale, path):
-        """The reply to a lookup: its `type`, its value, and the members that docs/SERVER.md has beside them."""
+        """Returns the reply to a lookup: its `type`, its value, and the members that docs/SERVER.md has beside them."""
         return self._ask({"op": "look", "app": app, "locale": locale, "path": path})
 
     def tree(self, app, locale, path=""):
-        """The item at a path with everything that it inherits: `tree`, with `actual` and `valid`. The server needs `--extended`."""
+        """Returns the item at a path with everything that it inherits: `tree`, with `actual` and `valid`. The server needs `--extended`."""
         return self._ask({"op": "tree", "app": app, "locale": locale, "path": path})
 
     def _send_looks(self, app, asked):
@@ -91,7 +91,7 @@ class Resb:
         self.process.stdin.flush()
 
     def look_many(self, app, asked):
-        """The replies to many lookups, each a pair of a locale and a path, in their order; an error is a reply with `error`."""
+        """Returns the replies to many lookups, each a pair of a locale and a path, in their order; an error is a reply with `error`."""
         asked = list(asked)
         sender = threading.Thread(target=self._send_looks, args=(app, asked))
         sender.start()

@@ -1,12 +1,12 @@
 #!/usr/bin/env python3
-"""Tries resb.py against a program: each call once, errors, and many lookups at a time. Status 0 where all is as it should be."""
+"""Tries resb.py against a program: each call once, errors, and many lookups at a time. Ends with status 0 if all is right."""
 import sys
 
 from resb import Resb, ResbError
 
 
 def refused(call, *arguments, **named):
-    """The name of the error of a call."""
+    """Returns the name of the error of a call."""
     try:
         call(*arguments, **named)
     except ResbError as error:
