@@ -1,7 +1,7 @@
 #!/usr/bin/env bash
-# Runs the commands that pages show without what they print, as they are written there, over files that are made for them. Others are
-# run by tests/test_documents.py (those with their output), clean_root.sh (INSTALL, and how gateways start), library.sh (LIBRARY),
-# deploy/gateway/test (backup, restore, upgrade) and deploy/test (the settings of NATS).
+# Runs the commands that pages show without what they print, as they are written there, over files that are made for them. As root it runs
+# those of a service too, in a copy of this machine whose changes are dropped. test_documents_commands.py checks that each command of each
+# page runs here or elsewhere.
 #
 # usage: page_commands.sh PROGRAM
 # Ends with status 1 if a command fails; says `skipped` of what lacks a tool.
@@ -29,6 +29,11 @@ block() {
         on && !fenced && /^    / { if (!inside) { inside = 1; found++ } if (found == number) print gap substr($0, 5); gap = ""; next }
         inside && /^$/ { gap = gap "\n"; next }
         { inside = 0; gap = "" }' "$top/$1"
+}
+
+# inline PAGE START: prints the first command between backticks on a page that begins with a text
+inline() {
+    awk -v start="$2" 'BEGIN { RS = "`" } index($0, start) == 1 && !/\n/ { gsub(/\\\|/, "|"); print; exit }' "$top/$1"
 }
 
 # runs WHAT COMMANDS: runs commands in the folder, and says whether all of them succeed
@@ -64,6 +69,95 @@ fresh() {
     resb compile -q --to bundles texts/ui/*.txt && cp bundles/de.res de.res
 }
 
+# as_service: runs the commands of a service and of a container, in a copy of this machine whose changes stay in memory and whose network is its own.
+# There a stand-in for systemctl starts the command of the unit, one for journalctl prints what it wrote, and one for podman takes a folder
+# for the volume and the copy for the image.
+as_service() {
+    local token=TOKEN-0123456789-0123456789 hash
+    hash=$(printf %s $token | sha256sum | cut -d ' ' -f 1)
+    fresh
+    mkdir -p copy crates/rb_tool/out && ln -s "$top/deploy" "$top/tests" . && cp "$program" crates/rb_tool/out/rb_tool
+    echo "shop write $hash" >tokens
+    printf '#!/bin/sh\ncat /run/journal\n' >journalctl
+    cat >started <<'END'
+#!/bin/sh
+# started USER -- COMMAND..: starts a gateway as a user, and waits until it serves
+runuser -u "$@" >/run/journal 2>&1 &
+until grep -q 'serves after' /run/journal; do
+    kill -0 $! || exit 1
+    sleep 0.1
+done
+END
+    cat >systemctl <<'END'
+#!/bin/sh
+set -eu
+[ "$*" != daemon-reload ] || exit 0
+[ "$1 $2" = 'enable --now' ]
+/usr/bin/systemctl enable "$3"
+[ ! -e /run/journal ] || exit 0
+unit() { sed -n "s/^$1=//p" "/etc/systemd/system/$unit.service"; }
+unit=$3
+install -d -o "$(unit User)" -g "$(unit Group)" -m "$(unit StateDirectoryMode)" "/var/lib/$(unit StateDirectory)"
+started "$(unit User)" -- $(unit ExecStart)
+END
+    cat >podman <<'END'
+#!/bin/sh
+set -eu
+step() { tests/installed.py step deploy/Containerfile "$1"; }
+entry=$(step ENTRYPOINT) start='runuser -u'
+case "$1 $2" in
+'build --format') [ "$6 $7" = '-f deploy/Containerfile' ] && exit ;;
+'volume create')
+    rm -r "$(step VOLUME)"
+    exec install -d -o "$(step USER)" -m 700 "$(step VOLUME)"
+    ;;
+esac
+[ "$1" = run ]
+while shift && [ "$1" != resb-gateway ]; do
+    case $1 in
+    -i | --rm | --read-only) ;;
+    -d) start=started ;;
+    -p | --memory) shift ;;
+    -v) [ "$2" = "bundles:$(step VOLUME)" ] && shift ;;
+    --entrypoint) entry=$2 && shift ;;
+    *) exit 2 ;;
+    esac
+done
+shift
+$start "$(step USER)" -- $entry "$@"
+END
+    cat >commands <<END
+ends() { kill "\$(pgrep -u resb-gateway resb-gateway)"; while pgrep -u resb-gateway resb-gateway; do sleep 0.1; done; }
+$(block deploy/OPERATIONS.md Start 2)
+$(block deploy/OPERATIONS.md Start)
+$(inline docs/INSTALL.md 'systemctl enable')
+$(inline deploy/OPERATIONS.md 'gateway -healthcheck' | sed 's/^/resb-/; s/ADDRESS/127.0.0.1:6422/')
+curl -sf -H 'Authorization: Bearer $token' -X PUT --data-binary 'de{a{"A"}}' http://127.0.0.1:6422/v1/shop/de.txt
+$(inline deploy/OPERATIONS.md 'resb-gateway backup' | sed 's#FILE#/root/copied#')
+$(inline deploy/OPERATIONS.md journalctl) >messages
+ends
+$(inline deploy/OPERATIONS.md 'chown -R')
+$(inline deploy/README.md 'install -d -o nats' | sed 's/nats /daemon /g')
+$(block deploy/OPERATIONS.md 'Backup, restore, upgrade' 2 | sed 's/APP LOCALE/shop de/')
+(cd /var/lib/resb-gateway && runuser -u resb-gateway -- $(inline deploy/OPERATIONS.md 'sqlite3'))
+$(block docs/INSTALL.md 'A container' | sed '/^tools/d')
+$(block docs/INSTALL.md 'A container' 2 | sed "s/HASH/$hash/")
+$(inline docs/INSTALL.md 'resb-gateway -healthcheck')
+curl -sf -H 'Authorization: Bearer $token' http://127.0.0.1:6422/v1/shop
+ends
+END
+    cat >enter <<'END'
+mount -t tmpfs tmpfs copy && mkdir copy/upper copy/work copy/root
+mount -t overlay overlay -o lowerdir=/,upperdir=copy/upper,workdir=copy/work copy/root
+mount --rbind /dev copy/root/dev
+mount -t proc proc copy/root/proc
+mount -t tmpfs tmpfs copy/root/run
+install -m 755 systemctl journalctl podman started copy/root/usr/local/sbin
+chroot copy/root /usr/bin/env -i HOME=/root PATH=/usr/local/sbin:/usr/local/bin:/usr/sbin:/usr/bin:/sbin:/bin bash -eux -o pipefail -c "cd '$PWD'; . ./commands"
+END
+    runs 'deploy/OPERATIONS: a service, and INSTALL: a container' "unshare --mount --pid --fork --kill-child --net bash -eu -c 'tests/installed.py loopback; . ./enter'"
+}
+
 fresh
 runs 'OPERATIONS: a server with limits' "$(block docs/OPERATIONS.md Limits)"
 resb lines shop bundles/de.res >changes.jsonl
@@ -75,10 +169,19 @@ if needs jq 'lines from a shell'; then
 fi
 # diff ends with status 1, as the bundles differ
 runs 'GUIDE: differences' "$(block docs/GUIDE.md Releases | sed 's/$/ || [ $? = 1 ]/')"
+runs 'GUIDE: a list of differences' "$(block docs/GUIDE.md Releases 2) && [ -s changes.txt ]"
 if needs make 'a makefile'; then
     block docs/GUIDE.md make >Makefile
-    runs 'GUIDE: make' "make -s && [ -f build/ui/de.res ] && make -s"
+    runs 'GUIDE: make' "make -s && [ -f build/ui/de.res ] && make -s && rm -r build && $(inline docs/GUIDE.md 'make -j') -s && [ -f build/ui/de.res ]"
 fi
+if needs nvim 'GUIDE: Vim'; then
+    printf 'de { a { "x" "y" } }\n' >vim.txt
+    runs 'GUIDE: Vim' "nvim --headless -n -u NONE -i NONE -c '$(inline docs/GUIDE.md ':set')' -c 'silent make' \
+        -c '$(inline docs/GUIDE.md ':%!')' -c 'wqall!' vim.txt && resb fmt --check vim.txt"
+fi
+runs 'INSTALL: the files of an archive' "tar -czf texts.tar.gz texts && $(inline docs/INSTALL.md 'tar -t') texts.tar.gz | grep -q texts/ui/de.txt"
+runs 'TROUBLESHOOTING: a member of a line, and a folder' \
+    "printf '%s' $(od -An -v -tx1 de.res | tr -d ' \n') | $(inline docs/TROUBLESHOOTING.md 'xxd') >sent.res && resb check sent.res && $(inline docs/TROUBLESHOOTING.md 'ls -ld') bundles && $(inline docs/TROUBLESHOOTING.md 'ulimit')"
 if needs git 'differences in git'; then
     runs 'GUIDE: git' "git init -q . && $(block docs/GUIDE.md git)"
 fi
@@ -103,6 +206,8 @@ for section in 'From .properties' 'From PO' 'From Android and iOS'; do
 done
 
 fresh
+runs 'EXCHANGE: to .properties' "$(inline docs/EXCHANGE.md 'resb-exchange convert --from resb') && find out -name 'app*.properties' | grep -q ."
+runs 'PROJECT: several processes' "$(inline docs/PROJECT.md 'ls -d')"
 runs 'PROJECT: a whole project' "$(block docs/PROJECT.md 'Settings of a project')"
 runs 'PROJECT: a baseline' "$(block docs/PROJECT.md 'Old warnings') && resb init . && [ -f resb.toml ]"
 
@@ -124,6 +229,21 @@ elif needs objcopy 'the package of libicudata'; then
     runs 'ICU: texts of a tree' "$(grep -- --tree <<<"${commands//icudt72l.dat/$name}")"
 fi
 
+# commands at the top of this repository
+runs 'CONTRIBUTING: what a crate promises' "cd '$top'; crate=\$($(inline CONTRIBUTING.md tools/proofs | sed s/CRATE/rb_engine/)); grep -q 'Engine::handle' <<<\"\$crate\""
+runs 'examples/library: what the engine promises' "cd '$top'; $(inline examples/library/README.md tools/proofs) >'$made/promises'"
+runs 'LIBRARY: what the library promises' "cd '$top'; $(inline docs/LIBRARY.md tools/proofs) >'$made/promises'"
+if [ -e "$top/.git" ] && needs git 'CONTRIBUTING: git grep'; then
+    runs 'CONTRIBUTING: enums of error codes' "cd '$top'; $(inline CONTRIBUTING.md 'git grep '\''variant')"
+    runs 'CONTRIBUTING: replies that are written down' "cd '$top'; $(inline CONTRIBUTING.md 'git grep -l')"
+fi
+if needs man 'COMMANDS: a manual page'; then
+    manual=$(inline docs/COMMANDS.md 'tools/pages --manual')
+    runs 'COMMANDS: a manual page' "cd '$top'; MANPAGER=cat ${manual/ | / \'$program\' | } >/dev/null"
+fi
+runs 'deploy/OPERATIONS: the variables of deploy/single' "cd '$top'; { $(inline deploy/OPERATIONS.md 'deploy/single --help') || [ \$? = 2 ]; } 2>&1 | grep RESB_STATE"
+runs 'deploy/README: the variables of deploy/start' "cd '$top'; { $(inline deploy/README.md 'deploy/start --help') || [ \$? = 2 ]; } 2>&1 | grep RESB_STATE"
+
 # the commands of an operator over a gateway that the tests of deploy/ have built
 gateway=$top/deploy/out/bin/gateway
 if [ -x "$gateway" ]; then
@@ -135,12 +255,16 @@ if [ -x "$gateway" ]; then
     runs 'deploy/README: the options of a gateway' "$(block deploy/README.md 'On real machines' 2 | sed "s#/etc/resb/tokens#etc/tokens#; s#/etc/resb/nats-login#etc/login#; s#/var/lib/resb-gateway#state#") -check-config"
     sed "s#/etc/resb/tokens#etc/tokens#; s#\"/usr/bin/resb\"#\"$program\"#; s#/var/lib/resb-gateway#state#" "$top/deploy/gateway.example.json" >gateway.json
     runs 'deploy/OPERATIONS: the example of settings' 'resb-gateway -config gateway.json -check-config'
-    # into a folder in place of /, with the gateway that is built, and without a service
-    ln -s "$top/deploy" deploy && mkdir -p crates/rb_tool/out root/usr/bin root/etc/systemd/system && ln -s "$program" crates/rb_tool/out/rb_tool
-    if needs systemd-sysusers 'deploy/OPERATIONS: an installation without a package'; then
-        installs=$(block deploy/OPERATIONS.md Start 2 | sed "/^systemctl/d; s# -g resb-gateway##; s# /\(usr\|etc\)/# root/\1/#g; s#^deploy/gateway/build#install $gateway#")
-        runs 'deploy/OPERATIONS: an installation without a package' \
-            "${installs/systemd-sysusers/systemd-sysusers --root=root} && [ -x root/usr/bin/resb-gateway ] && grep -q resb-gateway root/etc/passwd"
+    runs 'deploy/OPERATIONS: the help of a gateway' "$(inline deploy/OPERATIONS.md 'gateway -help' | sed 's/^/resb-/')"
+    runs 'SECURITY: the version of a gateway' "$(inline SECURITY.md 'resb-gateway -version')"
+    if [ "$(id -u)" != 0 ]; then
+        echo 'skipped: deploy/OPERATIONS: a service: this is not root'
+    elif [ -e /var/lib/resb-gateway ] || [ -e /etc/resb ]; then
+        echo 'skipped: deploy/OPERATIONS: a service: a gateway is installed here'
+    elif [ "$(stat -c %d /)" != "$(stat -c %d "$made")" ] || [ "$(stat -c %d /)" != "$(stat -c %d "$top")" ]; then
+        echo "skipped: deploy/OPERATIONS: a service: $made and $top are not on the file system of /"
+    elif needs systemctl 'deploy/OPERATIONS: a service' && needs runuser 'deploy/OPERATIONS: a service' && needs sqlite3 'deploy/OPERATIONS: a service'; then
+        as_service
     fi
 else
     echo 'skipped: the commands of a gateway: deploy/out/bin/gateway is not built (deploy/gateway/test builds it)'

@@ -1,7 +1,7 @@
 """Pages beside the program and the sources: the commands that they show with what they print, their links, and what they name.
 
 A fenced block of `console` has commands as they are typed, with their output on both streams. The blocks of a page are run in their order, by one shell, in
-an empty folder; `resb` is the program, `icu2text` and `resb-exchange` the scripts in tools/, and $EXAMPLES is examples/. If a page has a block of `console
+a folder that has only examples/; `resb` is the program, `icu2text` and `resb-exchange` the scripts in tools/, and $EXAMPLES is examples/. If a page has a block of `console
 first`, each other block is run by a separate shell, after that one, in a folder that has bin/, tools/ and examples/ as this repository does. Blocks of
 `console by-hand` need the package of ICU's data. The indented blocks of README.md are run in one shell.
 """
@@ -28,10 +28,10 @@ CRATES = {name.split()[0]: uses.split() for name, colon, uses in (line.partition
 
 @pytest.fixture
 def folder(program, tmp_path):
-    """A folder with the program, the tools and the examples, and an empty one to run in."""
+    """A folder with the program, the tools and the examples, and one to run in."""
     for name in ("bin", "tools", "run"):
         (tmp_path / name).mkdir()
-    for name, target in (("bin/resb", program), ("examples", TOP / "examples"), *TOOLS):
+    for name, target in (("bin/resb", program), ("examples", TOP / "examples"), ("run/examples", TOP / "examples"), *TOOLS):
         (tmp_path / name).symlink_to(target)
     return tmp_path
 

@@ -19,6 +19,7 @@ sys.path.insert(0, str(TOP / "tools"))
 
 from lsp.scanner import BARE, MARK, QUOTED, TOKEN, TYPES, scan  # noqa: E402
 from support import icu  # noqa: E402
+from support.pages import inline  # noqa: E402
 
 
 class Grammar:
@@ -154,10 +155,16 @@ def test_files_can_be_read():
 
 
 def test_packed_extension(tmp_path):
+    """The commands of docs/EDITORS.md make and install an extension; a stand-in for `code` takes what it should install."""
+    pack, install = inline("docs/EDITORS.md", "/usr/share/resb/editors/vscode/pack"), inline("docs/EDITORS.md", "code --install-extension")
+    (tmp_path / "code").write_text('#!/bin/sh\n[ "$1 $#" = "--install-extension 2" ] && cp "$2" installed\n', encoding="utf-8")
+    (tmp_path / "code").chmod(0o755)
+    env = {**os.environ, "PATH": f"{tmp_path}:{os.environ['PATH']}"}
     for name in ("a", "b"):
-        subprocess.run([sys.executable, EDITORS / "vscode" / "pack", tmp_path / name], check=True)
-    assert (tmp_path / "a").read_bytes() == (tmp_path / "b").read_bytes()
-    with zipfile.ZipFile(tmp_path / "a") as archive:
+        (tmp_path / name).mkdir()
+        subprocess.run(["sh", "-ec", f"{pack.replace('/usr/share/resb', str(TOP))}\n{install}"], cwd=tmp_path / name, env=env, check=True)
+    assert (tmp_path / "a/installed").read_bytes() == (tmp_path / "b/installed").read_bytes()
+    with zipfile.ZipFile(tmp_path / "a/installed") as archive:
         package = json.loads(archive.read("extension/package.json"))
         for path in (package["main"], package["contributes"]["grammars"][0]["path"], package["contributes"]["languages"][0]["configuration"]):
             assert f"extension/{path.removeprefix('./')}" in archive.namelist()
@@ -166,13 +173,13 @@ def test_packed_extension(tmp_path):
 
 @pytest.mark.skipif(not shutil.which("emacs"), reason="emacs is missing")
 def test_emacs_mode(tmp_path):
-    """The mode of Emacs is chosen beside root.txt, and colours keys."""
+    """The mode of Emacs is chosen beside root.txt, and colours keys, set up as docs/EDITORS.md says."""
     (tmp_path / "root.txt").write_text("root { a { \"x\" } }", encoding="utf-8")
     (tmp_path / "de.txt").write_text("de { // c\n a:int { 5 } }", encoding="utf-8")
     script = """(progn (provide 'eglot) (defvar eglot-server-programs nil) (defun eglot-ensure ())
-      (load "%s") (find-file "de.txt") (font-lock-ensure) (goto-char (point-min)) (search-forward " a")
+      %s (find-file "de.txt") (font-lock-ensure) (goto-char (point-min)) (search-forward " a")
       (princ (format "%%s %%s" major-mode (get-text-property (1- (point)) 'face))))"""
-    command = ["emacs", "-Q", "--batch", "--eval", script % (EDITORS / "emacs" / "resb-mode.el")]
+    command = ["emacs", "-Q", "--batch", "--eval", script % inline("docs/EDITORS.md", "(add-to-list").replace("/usr/share/resb", str(TOP))]
     done = subprocess.run(command, cwd=tmp_path, capture_output=True, text=True, check=True)
     assert done.stdout == "resb-mode font-lock-variable-name-face"
 

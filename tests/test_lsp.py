@@ -24,6 +24,7 @@ from lsp import diagnostics, messages, settings  # noqa: E402
 from lsp.scanner import scan, text_value  # noqa: E402
 from lsp.text import Text  # noqa: E402
 from support import icu  # noqa: E402
+from support.pages import inline  # noqa: E402
 
 SECONDS = 300
 EDITS, AT_ONCE = 10_000, 20
@@ -749,7 +750,7 @@ def test_keystrokes_in_a_large_text(program, tmp_path):
 
 NEOVIM = """
 vim.g.resb_lsp = { '%(python)s', '%(server)s' }
-vim.cmd('set runtimepath+=%(plugin)s')
+vim.cmd('%(set)s')
 vim.cmd('runtime plugin/resb.lua')
 vim.cmd('edit de.txt')
 vim.wait(100000, function() return #vim.diagnostic.get(0) > 0 end, 20)
@@ -769,11 +770,11 @@ vim.cmd('qall!')
 
 
 def test_neovim(program, module):
-    """Neovim shows diagnostics and formats, with the plugin of this repository."""
+    """Neovim shows diagnostics and formats, with the plugin of this repository, set up as docs/EDITORS.md says."""
     if not shutil.which("nvim"):
         pytest.skip("nvim is missing")
     (module / "de.txt").write_text('de { menu { open { "O", "P" "Q" } } files{"{n}{who}"} title{"T"} }\n', encoding="utf-8")
-    values = {"python": sys.executable, "server": SERVER, "plugin": TOP / "editors" / "neovim"}
+    values = {"python": sys.executable, "server": SERVER, "set": inline("docs/EDITORS.md", "set runtimepath").replace("/usr/share/resb", str(TOP))}
     (module / "run.lua").write_text(NEOVIM % values, encoding="utf-8")
     env = {**os.environ, "RESB": program, "XDG_STATE_HOME": str(module), "XDG_CACHE_HOME": str(module)}
     command = ["nvim", "--headless", "-n", "-u", "NONE", "-i", "NONE", "-c", "luafile run.lua"]

@@ -55,6 +55,11 @@ def commands(first: int, lines: Sequence[str]) -> list[Command]:
     return found
 
 
+def inline(page: object, start: str) -> str:
+    """Returns the first command between backticks on a page that begins with a text."""
+    return next(found for found in re.findall(r"`([^`\n]+)`", text_of(page)) if found.startswith(start))
+
+
 def indented(page: str) -> list[Command]:
     """Returns the commands of a page's indented blocks, such as README.md's, after one that makes the files of sentences with "`FILE` is `TEXT`". Lines
     that begin with `{"op"` after `resb serve` are its input."""
