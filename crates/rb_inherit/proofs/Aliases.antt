@@ -8,7 +8,7 @@ use Rattle.rb_tree.specs.Resource.{Resource}
 use Rattle.rb_tree.specs.declared.node.Node.{Ghosts}
 use Rattle.rb_fallback.specs.Alias.{Aim, aim, aims, is_plain, located, no_package, no_text, packaged, plain_aim, with_path}
 use Rattle.rb_fallback.specs.declared.fault.LookError.{LookError}
-use Rattle.rb_inherit.specs.declared.error.TreeError.{TreeError}
+use Rattle.rb_inherit.specs.declared.error.WalkError.{WalkError}
 use Rattle.rb_inherit.specs.declared.follow.Link.{Link}
 use Rattle.rb_inherit.specs.declared.found.Found.{Found}
 use Rattle.rb_inherit.specs.declared.layer.Layer.{Layer}
@@ -49,14 +49,14 @@ fault_same m n us = package_by (list_all is_plain us) (plain_aim m us) (plain_ai
 
 -- ---- what follows
 pub refused_on : {N : Type 0} {G : Ghosts N} (o : Option LookError) (before : Found N) (old : List (Layer N G)) (f : Found N) (l : Option (Link N)) (mid : List (Layer N G))
-    (r : Result (Found N) TreeError) (new : List (Layer N G)) → RefusesLink o before old f l mid → (l ≡ None → IfOk r (λ a. a ≡ closed_of f))
+    (r : Result (Found N) WalkError) (new : List (Layer N G)) → RefusesLink o before old f l mid → (l ≡ None → IfOk r (λ a. a ≡ closed_of f))
     → (l ≡ None → new ≡ mid) → IfOk r (λ a. Refuses o before old a new)
 refused_on None before old f l mid (Ok a) new h c s = tt
 refused_on (Some e) before old f l mid (Ok a) new h c s = (c h.0 ∙ (ap closed_of h.1.0 ∙ error_closed before e), s h.0 ∙ h.1.1)
 refused_on o before old f l mid (Err x) new h c s = tt
 
 pub refuses_some : {N : Type 0} {G : Ghosts N} (tree : N → Resource) (o : Option (Link N)) (l : Link N) (before : Found N) (old : List (Layer N G))
-    (r : Result (Found N) TreeError) (new : List (Layer N G)) → o ≡ Some l → IfOk r (λ a. Refuses (alias_fault (tree l.node)) before old a new)
+    (r : Result (Found N) WalkError) (new : List (Layer N G)) → o ≡ Some l → IfOk r (λ a. Refuses (alias_fault (tree l.node)) before old a new)
     → IfOk r (λ a. RefusesAfter tree o before old a new)
 refuses_some tree None l before old r new e h = absurd cc
 refuses_some tree (Some m) l before old (Err x) new e h = tt

@@ -1,5 +1,5 @@
 -- The answers of lookups, as trees follow them.
-use Rattle.std.proofs.Common.{◌≡◌, ◌↔◌, ◌++◌, ◌∙◌, ℕ, List, [], Option, Some, None, Result, Ok, Err, ap}
+use Rattle.std.proofs.Common.{◌≡◌, ◌↔◌, ◌++◌, ◌∙◌, ℕ, List, [], Option, Some, None, Result, Ok, Err, ap, sym}
 use Rattle.rb_json.specs.Stored.{Stores}
 use Rattle.rb_tree.specs.Resource.{Resource}
 use Rattle.rb_tree.specs.Path.{IsPath, segments}
@@ -13,6 +13,36 @@ use Rattle.serde_json.specs.Written.{compact_text}
 use Rattle.rb_fallback.specs.Search.{Hit}
 use Rattle.rb_json.specs.Value.{value_of}
 use Rattle.rb_inherit.specs.Lookups.{Follows, FollowsLookup, IsLookup, IsTreeOf}
+use Rattle.rb_inherit.specs.declared.error.TreeError.{TreeError}
+use Rattle.rb_inherit.specs.declared.error.TreeError.TheVariants as tree_error
+use Rattle.rb_inherit.specs.declared.error.WalkError.{WalkError}
+use Rattle.rb_inherit.specs.declared.error.WalkError.TheVariants as walk
+use Rattle.rb_inherit.specs.inner.Ended.{ended}
+
+pub no_lookup : (w : WalkError) (e : LookError) → ended w ≡ tree_error.Look e → ⊥
+no_lookup walk.TooManySteps e h = cc
+no_lookup walk.TreeTooLarge e h = cc
+no_lookup walk.Memory e h = cc
+
+same_error : {A : Type 0} (a b : TreeError) → (let r : Result A TreeError = Err a in r ≡ Err b) → a ≡ b
+same_error a b h = cc
+
+ok_is_no_error : {A : Type 0} (x : A) (e : TreeError) → (let r : Result A TreeError = Ok x in r ≡ Err e) → ⊥
+ok_is_no_error x e h = absurd cc
+
+-- a tree that ends has not the error of a lookup
+pub not_lookup : {A : Type 0} (w : WalkError) (t : TreeError) → t ≡ ended w → (l : LookError)
+    → (let r : Result A TreeError = Err t in r ≡ Err (tree_error.Look l)) → ⊥
+not_lookup w t e l h = no_lookup w l (sym e ∙ same_error t (tree_error.Look l) h)
+
+-- an error is that of another result
+pub follows_error : {X Y : Type 0} (own icu : Bundles) (parents : ParentsOf) (n path : List ℕ) (P : X → Hit → Type 0) (Q : Y → Hit → Type 0) (t : TreeError)
+    → FollowsLookup own icu parents n path P (Err t) → FollowsLookup own icu parents n path Q (Err t)
+follows_error {X} {Y} own icu parents n path P Q t (answer, (is, follows)) = (answer, (is, by answer follows))
+  where
+    by : (a : Result Hit LookError) → Follows P (Err t) a → Follows Q (Err t) a
+    by (Ok hit) h = (tt, λ l e. h.1 l (ap Err (same_error t (tree_error.Look l) e)))
+    by (Err e) h = ap Err (same_error t (tree_error.Look e) h)
 
 pub error_is_lookup : {N : Type 0} (tree : N → Resource) (own icu : Bundles) (parents : ParentsOf) (n path : List ℕ) (e : LookError)
     → ((let r : Result (Found N) LookError = Err e in r ≡ Err look.BadPath) ↔ (IsPath path → ⊥))
@@ -43,7 +73,7 @@ pub follows_on : {X Y : Type 0} (own icu : Bundles) (parents : ParentsOf) (n pat
 follows_on {X} {Y} own icu parents n path P Q x y f (answer, (is, follows)) = (answer, (is, by answer follows))
   where
     by : (a : Result Hit LookError) → Follows P (Ok x) a → Follows Q (Ok y) a
-    by (Ok hit) h = f hit h
+    by (Ok hit) h = (f hit h.0, λ l e. ok_is_no_error y (tree_error.Look l) e)
     by (Err e) h = absurd cc
 
 -- what an empty buffer stores is all of its text

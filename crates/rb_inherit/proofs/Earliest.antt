@@ -8,7 +8,7 @@ use Rattle.rb_tree.specs.declared.kind.Kind.{Kind}
 use Rattle.rb_tree.specs.declared.kind.Kind.TheVariants as kind
 use Rattle.rb_fallback.specs.declared.fault.LookError.{LookError}
 use Rattle.rb_fallback.specs.declared.fault.LookError.TheVariants as look
-use Rattle.rb_inherit.specs.declared.error.TreeError.{TreeError}
+use Rattle.rb_inherit.specs.declared.error.WalkError.{WalkError}
 use Rattle.rb_inherit.specs.declared.found.Found.{Found}
 use Rattle.rb_inherit.specs.declared.found.Found.TheVariants.{Nothing, Tables, Item, Failed}
 use Rattle.rb_inherit.specs.declared.layer.Layer.{Layer}
@@ -265,14 +265,14 @@ ends_here tree used (Failed e) ls = refl
 
 -- ---- the cases above, for what a call returned
 pub ok_table_adds : {N : Type 0} {G : Ghosts N} (tree : N → Resource) (used : ℕ) (n : N) (level : Level) (before : Found N) (old : List (Layer N G))
-    (r : Result (Found N) TreeError) (new : List (Layer N G)) → nat_lt level.keys_most used ≡ false → kind_of (tree n) ≡ kind.Table → is_open_of before ≡ true
+    (r : Result (Found N) WalkError) (new : List (Layer N G)) → nat_lt level.keys_most used ≡ false → kind_of (tree n) ≡ kind.Table → is_open_of before ≡ true
     → IfOk r (λ after. after ≡ and_table before) → IfOk r (λ _. AddsLayer tree n level old new)
     → IfOk r (λ after. Adds tree used (part_of tree n level) before old after new)
 ok_table_adds tree used n level before old (Ok after) new b k o is a = table_adds tree used n level before old after new b k o is a
 ok_table_adds tree used n level before old (Err e) new b k o is a = tt
 
 pub ok_alias_adds : {N : Type 0} {G : Ghosts N} (tree : N → Resource) (used : ℕ) (n : N) (level : Level) (before : Found N) (old : List (Layer N G))
-    (r : Result (Found N) TreeError) (new : List (Layer N G)) → nat_lt level.keys_most used ≡ false → kind_of (tree n) ≡ kind.Alias → is_open_of before ≡ true
+    (r : Result (Found N) WalkError) (new : List (Layer N G)) → nat_lt level.keys_most used ≡ false → kind_of (tree n) ≡ kind.Alias → is_open_of before ≡ true
     → IfOk r (Stays before) → IfOk r (λ after. is_open_of after ≡ false) → IfOk r (λ _. Grows old new)
     → IfOk r (λ after. Refuses (alias_fault (tree n)) before old after new) → IfOk r (λ after. Adds tree used (part_of tree n level) before old after new)
 ok_alias_adds tree used n level before old (Ok after) new b k o s c g f = alias_adds tree used n level before old after new b k o c s g f

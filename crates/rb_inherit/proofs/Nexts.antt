@@ -6,7 +6,7 @@ use Rattle.std.specs.Prelude.{IfOk}
 use Rattle.rb_tree.specs.Resource.{Resource}
 use Rattle.rb_tree.specs.Parts.{children_of}
 use Rattle.rb_tree.specs.declared.node.Node.{Ghosts}
-use Rattle.rb_inherit.specs.declared.error.TreeError.{TreeError}
+use Rattle.rb_inherit.specs.declared.error.WalkError.{WalkError}
 use Rattle.rb_inherit.specs.declared.found.Found.{Found}
 use Rattle.rb_inherit.specs.declared.layer.Layer.{Layer}
 use Rattle.rb_inherit.specs.declared.place.Level.{Level}
@@ -33,7 +33,7 @@ next_of {N} {G} tree used before old mid i r after new taken a = λ l t got chil
     (subst (λ (m : List (Layer N G)). Adds tree used (part_of tree r.0 r.1) before m after new) layers a)
 
 pub next_adds : {N : Type 0} {G : Ghosts N} (tree : N → Resource) (used : ℕ) (before : Found N) (old mid : List (Layer N G)) (i : ℕ) (r : N × Level)
-    (result : Result (Found N) TreeError) (new : List (Layer N G)) → Takes tree old i mid r
+    (result : Result (Found N) WalkError) (new : List (Layer N G)) → Takes tree old i mid r
     → IfOk result (λ after. Adds tree used (part_of tree r.0 r.1) before mid after new) → IfOk result (λ after. AddsNext tree used before old i after new)
 next_adds tree used before old mid i r (Ok after) new taken a = next_of tree used before old mid i r after new taken a
 next_adds tree used before old mid i r (Err e) new taken a = tt

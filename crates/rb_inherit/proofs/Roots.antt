@@ -25,7 +25,7 @@ use Rattle.rb_inherit.specs.inner.AtPath.{AddsStops, CanAsk, HasParts, RefusesAf
 use Rattle.rb_inherit.specs.inner.Earlier.{Grows, Stays, closed_of, here_of, is_open_of, layered_in}
 use Rattle.rb_inherit.specs.inner.Paths.{AreFilled, is_separator, separated, steps_of}
 use Rattle.rb_inherit.specs.inner.Trails.{AreStops, and_tree, refused, trees_in}
-use Rattle.rb_inherit.specs.declared.error.TreeError.{TreeError}
+use Rattle.rb_inherit.specs.declared.error.WalkError.{WalkError}
 use Rattle.rb_inherit.specs.declared.follow.Link.{Link}
 use Rattle.rb_inherit.specs.declared.found.Found.{Found}
 use Rattle.rb_inherit.specs.declared.found.Found.TheVariants.{Nothing}
@@ -200,7 +200,7 @@ root_adds {N} {G} tree bundles parents n path paths keys all level begin found o
 
 -- what was found decides, whatever the aliases on the way lead to
 pub ok_decides : {N : Type 0} {G : Ghosts N} (tree : N → Resource) (ps : List Part) (found : Found N) (o : Option (Link N)) (now new : List (Layer N G))
-    (r : Result (Found N) TreeError) → 0 < length ps → AddsStops tree 0 ps Nothing [] found o now → IfOk r (Stays found)
+    (r : Result (Found N) WalkError) → 0 < length ps → AddsStops tree 0 ps Nothing [] found o now → IfOk r (Stays found)
     → IfOk r (λ after. is_open_of after ≡ false) → IfOk r (λ _. Grows now new) → (o ≡ None → IfOk r (λ after. after ≡ closed_of found))
     → (o ≡ None → new ≡ now) → IfOk r (λ after. RefusesAfter tree o found now after new)
     → IfOk r (λ after. Decides 0 ps (here_of tree after (layered_in tree new)))
@@ -209,7 +209,7 @@ ok_decides tree ps found o now new (Err e) h a s c g f l x = tt
 
 -- ---- what is written
 pub tree_written : {N : Type 0} {G : Ghosts N} (tree : N → Resource) (Takes : List ℕ → Type 0) (bundles : Bundles) (parents : ParentsOf) (n path : List ℕ)
-    (p : HasParts bundles parents n path) (found : Found N) (keys old : List ℕ) (layers : List (Layer N G)) (r : Result (Unit {0}) TreeError) (If : Type 0)
+    (p : HasParts bundles parents n path) (found : Found N) (keys old : List ℕ) (layers : List (Layer N G)) (r : Result (Unit {0}) WalkError) (If : Type 0)
     → keys ≡ old → old ≡ [] → Decides 0 (at_path (room_below (length path)) bundles (stops bundles p.ns) (segments path)) (here_of tree found (layered_in tree layers))
     → IfOk r (λ _. Writes Takes (IsTree 64 (length keys) (here_of tree found (layered_in tree layers))))
     → IfOk r (λ _. If → Writes Takes (IsTreeAt bundles parents n path))

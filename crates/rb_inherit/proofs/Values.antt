@@ -9,7 +9,7 @@ use Rattle.rb_tree.specs.declared.kind.Kind.{Kind}
 use Rattle.rb_tree.specs.declared.kind.Kind.TheVariants as kind
 use Rattle.rb_fallback.specs.Words.{look_word}
 use Rattle.rb_fallback.specs.declared.fault.LookError.{LookError}
-use Rattle.rb_inherit.specs.declared.error.TreeError.{TreeError}
+use Rattle.rb_inherit.specs.declared.error.WalkError.{WalkError}
 use Rattle.rb_inherit.specs.Merged.{Here, IsItem, IsTree, IsValue, Layered, Part, error_data, fails, item, members_data, nothing, tables}
 use Rattle.rb_inherit.specs.inner.Written.{IsLeafOf, WritesItems, WritesMembers}
 use Rattle.rb_inherit.specs.Merged.{Writes}
@@ -52,7 +52,7 @@ level_value Takes levels below used h g e same w = record {
   is = tree_is levels below used h w.value e (subst (λ (x : Here). IsValue (IsTree below) used x w.value) (sym same) w.is);
 }
 
-pub ok_level_value : (r : Result (Unit {0}) TreeError) (Takes : List ℕ → Type 0) (levels below used : ℕ) (h g : Here) → levels ≡ suc below → h ≡ g
+pub ok_level_value : (r : Result (Unit {0}) WalkError) (Takes : List ℕ → Type 0) (levels below used : ℕ) (h g : Here) → levels ≡ suc below → h ≡ g
     → IfOk r (λ _. Writes Takes (IsValue (IsTree below) used g)) → IfOk r (λ _. Writes Takes (IsTree levels used h))
 ok_level_value (Ok u) Takes levels below used h g e same w = level_value Takes levels below used h g e same w
 ok_level_value (Err f) Takes levels below used h g e same w = tt

@@ -20,10 +20,11 @@ pub record IsLookup (own icu : Bundles) (parents : ParentsOf) (n path : List ℕ
   pub bad_path : (answer ≡ Err look.BadPath) ↔ (IsPath path → ⊥)
   pub search : IsPath path → answer ≡ look_up own icu parents n (segments path)
 
--- the lookup's error is the result; if the lookup finds an item, and the result has a tree, that is one of the item
+-- the lookup's error is the result; if the lookup finds an item, the result is no such error, and a tree that it has is
+-- one of the item
 abbrev pub Follows : {A : Type 0} → (A → Hit → Type 0) → Result A TreeError → Result Hit LookError → Type 0
 Follows IsOf result (Err e) = result ≡ Err (tree.Look e)
-Follows IsOf result (Ok hit) = IfOk result (λ x. IsOf x hit)
+Follows IsOf result (Ok hit) = IfOk result (λ x. IsOf x hit) × ((e : LookError) → result ≡ Err (tree.Look e) → ⊥)
 
 -- the tree of an item without children is the item as JSON; any other is that of what the stops have at the path
 pub record IsTreeOf (bundles : Bundles) (parents : ParentsOf) (n path : List ℕ) (IsText : List ℕ → Type 0) (hit : Hit)

@@ -1,3 +1,6 @@
+ghost use Rattle.std.specs.Prelude.{◌≡◌};
+ghost use Rattle.rb_inherit.specs.inner.Ended.{ended};
+
 use rb_fallback::LookError;
 
 /// The reason why there is no tree.
@@ -11,4 +14,24 @@ pub enum TreeError {
     TreeTooLarge,
     /// Out of memory.
     Memory,
+}
+
+/// The reason why a tree ends whose item was found.
+#[derive(Clone, Copy)]
+pub(crate) enum WalkError {
+    TooManySteps,
+    TreeTooLarge,
+    Memory,
+}
+
+impl WalkError {
+    pub(crate) fn as_tree_error(self) -> TreeError
+        ensures { result ≡ ended self }
+    {
+        match self {
+            WalkError::TooManySteps => TreeError::TooManySteps,
+            WalkError::TreeTooLarge => TreeError::TreeTooLarge,
+            WalkError::Memory => TreeError::Memory,
+        }
+    }
 }

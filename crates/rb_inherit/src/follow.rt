@@ -11,7 +11,7 @@ ghost use Rattle.rb_inherit.specs.inner.Earlier.{fault_in, here_of, is_open_of, 
 ghost use Rattle.rb_inherit.specs.inner.Paths.{steps_of};
 ghost use Rattle.rb_inherit.specs.inner.Trails.{IsKept, trees_in};
 
-use crate::error::TreeError;
+use crate::error::WalkError;
 use crate::found::Found;
 use crate::path::{Walked, push_text, push_units, segment_count, walk_on};
 use crate::place::{Level, Place};
@@ -57,7 +57,7 @@ fn push_path_to<N: Node>(
     place: &mut Place<N>,
     link: Link<N>,
     path_at: Option<usize>,
-) -> Result<bool, TreeError>
+) -> Result<bool, WalkError>
     ensures { place.new ≡ record place.old { paths = place.new.paths } }
 {
     let begin = place.paths.len();
@@ -71,7 +71,7 @@ fn push_path_to<N: Node>(
                 return Ok(false);
             }
             if push_units(&mut place.paths, link.node, at).is_err() {
-                return Err(TreeError::Memory);
+                return Err(WalkError::Memory);
             }
             place.push_path_end(begin, link.level, link.rest)?;
         }
@@ -98,7 +98,7 @@ fn target_of<N: Node>(node: N, valid: &Name) -> Result<Target, LookError>
 fn level_of<N: Node>(
     place: &mut Place<N>,
     link: Link<N>,
-) -> Result<Result<(Name, Level), LookError>, TreeError>
+) -> Result<Result<(Name, Level), LookError>, WalkError>
     ensures rest { place.new ≡ record place.old { paths = place.new.paths } }
     ensures fault { IfOk result (IsFault (alias_fault (N.tree link.node))) }
 {
@@ -125,7 +125,7 @@ fn add_stops<N: Node>(
     place: &mut Place<N>,
     before: Found<N>,
     level: Level,
-) -> Result<After<N>, TreeError>
+) -> Result<After<N>, WalkError>
     ensures stays { IfOk result (λ after. Stays before after.found) }
     ensures layers { IfOk result (λ _. Grows place.old.layers.items place.new.layers.items) }
     ensures rest { place.new ≡ record place.old { layers = place.new.layers } }
@@ -168,7 +168,7 @@ fn add_level<T: Stops>(
     found: Found<T::N>,
     name: &Name,
     level: Level,
-) -> Result<After<T::N>, TreeError>
+) -> Result<After<T::N>, WalkError>
     ensures stays { IfOk result (λ after. Stays found after.found) }
     ensures layers { IfOk result (λ _. Grows place.old.layers.items place.new.layers.items) }
     ensures keys { place.new.keys.items ≡ place.old.keys.items }
@@ -203,7 +203,7 @@ fn add_link<T: Stops>(
     place: &mut Place<T::N>,
     found: Found<T::N>,
     link: Link<T::N>,
-) -> Result<After<T::N>, TreeError>
+) -> Result<After<T::N>, WalkError>
     ensures stays { IfOk result (λ after. Stays found after.found) }
     ensures layers { IfOk result (λ _. Grows place.old.layers.items place.new.layers.items) }
     ensures keys { place.new.keys.items ≡ place.old.keys.items }
@@ -225,7 +225,7 @@ fn add_links<T: Stops>(
     shelves: T,
     place: &mut Place<T::N>,
     before: After<T::N>,
-) -> Result<Found<T::N>, TreeError>
+) -> Result<Found<T::N>, WalkError>
     ensures stays { IfOk result (Stays before.found) }
     ensures closed { IfOk result (λ after. is_open_of after ≡ false) }
     ensures layers { IfOk result (λ _. Grows place.old.layers.items place.new.layers.items) }
@@ -254,7 +254,7 @@ fn add_after<T: Stops>(
     shelves: T,
     place: &mut Place<T::N>,
     before: After<T::N>,
-) -> Result<Found<T::N>, TreeError>
+) -> Result<Found<T::N>, WalkError>
     ensures stays { IfOk result (Stays before.found) }
     ensures closed { IfOk result (λ after. is_open_of after ≡ false) }
     ensures layers { IfOk result (λ _. Grows place.old.layers.items place.new.layers.items) }
@@ -279,7 +279,7 @@ fn add_alias<T: Stops>(
     found: Found<T::N>,
     node: T::N,
     level: Level,
-) -> Result<Found<T::N>, TreeError>
+) -> Result<Found<T::N>, WalkError>
     ensures stays { IfOk result (Stays found) }
     ensures closed { IfOk result (λ after. is_open_of after ≡ false) }
     ensures layers { IfOk result (λ _. Grows place.old.layers.items place.new.layers.items) }
@@ -302,7 +302,7 @@ pub(crate) fn add_child<T: Stops>(
     found: Found<T::N>,
     node: T::N,
     level: Level,
-) -> Result<Found<T::N>, TreeError>
+) -> Result<Found<T::N>, WalkError>
     requires { is_open_of found ≡ true }
     ensures adds { IfOk result (λ after. Adds T.N.tree (length place.old.keys.items)
         (part_of T.N.tree node level) found place.old.layers.items after place.new.layers.items) }
@@ -324,7 +324,7 @@ pub(crate) fn add_root<T: Stops>(
     place: &mut Place<T::N>,
     name: &Name,
     path: &[u8],
-) -> Result<Found<T::N>, TreeError>
+) -> Result<Found<T::N>, WalkError>
     ensures keys { IfOk result (λ _. place.new.keys.items ≡ place.old.keys.items) }
     ensures decides { IsNew place.old → IsPath path.now
         → (p : HasParts (T.bundles shelves false) (T.parents shelves) name.now path.now)
@@ -334,7 +334,7 @@ pub(crate) fn add_root<T: Stops>(
 {
     let begin = place.paths.len();
     let Ok(()) = push_text(&mut place.paths, path) else {
-        return Err(TreeError::Memory);
+        return Err(WalkError::Memory);
     };
     let level = place.level_from(false, 1, begin, usize::MAX);
     let after = add_level(shelves, place, Found::Nothing, name, level)?;

@@ -4,7 +4,7 @@
 ghost use Rattle.std.specs.Prelude.{◌≡◌, ◌≤◌, ◌+◌};
 ghost use Rattle.rb_inherit.specs.Merged.{room_below};
 
-use crate::error::TreeError;
+use crate::error::WalkError;
 use crate::found::Found;
 use crate::layer::Layer;
 use crate::path::SEPARATOR;
@@ -52,7 +52,7 @@ pub(crate) struct Place<N: Node> {
     /// The steps that may still be taken.
     left: u64,
     /// The error if there are none.
-    no_steps: TreeError,
+    no_steps: WalkError,
 }
 
 /// Returns the most bytes of keys with which the path of a level isn't too long that begins with a
@@ -74,7 +74,7 @@ impl<N: Node> Place<N> {
     ghost use Rattle.rb_inherit.specs.inner.Earlier.{part_of};
 
     /// Returns the state at the root.
-    pub(crate) fn new(alloc: Global, valid: Name, left: u64, no_steps: TreeError) -> Place<N>
+    pub(crate) fn new(alloc: Global, valid: Name, left: u64, no_steps: WalkError) -> Place<N>
         ensures { IsNew result }
     {
         Place {
@@ -90,7 +90,7 @@ impl<N: Node> Place<N> {
     }
 
     /// Takes steps, if as many are left.
-    pub(crate) fn spend(&mut self, steps: u64) -> Result<(), TreeError>
+    pub(crate) fn spend(&mut self, steps: u64) -> Result<(), WalkError>
         ensures { self.new ≡ record self.old { left = self.new.left } }
     {
         match self.left.checked_sub(steps) {
@@ -124,13 +124,13 @@ impl<N: Node> Place<N> {
     }
 
     /// Enters a child by its key.
-    pub(crate) fn push_key(&mut self, key: &[u8]) -> Result<(), TreeError>
+    pub(crate) fn push_key(&mut self, key: &[u8]) -> Result<(), WalkError>
         ensures keys { IfOk result (λ _. self.new.keys.items
             ≡ self.old.keys.items ++ 0 ∷ key.now) }
         ensures layers { self.new.layers.items ≡ self.old.layers.items }
     {
         if self.keys.push(SEPARATOR).is_err() || self.keys.extend_from_slice(key).is_err() {
-            return Err(TreeError::Memory);
+            return Err(WalkError::Memory);
         }
         Ok(())
     }
@@ -167,7 +167,7 @@ impl<N: Node> Place<N> {
         found: Found<N>,
         node: N,
         level: Level,
-    ) -> Result<Found<N>, TreeError>
+    ) -> Result<Found<N>, WalkError>
         requires { kind_of (N.tree node) ≡ Kinds.Table }
         ensures stays { IfOk result (Stays found) }
         ensures is { IfOk result (λ after. after ≡ and_table found) }
@@ -178,7 +178,7 @@ impl<N: Node> Place<N> {
     {
         match self.layers.push(Layer::of(node, level)) {
             Ok(()) => Ok(found.with_table()),
-            Err(_) => Err(TreeError::Memory),
+            Err(_) => Err(WalkError::Memory),
         }
     }
 
@@ -188,7 +188,7 @@ impl<N: Node> Place<N> {
         found: Found<N>,
         node: N,
         level: Level,
-    ) -> Result<Found<N>, TreeError>
+    ) -> Result<Found<N>, WalkError>
         ensures stays { IfOk result (Stays found) }
         ensures layers { IfOk result (λ _. Grows self.old.layers.items self.new.layers.items) }
         ensures keys { self.new.keys.items ≡ self.old.keys.items }
@@ -214,11 +214,11 @@ impl<N: Node> Place<N> {
     }
 
     /// Writes a separator after the path that begins at an index, unless that is empty.
-    fn separate(&mut self, begin: usize) -> Result<(), TreeError>
+    fn separate(&mut self, begin: usize) -> Result<(), WalkError>
         ensures { self.new ≡ record self.old { paths = self.new.paths } }
     {
         if self.paths.len() > begin && self.paths.push(SEPARATOR).is_err() {
-            return Err(TreeError::Memory);
+            return Err(WalkError::Memory);
         }
         Ok(())
     }
@@ -229,7 +229,7 @@ impl<N: Node> Place<N> {
         begin: usize,
         level: Level,
         len: usize,
-    ) -> Result<(), TreeError>
+    ) -> Result<(), WalkError>
         ensures { self.new ≡ record self.old { paths = self.new.paths } }
     {
         if len == 0 {
@@ -243,12 +243,12 @@ impl<N: Node> Place<N> {
         let from = end.saturating_sub(len);
         match self.paths.extend_from_within(from..end) {
             Ok(()) => Ok(()),
-            Err(_) => Err(TreeError::Memory),
+            Err(_) => Err(WalkError::Memory),
         }
     }
 
     /// Adds the keys below the place where a level begins to the path that begins at an index.
-    pub(crate) fn push_keys_of(&mut self, begin: usize, level: Level) -> Result<(), TreeError>
+    pub(crate) fn push_keys_of(&mut self, begin: usize, level: Level) -> Result<(), WalkError>
         ensures { self.new ≡ record self.old { paths = self.new.paths } }
     {
         if self.keys.len() <= level.keys_at {
@@ -261,7 +261,7 @@ impl<N: Node> Place<N> {
             .unwrap_or(b"");
         match self.paths.extend_from_slice(keys) {
             Ok(()) => Ok(()),
-            Err(_) => Err(TreeError::Memory),
+            Err(_) => Err(WalkError::Memory),
         }
     }
 

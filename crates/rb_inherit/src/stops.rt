@@ -4,7 +4,7 @@ ghost use Rattle.std.specs.Prelude.{◌≡◌, ℕ, IfOk, List, Some, false, map
 ghost use Rattle.std.specs.Prelude.{option_map, slice_get, true};
 ghost use Rattle.rb_inherit.specs.inner.Trails.{IsKept, IsTrailOf, tree_in, trees_in};
 
-use crate::error::TreeError;
+use crate::error::WalkError;
 use crate::place::Place;
 use crate::shelves::Stops;
 use rb_locales::Name;
@@ -71,7 +71,7 @@ fn roots_of<T: Stops>(
     shelves: T,
     icudata: bool,
     route: &Route,
-) -> Result<Vec<T::N>, TreeError>
+) -> Result<Vec<T::N>, WalkError>
     ensures { (ns : List (List ℕ))
         → map (slice_get route.now.names.items) route.now.stops.items ≡ map Some ns
         → IfOk result
@@ -81,7 +81,7 @@ fn roots_of<T: Stops>(
     for i in 0..route.stops.len() {
         if let Some(root) = root_at(shelves, icudata, route, i) {
             let Ok(()) = roots.push(root) else {
-                return Err(TreeError::Memory);
+                return Err(WalkError::Memory);
             };
         }
     }
@@ -94,7 +94,7 @@ fn read_trail<T: Stops>(
     place: &mut Place<T::N>,
     icudata: bool,
     name: &Name,
-) -> Result<Result<(), TrailFault>, TreeError>
+) -> Result<Result<(), TrailFault>, WalkError>
     ensures rest { place.new ≡ record place.old { trail = place.new.trail } }
     ensures trail { IfOk result (IsTrailOf T.N.tree (T.bundles shelves icudata)
         (T.parents shelves) name.now place.new.trail.roots.items) }
@@ -122,7 +122,7 @@ pub(crate) fn find_stops<T: Stops>(
     place: &mut Place<T::N>,
     icudata: bool,
     name: &Name,
-) -> Result<Result<(), TrailFault>, TreeError>
+) -> Result<Result<(), TrailFault>, WalkError>
     ensures rest { place.new ≡ record place.old { trail = place.new.trail } }
     ensures trail { IsKept T.N.tree (T.bundles shelves) (T.parents shelves) place.old.trail
         → IfOk result (IsTrailOf T.N.tree (T.bundles shelves icudata)

@@ -12,7 +12,7 @@ ghost use Rattle.rb_inherit.specs.inner.Merging.{AddsNext, FindsAt, moved, next_
 ghost use Rattle.rb_inherit.specs.inner.Written.{WritesItems, WritesMembers};
 ghost use Rattle.rb_inherit.specs.Merged.{Writes};
 
-use crate::error::TreeError;
+use crate::error::WalkError;
 use crate::follow::add_child;
 use crate::found::Found;
 use crate::leaf::{put_error, put_leaf};
@@ -27,7 +27,7 @@ fn take_at<T: Stops>(
     place: &mut Place<T::N>,
     found: Found<T::N>,
     i: usize,
-) -> Result<Found<T::N>, TreeError>
+) -> Result<Found<T::N>, WalkError>
     ensures adds { IfOk result (λ after. AddsNext T.N.tree (length place.old.keys.items) found
         place.old.layers.items i after place.new.layers.items) }
     ensures keys { place.new.keys.items ≡ place.old.keys.items }
@@ -48,7 +48,7 @@ fn found_at<T: Stops>(
     place: &mut Place<T::N>,
     from: usize,
     key: &[u8],
-) -> Result<Found<T::N>, TreeError>
+) -> Result<Found<T::N>, WalkError>
     requires { from ≤ length place.old.layers.items }
     ensures finds { IfOk result (λ found. FindsAt T.N.tree (length place.old.keys.items) key.now
         from place.old.layers.items found place.new.layers.items) }
@@ -64,7 +64,7 @@ fn found_at<T: Stops>(
 }
 
 /// Takes a step for each layer that is asked for a key, and more for a long key.
-fn spend_at<N: Node>(place: &mut Place<N>, layers: usize, key: &[u8]) -> Result<(), TreeError>
+fn spend_at<N: Node>(place: &mut Place<N>, layers: usize, key: &[u8]) -> Result<(), WalkError>
     ensures layers { place.new.layers.items ≡ place.old.layers.items }
     ensures keys { place.new.keys.items ≡ place.old.keys.items }
 {
@@ -89,7 +89,7 @@ fn put_at<T: Stops, O: Outlet>(
     from: usize,
     key: &[u8],
     levels: u64,
-) -> Result<(), TreeError>
+) -> Result<(), WalkError>
     requires { from ≤ length place.old.layers.items }
     ensures writes { IfOk result (λ _. Writes (O.takes out.old out.new)
         (IsAt (IsTree levels) (length place.old.keys.items) key.now
@@ -114,7 +114,7 @@ fn put_tables<T: Stops, O: Outlet>(
     out: &mut O,
     from: usize,
     levels: u64,
-) -> Result<(), TreeError>
+) -> Result<(), WalkError>
     requires { from ≤ length place.old.layers.items }
     ensures writes { IfOk result (λ _. Writes (O.takes out.old out.new) (IsValue (IsTree levels)
         (length place.old.keys.items)
@@ -137,7 +137,7 @@ fn put_entries<T: Stops, O: Outlet>(
     out: &mut O,
     from: usize,
     levels: u64,
-) -> Result<(), TreeError>
+) -> Result<(), WalkError>
     requires { from ≤ length place.old.layers.items }
     ensures writes { IfOk result (λ _. WritesMembers (O.takes out.old out.new) (IsTree levels)
         (length place.old.keys.items)
@@ -164,7 +164,7 @@ fn put_entries<T: Stops, O: Outlet>(
     }
     if place.has_key(from, to) {
         // more entries than a count of them can be
-        return Err(TreeError::TreeTooLarge);
+        return Err(WalkError::TreeTooLarge);
     }
     Ok(())
 }
@@ -179,7 +179,7 @@ fn put_element<T: Stops, O: Outlet>(
     level: Level,
     i: usize,
     levels: u64,
-) -> Result<(), TreeError>
+) -> Result<(), WalkError>
     ensures writes { IfOk result (λ _. Writes (O.takes out.old out.new)
         (IsAt (IsTree levels) (length place.old.keys.items) (decimal i)
         (part_of T.N.tree child level ∷ []))) }
@@ -205,7 +205,7 @@ fn put_items<T: Stops, O: Outlet>(
     node: T::N,
     level: Level,
     levels: u64,
-) -> Result<(), TreeError>
+) -> Result<(), WalkError>
     requires { kind_of (T.N.tree node) ≡ Kinds.Array }
     ensures writes { IfOk result (λ _. WritesItems (O.takes out.old out.new) (IsTree levels)
         (length place.old.keys.items) level.keys_most (children_of (T.N.tree node))) }
@@ -229,7 +229,7 @@ fn put_array<T: Stops, O: Outlet>(
     node: T::N,
     level: Level,
     levels: u64,
-) -> Result<(), TreeError>
+) -> Result<(), WalkError>
     requires { kind_of (T.N.tree node) ≡ Kinds.Array }
     ensures writes { IfOk result (λ _. Writes (O.takes out.old out.new) (IsValue (IsTree levels)
         (length place.old.keys.items) (item (part_of T.N.tree node level)))) }
@@ -252,7 +252,7 @@ pub(crate) fn put_found<T: Stops, O: Outlet>(
     found: Found<T::N>,
     from: usize,
     levels: u64,
-) -> Result<(), TreeError>
+) -> Result<(), WalkError>
     requires { from ≤ length place.old.layers.items }
     ensures writes { IfOk result (λ _. Writes (O.takes out.old out.new)
         (IsTree levels (length place.old.keys.items) (here_of T.N.tree found

@@ -12,7 +12,7 @@ ghost use Rattle.rb_inherit.specs.Merged.{IsTreeAt, Writes};
 ghost use Rattle.rb_inherit.specs.inner.AtPath.{HasParts, IsNew};
 
 use crate::count::Count;
-use crate::error::TreeError;
+use crate::error::{TreeError, WalkError};
 use crate::follow::add_root;
 use crate::leaf::put_leaf;
 use crate::limits::{STEP_LIMIT, TREE_LIMIT, TreeLimits};
@@ -37,16 +37,16 @@ pub struct TreeSize {
 }
 
 /// Returns the number of steps that a tree may take, and the error if it takes more.
-fn steps_of(limits: TreeLimits) -> (u64, TreeError) {
+fn steps_of(limits: TreeLimits) -> (u64, WalkError) {
     match limits.steps {
         Some(steps) => {
             if steps <= STEP_LIMIT {
-                (steps, TreeError::TooManySteps)
+                (steps, WalkError::TooManySteps)
             } else {
-                (STEP_LIMIT, TreeError::TreeTooLarge)
+                (STEP_LIMIT, WalkError::TreeTooLarge)
             }
         }
-        None => (STEP_LIMIT, TreeError::TreeTooLarge),
+        None => (STEP_LIMIT, WalkError::TreeTooLarge),
     }
 }
 
@@ -68,7 +68,7 @@ fn put_stops<T: Stops, O: Outlet>(
     name: &Name,
     path: &[u8],
     item: T::N,
-) -> Result<(), TreeError>
+) -> Result<(), WalkError>
     ensures leaf { IfOk result (λ _. IsLeaf (kind_of (T.N.tree item))
         → O.takes out.old out.new (compact_text (value_of (T.N.tree item)))) }
     ensures other { IsNew place.old → IsPath path.now
@@ -110,8 +110,10 @@ fn put_from<'a, S: Shelf<'a>, I: Shelf<'a, N = S::N>, O: Outlet>(
     let (steps, no_steps) = steps_of(limits);
     let mut place = Place::new(alloc, found.valid, steps, no_steps);
     let shelves = Shelves { own, icu, parents };
-    put_stops(out, &mut place, shelves, name, path, found.node)?;
-    Ok(found)
+    match put_stops(out, &mut place, shelves, name, path, found.node) {
+        Ok(()) => Ok(found),
+        Err(error) => Err(error.as_tree_error()),
+    }
 }
 
 /// Writes the item at a path with everything that it inherits as one JSON value, in the form of
