@@ -25,7 +25,7 @@ use Rattle.rb_requests.specs.Refused.{Reason, IsUnread, reason_line}
 use Rattle.rb_requests.specs.Released.{IsUnreleased, IsReleased}
 use Rattle.rb_requests.specs.Steps.{Outcome, Answers, BringsAt, IsJudged}
 use Rattle.rb_requests.specs.TreeReply.{TreeReply}
-use Rattle.rb_requests.specs.Within.{CallReply, error_line, line_of, longest_kept, outcome_line, usage_reply}
+use Rattle.rb_requests.specs.Within.{CallReply, UpTo, error_line, line_of, longest_kept, outcome_line, usage_reply}
 use Rattle.rb_requests.specs.declared.limits.Limits.{Limits}
 
 -- ---- changes of one bundle
@@ -96,13 +96,8 @@ ExtendedReply limits old (Some ask) text new = AskReply limits old ask text new
 
 -- ---- the reply to a line
 
--- a line with more than this many bytes is not read; with `keep_serving` any other may be answered `Memory`, and has
--- then changed nothing
-abbrev pub ExtendedUpTo : ℕ → Limits → Kept → List ℕ → List ℕ → Kept → Type 0
-ExtendedUpTo most limits old line text new =
-    ((nat_lt most (length line) ≡ true) × (text ≡ error_line (codes "LineTooLong")) × (new ≡ old))
-    ⊎ ((nat_lt most (length line) ≡ false) × (ExtendedReply limits old (extended_of line) text new
-    ⊎ ((limits.keep_serving ≡ true) × (text ≡ error_line (codes "Memory")) × (new ≡ old))))
+abbrev pub ExtendedRead : Limits → Kept → List ℕ → List ℕ → Kept → Type 0
+ExtendedRead limits old line text new = ExtendedReply limits old (extended_of line) text new
 
 abbrev pub ExtendedWithin : Limits → Kept → List ℕ → List ℕ → Kept → Type 0
-ExtendedWithin limits old line text new = ExtendedUpTo (longest_kept limits) limits old line text new
+ExtendedWithin limits = UpTo (ExtendedRead limits) (longest_kept limits) limits

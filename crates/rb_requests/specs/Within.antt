@@ -99,13 +99,13 @@ abbrev pub ReadReply : Limits → Kept → List ℕ → List ℕ → Kept → Ty
 ReadReply limits old line text new =
     AnswersRead limits old (call_of line) (asked_usage limits (option_and_then usage_in (data_of line))) text new
 
--- A line with more than this many bytes is not read. With `keep_serving`, any other may be answered `Memory`, and has
--- then changed nothing.
-abbrev pub LineReplyUpTo : ℕ → Limits → Kept → List ℕ → List ℕ → Kept → Type 0
-LineReplyUpTo most limits old line text new =
+-- The reply to a line, and the state after it, if `Read` gives them for a line that is read. A line with more than this
+-- many bytes is not read. With `keep_serving`, any other may be answered `Memory`, and has then changed nothing.
+abbrev pub UpTo : (Read : Kept → List ℕ → List ℕ → Kept → Type 0) → ℕ → Limits → Kept → List ℕ → List ℕ → Kept → Type 0
+UpTo Read most limits old line text new =
     ((nat_lt most (length line) ≡ true) × (text ≡ error_line (codes "LineTooLong")) × (new ≡ old))
-    ⊎ ((nat_lt most (length line) ≡ false) × (ReadReply limits old line text new
+    ⊎ ((nat_lt most (length line) ≡ false) × (Read old line text new
     ⊎ ((limits.keep_serving ≡ true) × (text ≡ error_line (codes "Memory")) × (new ≡ old))))
 
 abbrev pub LineReplyWithin : Limits → Kept → List ℕ → List ℕ → Kept → Type 0
-LineReplyWithin limits old line text new = LineReplyUpTo (longest_kept limits) limits old line text new
+LineReplyWithin limits = UpTo (ReadReply limits) (longest_kept limits) limits

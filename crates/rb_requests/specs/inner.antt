@@ -11,6 +11,7 @@ pub mod Taken
 pub mod Putting
 pub mod Streaming
 pub mod Placing
+pub mod Protocols
 pub mod TreePlaced
 pub mod Judged
 pub mod Drafted

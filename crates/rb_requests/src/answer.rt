@@ -331,7 +331,7 @@ pub(crate) fn reply_of<S: Sink>(
         LeavesOf (ReadReply limits.now engine.old line.now) s engine.old engine.new) }
 {
     let mut texts = Texts::none();
-    if lent_texts(line, scratch, &mut texts)? {
+    if lent_texts(alloc, line, scratch, &mut texts)? {
         return answer_texts(alloc, engine, limits, &texts, reply, sink);
     }
     tell_line_error(alloc, LineError::BadLine, reply)?;

@@ -1,11 +1,11 @@
 //! Reads the changes of a release. Their texts are borrowed from the line, or from a scratch.
 ghost use Rattle.std.specs.Prelude.{◌≡◌, ◌<◌, [], ◌∷◌, ◌++◌, List, length, is_some, option_map, Some};
-ghost use Rattle.std.specs.Prelude.{None, IfOk, IfErr, OnOk, OnErr, ℕ};
+ghost use Rattle.std.specs.Prelude.{None, IfOk, IfErr, OnOk, ℕ};
 ghost use Rattle.std.specs.List.{list_all};
 ghost use Rattle.std.specs.Char.{is_ascii_hexdigit};
-ghost use Rattle.json.specs.Json.{items as items_of, members as members_of, value as value_of};
+ghost use Rattle.json.specs.Json.{items as items_of, value as value_of};
 ghost use Rattle.serde_json.specs.Data.{Data, Items, Members, no_items, no_members, put, item};
-ghost use Rattle.serde_json.specs.Read.{converted, of_json, of_items, of_members};
+ghost use Rattle.serde_json.specs.Read.{converted, of_json, of_items};
 ghost use Rattle.hex.specs.Hex.{decode_of};
 ghost use Rattle.rb_requests.specs.Asked.{decoded};
 ghost use Rattle.rb_requests.specs.ExtendedAsked.{PutsAt, RemovesAt, all_changes};
@@ -18,8 +18,9 @@ ghost use Rattle.rb_requests.specs.inner.Texts.{IsMember};
 ghost use Rattle.rb_requests.specs.declared.change_list.LineChange.{LineChange};
 
 use crate::member::{Member, pass_value, read_value};
+use crate::member_store::{MemberStore, MembersFault, read_members};
 use crate::texts::after;
-use json::{Invalid, Reader, Token};
+use json::{Reader, Token};
 use rb_engine::BUNDLE_LIMIT;
 use std::alloc::{AllocError, Global};
 
@@ -45,13 +46,6 @@ pub(crate) enum Changes<'a> {
     /// The first changes, one more than a release may have.
     All(Vec<LineChange<'a>>),
     Other,
-}
-
-/// The reason why changes aren't read.
-#[derive(Clone, Copy, Debug, PartialEq, Eq)]
-pub(crate) enum ChangesFault {
-    Invalid,
-    Memory,
 }
 
 /// The most changes that are stored: with one more than a draft takes, it is refused as full.
@@ -162,53 +156,54 @@ fn file_of(digits: &str) -> Option<ChangePayload<'_>>
     }
 }
 
-/// Reads the members after the opening brace of a change.
-fn read_members<'a>(
-    reader: &mut Reader<'a>,
-    depth: usize,
-    texts: &mut ChangeTexts<'a>,
-) -> Result<(), Invalid>
-    requires { HoldsChange texts.old no_members }
-    ensures ok { OnOk result ((found : Members) × HoldsChange texts.new found
-        × (converted (λ ms. of_members ms no_members)
-        (members_of (value_of depth) (length reader.old) reader.old) ≡ Some (found, reader.new))) }
-    ensures err { OnErr result (converted (λ ms. of_members ms no_members)
-        (members_of (value_of depth) (length reader.old) reader.old) ≡ None) }
-    ensures shorter { OnOk result (length reader.new < length reader.old) }
-{
-    'members: loop {
-        match reader.next_key() {
-            Ok(Some(key)) => match read_value(reader, depth) {
-                Ok(member) => *texts = texts.with(key, member),
-                Err(_) => return Err(Invalid),
-            },
-            Ok(None) => return Ok(()),
-            Err(_) => return Err(Invalid),
-        }
+impl<'a> MemberStore<'a> for ChangeTexts<'a> {
+    ghost holds = { HoldsChange };
+
+    fn read_member(
+        &mut self,
+        _alloc: Global,
+        reader: &mut Reader<'a>,
+        key: &str,
+        depth: usize,
+    ) -> Result<(), MembersFault> {
+        let Ok(member) = read_value(reader, depth) else {
+            return Err(MembersFault::Invalid);
+        };
+        *self = self.with(key, member);
+        Ok(())
     }
 }
 
 /// Reads an item of the changes, or returns `None` if it is no change.
-fn read_change<'a>(reader: &mut Reader<'a>, depth: usize) -> Result<Option<LineChange<'a>>, Invalid>
+fn read_change<'a>(
+    alloc: Global,
+    reader: &mut Reader<'a>,
+    depth: usize,
+) -> Result<Option<LineChange<'a>>, MembersFault>
     ensures ok { IfOk result (λ change. (d : Data) × IsChange change d
         × (converted of_json (value_of depth reader.old) ≡ Some (d, reader.new))) }
-    ensures err { OnErr result (converted of_json (value_of depth reader.old) ≡ None) }
+    ensures err { IfErr result (λ e. e ≡ MembersFault.Invalid
+        → converted of_json (value_of depth reader.old) ≡ None) }
     ensures shorter { OnOk result (length reader.new < length reader.old) }
 {
-    let token = reader.next().ok_or(Invalid)?;
+    let Some(token) = reader.next() else {
+        return Err(MembersFault::Invalid);
+    };
     match token {
         Token::BeginObject => {
             if depth == 0 {
-                return Err(Invalid);
+                return Err(MembersFault::Invalid);
             }
             let mut texts = ChangeTexts::none();
-            read_members(reader, depth - 1, &mut texts)?;
-            Ok(texts.change())
+            match read_members(alloc, reader, depth - 1, &mut texts) {
+                Ok(()) => Ok(texts.change()),
+                Err(fault) => Err(fault),
+            }
         }
-        other => {
-            pass_value(reader, other, depth)?;
-            Ok(None)
-        }
+        other => match pass_value(reader, other, depth) {
+            Ok(()) => Ok(None),
+            Err(_) => Err(MembersFault::Invalid),
+        },
     }
 }
 
@@ -273,21 +268,22 @@ fn read_items<'a>(
     alloc: Global,
     reader: &mut Reader<'a>,
     depth: usize,
-) -> Result<Changes<'a>, ChangesFault>
+) -> Result<Changes<'a>, MembersFault>
     ensures ok { IfOk result (λ changes. (ds : Items) × AreOf changes (all_changes ds)
         × (converted of_items (items_of (value_of depth) (length reader.old) reader.old)
         ≡ Some (ds, reader.new))) }
-    ensures err { IfErr result (λ e. e ≡ ChangesFault.Invalid → converted of_items
+    ensures err { IfErr result (λ e. e ≡ MembersFault.Invalid → converted of_items
         (items_of (value_of depth) (length reader.old) reader.old) ≡ None) }
     ensures shorter { OnOk result (length reader.new < length reader.old) }
 {
     let mut so_far = ChangesSoFar::none(alloc);
     'items: while !reader.take_end_array() {
-        let Ok(change) = read_change(reader, depth) else {
-            return Err(ChangesFault::Invalid);
+        let change = match read_change(alloc, reader, depth) {
+            Ok(change) => change,
+            Err(fault) => return Err(fault),
         };
         let Ok(()) = so_far.add(change) else {
-            return Err(ChangesFault::Memory);
+            return Err(MembersFault::Memory);
         };
     }
     Ok(so_far.into_changes())
@@ -298,26 +294,26 @@ pub(crate) fn read_changes<'a>(
     alloc: Global,
     reader: &mut Reader<'a>,
     depth: usize,
-) -> Result<Changes<'a>, ChangesFault>
+) -> Result<Changes<'a>, MembersFault>
     ensures ok { IfOk result (λ changes. (d : Data) × AreChanges changes d
         × (converted of_json (value_of depth reader.old) ≡ Some (d, reader.new))) }
-    ensures err { IfErr result (λ e. e ≡ ChangesFault.Invalid
+    ensures err { IfErr result (λ e. e ≡ MembersFault.Invalid
         → converted of_json (value_of depth reader.old) ≡ None) }
     ensures shorter { OnOk result (length reader.new < length reader.old) }
 {
     let Some(token) = reader.next() else {
-        return Err(ChangesFault::Invalid);
+        return Err(MembersFault::Invalid);
     };
     match token {
         Token::BeginArray => {
             if depth == 0 {
-                return Err(ChangesFault::Invalid);
+                return Err(MembersFault::Invalid);
             }
             read_items(alloc, reader, depth - 1)
         }
         other => match pass_value(reader, other, depth) {
             Ok(()) => Ok(Changes::Other),
-            Err(_) => Err(ChangesFault::Invalid),
+            Err(_) => Err(MembersFault::Invalid),
         },
     }
 }

@@ -37,9 +37,10 @@ use crate::changes::put;
 use crate::device::Sink;
 use crate::export::{answer_export, answer_sizes};
 use crate::extended_ask::{ExtendedLine, extended_of};
-use crate::extended_texts::{ExtendedTexts, read_extended_texts};
+use crate::extended_texts::ExtendedTexts;
 use crate::judged::{Unmade, judge};
 use crate::limits::{Limited, Limits};
+use crate::member_store::read_object;
 use crate::release::release;
 use crate::tree_reply::answer_tree;
 use crate::words::LineError;
@@ -385,7 +386,7 @@ fn lent_extended_texts<'a>(
     ensures other { IfOk result (λ all. all ≡ false → extended_asked line.now ≡ None) }
 {
     match line.to_str() {
-        Ok(text) => read_extended_texts(alloc, text, scratch, asked),
+        Ok(text) => read_object(alloc, text, scratch, asked),
         Err(_) => Ok(false),
     }
 }

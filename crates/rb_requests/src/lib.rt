@@ -12,7 +12,6 @@ mod device;
 mod export;
 mod extended;
 mod extended_ask;
-mod extended_lines;
 mod extended_texts;
 mod judged;
 pub mod laws;
@@ -20,7 +19,9 @@ mod limits;
 mod lines;
 mod lookups;
 mod member;
+mod member_store;
 mod number;
+mod protocol;
 mod reading;
 mod release;
 mod stream;
@@ -31,9 +32,8 @@ mod words;
 pub use ask::LineRequest;
 pub use changes::{handle, put};
 pub use device::{Failed, Feed, ReadFeed, Run, Sink, WriteSink};
-pub use extended_lines::serve_extended;
 pub use limits::{LINE_LIMIT, Limited, Limits, Refusal};
-pub use lines::{ServeFault, Served, serve, serve_limited};
+pub use lines::{ServeFault, Served, serve, serve_extended, serve_limited};
 pub use lookups::look;
 pub use rb_engine::{
     App, AppFault, BUNDLE_LIMIT, BundleSource, Change, Engine, LookFault, NameList, Payload, Reply,

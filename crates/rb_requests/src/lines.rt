@@ -7,7 +7,8 @@ ghost use Rattle.rb_requests.specs.Device.{risen_by, counted, settles};
 ghost use Rattle.rb_requests.specs.Served.{AnswersAll, AnswersWithin, AfterFault, AfterFaultWithin};
 ghost use Rattle.rb_requests.specs.Served.{at};
 ghost use Rattle.rb_requests.specs.Served.{reads_failed, writes_failed};
-ghost use Rattle.rb_requests.specs.Within.{LineReplyUpTo, LineReplyWithin, longest_read};
+ghost use Rattle.rb_requests.specs.ExtendedReply.{ExtendedWithin};
+ghost use Rattle.rb_requests.specs.Within.{LineReplyWithin, longest_kept, longest_read};
 ghost use Rattle.rb_requests.specs.inner.Longest.{longest};
 ghost use Rattle.rb_requests.specs.declared.reading.Longest.{Longest};
 ghost use Rattle.rb_requests.specs.inner.OneLine.{Wrote, WrotePart, MayTakeEffect, FailsLine};
@@ -15,12 +16,14 @@ ghost use Rattle.rb_requests.specs.inner.OneLine.{line_settled};
 ghost use Rattle.rb_requests.specs.inner.Starving.{held_error as error_if_held};
 ghost use Rattle.rb_requests.specs.inner.Starving.{starved_error as error_if_starved};
 ghost use Rattle.rb_requests.specs.inner.Placing.{Finishes, PlacesReply};
+ghost use Rattle.rb_requests.specs.inner.Protocols.{LineReplyBy};
 ghost use Rattle.rb_requests.specs.inner.Putting.{writer};
 
 use crate::ahead::Ahead;
-use crate::answer::{Placed, Starved, reply_of, tell_line_error};
+use crate::answer::{Placed, Starved, tell_line_error};
 use crate::device::{Failed, Feed, Sink};
 use crate::limits::{LINE_LIMIT, Limits};
+use crate::protocol::Protocol;
 use crate::reading::{Held, Longest, NextLine, read_line};
 use crate::words::LineError;
 use json::Scratch;
@@ -59,7 +62,7 @@ pub struct Served {
 const KEPT: usize = 65_536;
 
 /// Empties a buffer and its scratch, and keeps their memory unless the buffer is large.
-pub(crate) fn empty(alloc: Global, buffer: &mut Vec<u8>, scratch: &mut Scratch)
+fn empty(alloc: Global, buffer: &mut Vec<u8>, scratch: &mut Scratch)
     ensures { buffer.new.items ≡ [] }
 {
     if buffer.capacity() > KEPT {
@@ -117,7 +120,7 @@ fn put_reply<S: Sink>(sink: &mut S, reply: &[u8]) -> Result<(), Failed>
 }
 
 /// Returns the lengths under limits up to which lines are read, and up to which they are stored.
-pub(crate) fn longest_of(limits: &Limits) -> Longest
+fn longest_of(limits: &Limits) -> Longest
     ensures { result ≡ longest limits.now }
 {
     let most = LINE_LIMIT as u64;
@@ -133,7 +136,7 @@ pub(crate) fn longest_of(limits: &Limits) -> Longest
 }
 
 /// Returns the error that a line is answered of which this much is stored; none if all of it is.
-pub(crate) fn held_error(held: Held) -> Option<LineError>
+fn held_error(held: Held) -> Option<LineError>
     ensures { result ≡ error_if_held held }
 {
     match held {
@@ -144,7 +147,7 @@ pub(crate) fn held_error(held: Held) -> Option<LineError>
 }
 
 /// Returns the error that is answered if memory ran out for a whole line; none if serving ends.
-pub(crate) fn starved_error(limits: &Limits, starved: Starved) -> Option<LineError>
+fn starved_error(limits: &Limits, starved: Starved) -> Option<LineError>
     ensures { result ≡ error_if_starved limits.now starved }
 {
     match starved {
@@ -159,6 +162,7 @@ fn tell_line<S: Sink>(
     alloc: Global,
     engine: &mut Engine,
     limits: &Limits,
+    protocol: Protocol,
     scratch: &mut Scratch,
     line: &[u8],
     held: Held,
@@ -170,14 +174,14 @@ fn tell_line<S: Sink>(
         (writer (S.written sink.new) (S.faults sink.new) (S.settled sink.new))
         (λ text. (longest : Longest) → (whole : List ℕ)
         → IsHeldUnder limits.now longest whole line.now held
-        → LineReplyUpTo longest.kept limits.now engine.old whole text engine.new) }
+        → LineReplyBy protocol longest.kept limits.now engine.old whole text engine.new) }
     ensures fault { IfErr result (λ e. (longest : Longest) → (whole : List ℕ)
         → IsHeldUnder limits.now longest whole line.now held
-        → MayTakeEffect (LineReplyUpTo longest.kept limits.now) engine.old whole engine.new) }
+        → MayTakeEffect (LineReplyBy protocol longest.kept limits.now) engine.old whole engine.new) }
 {
     let error = match held_error(held) {
         Some(error) => error,
-        None => match reply_of(alloc, engine, limits, scratch, line, reply, sink) {
+        None => match protocol.reply_of(alloc, engine, limits, scratch, line, reply, sink) {
             Ok(placed) => return Ok(placed),
             Err(starved) => match starved_error(limits, starved) {
                 Some(error) => error,
@@ -190,7 +194,7 @@ fn tell_line<S: Sink>(
 }
 
 /// Writes a reply if it isn't written yet, and flushes.
-pub(crate) fn put_placed<S: Sink>(sink: &mut S, placed: Placed, line: &[u8]) -> Result<(), Failed>
+fn put_placed<S: Sink>(sink: &mut S, placed: Placed, line: &[u8]) -> Result<(), Failed>
     ensures { Finishes placed line.now
         (writer (S.written sink.old) (S.faults sink.old) (S.settled sink.old))
         (writer (S.written sink.new) (S.faults sink.new) (S.settled sink.new)) result }
@@ -206,6 +210,7 @@ fn serve_line<S: Sink>(
     alloc: Global,
     engine: &mut Engine,
     limits: &Limits,
+    protocol: Protocol,
     scratch: &mut Scratch,
     sink: &mut S,
     line: &[u8],
@@ -214,16 +219,18 @@ fn serve_line<S: Sink>(
 ) -> Result<(), ServeFault>
     ensures line { OnOk result ((longest : Longest) → (whole : List ℕ)
         → IsHeldUnder limits.now longest whole line.now held
-        → Wrote (LineReplyUpTo longest.kept limits.now) engine.old whole
+        → Wrote (LineReplyBy protocol longest.kept limits.now) engine.old whole
         (S.written sink.old) (S.written sink.new) engine.new) }
     ensures fault { IfErr result (λ fault. (longest : Longest) → (whole : List ℕ)
         → IsHeldUnder limits.now longest whole line.now held
-        → FailsLine (LineReplyUpTo longest.kept limits.now) fault engine.old whole
+        → FailsLine (LineReplyBy protocol longest.kept limits.now) fault engine.old whole
         (S.written sink.old) (S.written sink.new) engine.new) }
     ensures count { S.faults sink.new ≡ writes_failed (S.faults sink.old) result }
     ensures settled { S.settled sink.new ≡ line_settled (S.settled sink.old) result }
 {
-    let placed = match tell_line(alloc, engine, limits, scratch, line, held, reply, sink) {
+    let placed = match tell_line(
+        alloc, engine, limits, protocol, scratch, line, held, reply, sink,
+    ) {
         Ok(placed) => placed,
         Err(_) => return Err(ServeFault::Memory),
     };
@@ -234,7 +241,7 @@ fn serve_line<S: Sink>(
 }
 
 /// Ends serving after the most lines that may be served: reads a byte more, if there is one.
-pub(crate) fn end_after<F: Feed>(feed: &mut F, lines: u64) -> Result<Served, ServeFault>
+fn end_after<F: Feed>(feed: &mut F, lines: u64) -> Result<Served, ServeFault>
     ensures end { EndsAfter (F.left feed.old) (F.left feed.new) lines result }
     ensures reads { F.faults feed.new ≡ reads_failed (F.faults feed.old) result }
 {
@@ -243,6 +250,74 @@ pub(crate) fn end_after<F: Feed>(feed: &mut F, lines: u64) -> Result<Served, Ser
         Ok(Some(_)) => Err(ServeFault::LineLimit),
         Err(Failed) => Err(ServeFault::Read),
     }
+}
+
+/// Answers the lines of an input by a protocol, under limits.
+#[tactic(auto, using(crate::proofs::Serving::at_first))]
+fn serve_by<F: Feed, S: Sink>(
+    alloc: Global,
+    engine: &mut Engine,
+    limits: &Limits,
+    protocol: Protocol,
+    feed: &mut F,
+    sink: &mut S,
+    max_lines: u64,
+) -> Result<Served, ServeFault>
+    ensures all { IfOk result (λ served. AnswersWithin
+        (LineReplyBy protocol (longest_kept limits.now) limits.now) (longest_read limits.now)
+        (at engine.old (F.left feed.old) (S.written sink.old) (S.settled sink.old))
+        (at engine.new (F.left feed.new) (S.written sink.new) (S.settled sink.new)) served.lines) }
+    ensures most { IfOk result (λ served. served.lines ≤ max_lines) }
+    ensures settled { IfOk result
+        (λ served. S.settled sink.new ≡ risen_by (S.settled sink.old) served.lines) }
+    ensures fault { IfErr result (λ fault. AfterFaultWithin
+        (LineReplyBy protocol (longest_kept limits.now) limits.now) (longest_read limits.now) fault
+        (at engine.old (F.left feed.old) (S.written sink.old) (S.settled sink.old))
+        (at engine.new (F.left feed.new) (S.written sink.new) (S.settled sink.new)) max_lines) }
+    ensures reads { F.faults feed.new ≡ reads_failed (F.faults feed.old) result }
+    ensures writes { S.faults sink.new ≡ writes_failed (S.faults sink.old) result }
+{
+    let longest = longest_of(limits);
+    let mut line = Vec::new(alloc);
+    let mut scratch = Scratch::new(alloc);
+    let mut reply = ReplyLine::new(alloc);
+    let mut ahead = Ahead::NONE;
+    'lines: for lines in 0..max_lines {
+        ahead.fetch(engine, feed);
+        empty(alloc, &mut line, &mut scratch);
+        match read_line(alloc, feed, &mut line, longest) {
+            Ok(NextLine::Ended(held)) => serve_line(
+                alloc,
+                engine,
+                limits,
+                protocol,
+                &mut scratch,
+                sink,
+                &line,
+                held,
+                &mut reply,
+            )?,
+            Ok(NextLine::Last(held)) => {
+                serve_line(
+                    alloc,
+                    engine,
+                    limits,
+                    protocol,
+                    &mut scratch,
+                    sink,
+                    &line,
+                    held,
+                    &mut reply,
+                )?;
+                return Ok(Served { lines: lines + 1 });
+            }
+            Ok(NextLine::End) => return Ok(Served { lines }),
+            Ok(NextLine::TooLong) => return Err(ServeFault::LineTooLong),
+            Ok(NextLine::Memory) => return Err(ServeFault::Memory),
+            Err(Failed) => return Err(ServeFault::Read),
+        }
+    }
+    end_after(feed, max_lines)
 }
 
 /// Answers the lines of an input under limits, each with one line. A line is read, answered and
@@ -261,7 +336,6 @@ pub(crate) fn end_after<F: Feed>(feed: &mut F, lines: u64) -> Result<Served, Ser
 /// let limits = Limits { line_bytes: Some(1000), ..Limits::NONE };
 /// serve_limited(alloc, &mut engine, &limits, &mut feed, &mut sink, 10) // Ok(Served { lines: 1 })
 /// ```
-#[tactic(auto, using(crate::proofs::Serving::at_first))]
 pub fn serve_limited<F: Feed, S: Sink>(
     alloc: Global,
     engine: &mut Engine,
@@ -288,45 +362,60 @@ pub fn serve_limited<F: Feed, S: Sink>(
     ensures reads { F.faults feed.new ≡ reads_failed (F.faults feed.old) result }
     ensures writes { S.faults sink.new ≡ writes_failed (S.faults sink.old) result }
 {
-    let longest = longest_of(limits);
-    let mut line = Vec::new(alloc);
-    let mut scratch = Scratch::new(alloc);
-    let mut reply = ReplyLine::new(alloc);
-    let mut ahead = Ahead::NONE;
-    'lines: for lines in 0..max_lines {
-        ahead.fetch(engine, feed);
-        empty(alloc, &mut line, &mut scratch);
-        match read_line(alloc, feed, &mut line, longest) {
-            Ok(NextLine::Ended(held)) => serve_line(
-                alloc,
-                engine,
-                limits,
-                &mut scratch,
-                sink,
-                &line,
-                held,
-                &mut reply,
-            )?,
-            Ok(NextLine::Last(held)) => {
-                serve_line(
-                    alloc,
-                    engine,
-                    limits,
-                    &mut scratch,
-                    sink,
-                    &line,
-                    held,
-                    &mut reply,
-                )?;
-                return Ok(Served { lines: lines + 1 });
-            }
-            Ok(NextLine::End) => return Ok(Served { lines }),
-            Ok(NextLine::TooLong) => return Err(ServeFault::LineTooLong),
-            Ok(NextLine::Memory) => return Err(ServeFault::Memory),
-            Err(Failed) => return Err(ServeFault::Read),
-        }
-    }
-    end_after(feed, max_lines)
+    serve_by(
+        alloc,
+        engine,
+        limits,
+        Protocol::Plain,
+        feed,
+        sink,
+        max_lines,
+    )
+}
+
+/// Answers the lines of an input, each with one line, like `serve_limited`, and the extended
+/// requests too: `put`, `release`, `export`, `tree`, `list` with `sizes`, and `usage` whether or not
+/// there are limits. The refusal of a text has the code and the line of an error, as `compile`
+/// reports one, and the refusal of a file the code of its first error.
+///
+/// ```rust
+/// serve_extended(alloc, &mut engine, &Limits::NONE, &mut feed, &mut sink, 10) // Ok(Served { lines: 1 })
+/// ```
+pub fn serve_extended<F: Feed, S: Sink>(
+    alloc: Global,
+    engine: &mut Engine,
+    limits: &Limits,
+    feed: &mut F,
+    sink: &mut S,
+    max_lines: u64,
+) -> Result<Served, ServeFault>
+    // All the input is read, what is written is the replies to its lines under limits and nothing
+    // else, and they have taken effect.
+    ensures all { IfOk result (λ served. AnswersWithin
+        (ExtendedWithin limits.now) (longest_read limits.now)
+        (at engine.old (F.left feed.old) (S.written sink.old) (S.settled sink.old))
+        (at engine.new (F.left feed.new) (S.written sink.new) (S.settled sink.new)) served.lines) }
+    ensures most { IfOk result (λ served. served.lines ≤ max_lines) }
+    ensures settled { IfOk result
+        (λ served. S.settled sink.new ≡ risen_by (S.settled sink.old) served.lines) }
+    // The first lines are answered and their replies flushed; the fault says how far the next came.
+    ensures fault { IfErr result (λ fault. AfterFaultWithin
+        (ExtendedWithin limits.now) (longest_read limits.now) fault
+        (at engine.old (F.left feed.old) (S.written sink.old) (S.settled sink.old))
+        (at engine.new (F.left feed.new) (S.written sink.new) (S.settled sink.new)) max_lines) }
+    // A count of failed calls rises by one at its device's fault, and otherwise stays.
+    ensures reads { F.faults feed.new ≡ reads_failed (F.faults feed.old) result }
+    ensures writes { S.faults sink.new ≡ writes_failed (S.faults sink.old) result }
+{
+    serve_by(
+        alloc,
+        engine,
+        limits,
+        Protocol::Extended,
+        feed,
+        sink,
+        max_lines,
+    )
 }
 
 /// Answers the lines of an input, each with one line. A line is read, answered and flushed before

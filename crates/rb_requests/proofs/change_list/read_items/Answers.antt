@@ -5,12 +5,12 @@ use Rattle.rb_requests.proofs.Members.{one_more_before}
 use Rattle.rb_requests.proofs.MembersRead.{item_read, item_refused, items_over}
 use Rattle.rb_requests.proofs.change_list.read_items.Goals as goal
 
-pub returns-in_default-clause-err : goal.returns-in_default-clause-err
-returns-in_default-clause-err c invalid =
+pub returns-in-Err-clause-err : goal.returns-in-Err-clause-err
+returns-in-Err-clause-err c invalid =
     let l = c.items in
     let i = l.invariant in
     let going : (after_end_array l.reader ≡ None) × (c.take_end_array.new.self ≡ l.reader) = grind arith in
-    i.read ∙ ap (parse_map i.before) (item_refused (value c.args.depth) i.turns l.reader going.0 (rw (← going.1) c.in_default.ensures.err))
+    i.read ∙ ap (parse_map i.before) (item_refused (value c.args.depth) i.turns l.reader going.0 (rw (← going.1) (c.in-Err.ensures.err invalid)))
 
 pub items-preserved : goal.items-preserved
 items-preserved c =

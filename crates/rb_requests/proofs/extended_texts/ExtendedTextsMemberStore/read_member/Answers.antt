@@ -2,7 +2,7 @@ use Rattle.std.proofs.Common.{◌≡◌, sym, subst, codes, rules, ℕ, List}
 use Rattle.std.proofs.lemmas.Slice.Eq.{bytes_eq-Decides}
 use Rattle.serde_json.specs.Data.{put}
 use Rattle.rb_requests.specs.inner.ExtendedRead.{HoldsAll}
-use Rattle.rb_requests.proofs.extended_texts.read_member.Goals as goal
+use Rattle.rb_requests.proofs.extended_texts.ExtendedTextsMemberStore.read_member.Goals as goal
 
 pub returns-in-Ok-clause-ok : goal.returns-in-Ok-clause-ok
 returns-in-Ok-clause-ok c =

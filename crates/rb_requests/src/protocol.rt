@@ -1,0 +1,50 @@
+ghost use Rattle.std.specs.Prelude.{IfErr};
+ghost use Rattle.rb_requests.specs.inner.Placing.{PlacesReply};
+ghost use Rattle.rb_requests.specs.inner.Protocols.{ReadBy};
+ghost use Rattle.rb_requests.specs.inner.Putting.{writer};
+ghost use Rattle.rb_requests.specs.inner.Starving.{LeavesOf};
+
+use crate::answer::{Placed, Starved, reply_of};
+use crate::device::Sink;
+use crate::extended::extended_reply_of;
+use crate::limits::Limits;
+use json::Scratch;
+use rb_engine::Engine;
+use rb_replies::ReplyLine;
+use std::alloc::Global;
+
+/// The requests that lines may have.
+#[derive(Clone, Copy)]
+pub(crate) enum Protocol {
+    Plain,
+    /// Extended requests too.
+    Extended,
+}
+
+impl Protocol {
+    /// Makes the line that answers a line, or writes it to the sink.
+    pub(crate) fn reply_of<S: Sink>(
+        self,
+        alloc: Global,
+        engine: &mut Engine,
+        limits: &Limits,
+        scratch: &mut Scratch,
+        line: &[u8],
+        reply: &mut ReplyLine,
+        sink: &mut S,
+    ) -> Result<Placed, Starved>
+        ensures reply { PlacesReply result reply.new
+            (writer (S.written sink.old) (S.faults sink.old) (S.settled sink.old))
+            (writer (S.written sink.new) (S.faults sink.new) (S.settled sink.new))
+            (λ text. ReadBy self limits.now engine.old line.now text engine.new) }
+        ensures fault { IfErr result (λ s.
+            LeavesOf (ReadBy self limits.now engine.old line.now) s engine.old engine.new) }
+    {
+        match self {
+            Protocol::Plain => reply_of(alloc, engine, limits, scratch, line, reply, sink),
+            Protocol::Extended => {
+                extended_reply_of(alloc, engine, limits, scratch, line, reply, sink)
+            }
+        }
+    }
+}
