@@ -5,9 +5,10 @@ ghost use Rattle.rb_requests.specs.Device.{risen_by};
 ghost use Rattle.rb_requests.specs.Served.{AfterFault, AfterFaultWithin, AnswersAll, AnswersWithin};
 ghost use Rattle.rb_requests.specs.Served.{at};
 ghost use Rattle.rb_requests.specs.Served.{reads_failed, writes_failed};
+ghost use Rattle.rb_requests.specs.ExtendedReply.{ExtendedWithin};
 ghost use Rattle.rb_requests.specs.Within.{LineReplyWithin, longest_read};
 ghost use Rattle.rb_tool.specs.inner.Limits.{most_lines};
-ghost use Rattle.rb_tool.specs.inner.Serving.{AfterFaultUnder, AnswersUnder};
+ghost use Rattle.rb_tool.specs.inner.Serving.{AfterFaultUnder, AnswersUnder, limits_of};
 
 use rb_requests::{
     Engine, Feed, Limits, ServeFault, Served, Sink, serve, serve_extended, serve_limited,
@@ -74,7 +75,19 @@ fn extended_run<F: Feed, S: Sink>(
     feed: &mut F,
     sink: &mut S,
 ) -> Result<Served, ServeFault>
+    ensures all { IfOk result (λ served. AnswersWithin
+        (ExtendedWithin limits.now) (longest_read limits.now)
+        (at engine.old (F.left feed.old) (S.written sink.old) (S.settled sink.old))
+        (at engine.new (F.left feed.new) (S.written sink.new) (S.settled sink.new)) served.lines) }
     ensures most { IfOk result (λ served. served.lines ≤ most_lines) }
+    ensures settled { IfOk result
+        (λ served. S.settled sink.new ≡ risen_by (S.settled sink.old) served.lines) }
+    ensures fault { IfErr result (λ fault. AfterFaultWithin
+        (ExtendedWithin limits.now) (longest_read limits.now) fault
+        (at engine.old (F.left feed.old) (S.written sink.old) (S.settled sink.old))
+        (at engine.new (F.left feed.new) (S.written sink.new) (S.settled sink.new)) most_lines) }
+    ensures reads { F.faults feed.new ≡ reads_failed (F.faults feed.old) result }
+    ensures writes { S.faults sink.new ≡ writes_failed (S.faults sink.old) result }
 {
     serve_extended(alloc, engine, limits, feed, sink, MAX_LINES)
 }
@@ -121,7 +134,21 @@ impl Server {
         feed: &mut F,
         sink: &mut S,
     ) -> Result<Served, ServeFault>
+        ensures all { IfOk result (λ served. AnswersWithin
+            (ExtendedWithin (limits_of self.old.limits)) (longest_read (limits_of self.old.limits))
+            (at self.old.engine (F.left feed.old) (S.written sink.old) (S.settled sink.old))
+            (at self.new.engine (F.left feed.new) (S.written sink.new) (S.settled sink.new))
+            served.lines) }
         ensures most { IfOk result (λ served. served.lines ≤ most_lines) }
+        ensures settled { IfOk result
+            (λ served. S.settled sink.new ≡ risen_by (S.settled sink.old) served.lines) }
+        ensures fault { IfErr result (λ fault. AfterFaultWithin
+            (ExtendedWithin (limits_of self.old.limits)) (longest_read (limits_of self.old.limits)) fault
+            (at self.old.engine (F.left feed.old) (S.written sink.old) (S.settled sink.old))
+            (at self.new.engine (F.left feed.new) (S.written sink.new) (S.settled sink.new))
+            most_lines) }
+        ensures reads { F.faults feed.new ≡ reads_failed (F.faults feed.old) result }
+        ensures writes { S.faults sink.new ≡ writes_failed (S.faults sink.old) result }
         ensures limits { self.new.limits ≡ self.old.limits }
     {
         let limits = self.limits.unwrap_or(Limits::NONE);

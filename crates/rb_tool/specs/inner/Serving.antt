@@ -1,5 +1,5 @@
 -- Defines where explicit parents come from, and what serving under limits is: those that the options give, or none.
-use Rattle.std.specs.Prelude.{◌≡◌, ℕ, List, [], Bool, Option, Some, None, option_map, if◌then◌else◌}
+use Rattle.std.specs.Prelude.{◌≡◌, ℕ, List, [], Bool, false, Option, Some, None, option_map, unwrap_or, if◌then◌else◌}
 use Rattle.std.specs.Borrow.{Bor}
 use Rattle.rb_console.specs.declared.parents.ParentsSource.{ParentsSource}
 use Rattle.rb_console.specs.declared.parents.ParentsSource.TheVariants.{File, Cldr}
@@ -48,3 +48,16 @@ abbrev pub AfterFaultUnder : Option Limits → ServeFault → Moment Kept → Mo
 AfterFaultUnder None fault before after = AfterFault fault (seen before) (seen after) most_lines
 AfterFaultUnder (Some limits) fault before after =
     AfterFaultWithin (LineReplyWithin limits) (longest_read limits) fault before after most_lines
+
+-- ---- serving extended requests too
+-- the limits of a server
+abbrev pub limits_of : Option Limits → Limits
+limits_of limits = unwrap_or limits (record {
+  bundle_bytes = None;
+  app_bytes = None;
+  apps = None;
+  steps = None;
+  line_bytes = None;
+  reply_bytes = None;
+  keep_serving = false;
+})
