@@ -1,5 +1,5 @@
 -- Defines what a lookup answers in C (kinds: `UResType` of ICU's `ures.h`), a rule of this project.
-use Rattle.std.specs.Prelude.{◌≡◌, ◌⊎◌, ◌<◌, ℕ, Bool, List, Option, Some, None, IfSome, length}
+use Rattle.std.specs.Prelude.{◌≡◌, ◌⊎◌, ◌<◌, ℕ, Bool, List, Option, Some, None, length, unwrap_or}
 use Rattle.rb_tree.specs.Parts.{kind_of, len_of}
 use Rattle.rb_tree.specs.declared.kind.Kind.{Kind}
 use Rattle.rb_tree.specs.declared.kind.Kind.TheVariants as kinds
@@ -34,12 +34,12 @@ kind_number kinds.Int = 7
 kind_number kinds.Array = 8
 kind_number kinds.Ints = 14
 
--- the kind, the count and the number of the item that is found
+-- the kind and the count of the item that is found, and the number of an int, else 0
 abbrev pub Describes : Response → ℕ → ℕ → ℕ → Type 0
 Describes (Replies reply) kind count number = Unit {0}
 Describes (Refuses fault) kind count number = Unit {0}
 Describes (Finds hit valid) kind count number =
-    (kind ≡ kind_number (kind_of hit.tree)) × (count ≡ len_of hit.tree) × IfSome (uint_of hit.tree) (λ n. number ≡ n)
+    (kind ≡ kind_number (kind_of hit.tree)) × (count ≡ len_of hit.tree) × (number ≡ unwrap_or (uint_of hit.tree) 0)
 
 -- a copy of a text's units, or their count if there isn't room for them
 abbrev pub CopiesText : Option (List ℕ) → ℕ → ℕ → ℕ → List ℕ → Type 0

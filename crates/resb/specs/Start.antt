@@ -57,12 +57,17 @@ IsParentsError text Memory = Unit {0}
 IsParentsError text (Locale i) = ⊥
 IsParentsError text (Entry_fault fault) = ⊥
 
--- an error of the entries' locales, of the parents, or of the entries' payloads, in this order
+-- the locales of all entries are names
+abbrev pub AreNamed : List Entry → Type 0
+AreNamed given = (entries : Entries) × AreEntries given entries
+
+-- an error of the entries' locales, of the parents, or of the entries' payloads: each only if the earlier ones have none
 abbrev pub IsStartError : List Entry → List ℕ → StartError → Type 0
 IsStartError given text (Locale i) = IsFirstUnnamed given i
-IsStartError given text (Text fault) = IsRefusal text fault
-IsStartError given text (Parents fault) = IsParentsError text (Parents fault)
-IsStartError given text (Entry_fault fault) = (entries : Entries) × AreEntries given entries × engine.IsRefused entries fault
+IsStartError given text (Text fault) = AreNamed given × IsRefusal text fault
+IsStartError given text (Parents fault) = AreNamed given × IsParentsError text (Parents fault)
+IsStartError given text (Entry_fault fault) = ((m : ParentsOf) × HasParents text m)
+    × ((entries : Entries) × AreEntries given entries × engine.IsRefused entries fault)
 IsStartError given text Memory = Unit {0}
 
 abbrev pub error_number : StartError → ℕ

@@ -1,8 +1,9 @@
-ghost use Rattle.std.specs.Prelude.{◌≡◌, ◌≢◌, IfOk, IfNone, IfSome};
+ghost use Rattle.std.specs.Prelude.{◌≡◌, ◌≢◌, None, IfOk, IfNone, IfSome};
 ghost use Rattle.rb_engine.specs.Source.{change_request};
+ghost use Rattle.rb_engine.specs.Version.{next_version};
 ghost use Rattle.rb_engine.specs.declared.request.Request.TheVariants as requests;
 ghost use Rattle.rb_handle.specs.Stored.{engine_of};
-ghost use Rattle.resb.specs.Changes.{payload_of, HandlesAs, LeadsTo};
+ghost use Rattle.resb.specs.Changes.{payload_of, HandlesAs, LeadsTo, RaisesVersion};
 
 use crate::held::take;
 use crate::numbers::{CLOSED, MEMORY, SHARED, reply_number};
@@ -57,6 +58,8 @@ fn request_of(
 /// Handles a request if no other handle has the engine.
 fn handle_alone(engine: &mut Arc<Engine>, alloc: Global, request: Request) -> u32
     ensures unchanged { result ≢ 0 → engine.new.value ≡ engine.old.value }
+    ensures version { result ≡ 0
+        → engine.new.value.version ≡ next_version engine.old.value.version }
     ensures handled { result ≢ 4 → HandlesAs engine.old.value request result engine.new.value }
 {
     match Arc::get_mut(engine) {
@@ -75,6 +78,8 @@ fn change_in(
     is_text: bool,
 ) -> u32
     ensures unchanged { result ≢ 0 → engine.new.value ≡ engine.old.value }
+    ensures version { result ≡ 0
+        → engine.new.value.version ≡ next_version engine.old.value.version }
     ensures handled { result ≢ 1 → result ≢ 4 → HandlesAs engine.old.value
         (change_request change app.now locale.now (payload_of is_text bytes.now)) result
         engine.new.value }
@@ -97,7 +102,9 @@ fn change(
     bytes: &[u8],
     is_text: bool,
 ) -> u32
+    ensures there { IfSome (engine_of handle.old) (λ _. engine_of handle.new ≢ None) }
     ensures unchanged { result ≢ 0 → engine_of handle.new ≡ engine_of handle.old }
+    ensures version { result ≡ 0 → RaisesVersion (engine_of handle.old) (engine_of handle.new) }
     ensures handled { LeadsTo
         (change_request change app.now locale.now (payload_of is_text bytes.now)) result
         (engine_of handle.old) (engine_of handle.new) }
@@ -121,7 +128,9 @@ pub extern "C" fn resb_install(
     bytes: &[u8],
     is_text: bool,
 ) -> u32
+    ensures there { IfSome (engine_of handle.old) (λ _. engine_of handle.new ≢ None) }
     ensures unchanged { result ≢ 0 → engine_of handle.new ≡ engine_of handle.old }
+    ensures version { result ≡ 0 → RaisesVersion (engine_of handle.old) (engine_of handle.new) }
     ensures handled { LeadsTo
         (requests.Install app.now locale.now (payload_of is_text bytes.now)) result
         (engine_of handle.old) (engine_of handle.new) }
@@ -140,7 +149,9 @@ pub extern "C" fn resb_replace(
     bytes: &[u8],
     is_text: bool,
 ) -> u32
+    ensures there { IfSome (engine_of handle.old) (λ _. engine_of handle.new ≢ None) }
     ensures unchanged { result ≢ 0 → engine_of handle.new ≡ engine_of handle.old }
+    ensures version { result ≡ 0 → RaisesVersion (engine_of handle.old) (engine_of handle.new) }
     ensures handled { LeadsTo
         (requests.Replace app.now locale.now (payload_of is_text bytes.now)) result
         (engine_of handle.old) (engine_of handle.new) }
@@ -151,6 +162,8 @@ pub extern "C" fn resb_replace(
 
 fn remove_in(engine: &mut Arc<Engine>, alloc: Global, app: &[u8], locale: &[u8]) -> u32
     ensures unchanged { result ≢ 0 → engine.new.value ≡ engine.old.value }
+    ensures version { result ≡ 0
+        → engine.new.value.version ≡ next_version engine.old.value.version }
     ensures handled { result ≢ 1 → result ≢ 4 → HandlesAs engine.old.value
         (requests.Remove app.now locale.now) result engine.new.value }
 {
@@ -163,7 +176,9 @@ fn remove_in(engine: &mut Arc<Engine>, alloc: Global, app: &[u8], locale: &[u8])
 /// Removes a bundle of an application.
 #[unsafe(no_mangle)]
 pub extern "C" fn resb_remove(alloc: Global, handle: &mut Handle, app: &[u8], locale: &[u8]) -> u32
+    ensures there { IfSome (engine_of handle.old) (λ _. engine_of handle.new ≢ None) }
     ensures unchanged { result ≢ 0 → engine_of handle.new ≡ engine_of handle.old }
+    ensures version { result ≡ 0 → RaisesVersion (engine_of handle.old) (engine_of handle.new) }
     ensures handled { LeadsTo (requests.Remove app.now locale.now) result
         (engine_of handle.old) (engine_of handle.new) }
     ensures closed { IfNone (engine_of handle.old) (result ≡ 2) }

@@ -18,6 +18,7 @@ pub extern "C" fn resb_compile(
 ) -> u32
     ensures compiled { result ≡ 0 → IsCompiled text.now (take written.new out.new) }
     ensures beyond { result ≡ 0 → drop written.new out.new ≡ drop written.new out.old }
+    ensures line { result ≡ 0 → line.new ≡ 0 }
     ensures unchanged { result ≢ 0 → out.new ≡ out.old }
     ensures room { result ≡ 5 → IsTooLong text.now written.new out.old }
     ensures refused { result ≢ 0 → result ≢ 5 → IsTextError text.now result line.new }

@@ -1,4 +1,4 @@
-ghost use Rattle.std.specs.Prelude.{◌≡◌, IfSome};
+ghost use Rattle.std.specs.Prelude.{◌≡◌, unwrap_or};
 ghost use Rattle.rb_tree.specs.Parts.{kind_of, len_of};
 ghost use Rattle.rb_views.specs.Seen.{tree_seen};
 ghost use Rattle.rb_views.specs.Parts.{uint_of};
@@ -63,7 +63,7 @@ impl Found {
     pub(crate) fn of(item: Item<'_>) -> Found
         ensures kind { result.kind ≡ kind_number (kind_of (tree_seen item.entry)) }
         ensures count { result.count ≡ len_of (tree_seen item.entry) }
-        ensures number { IfSome (uint_of (tree_seen item.entry)) (λ n. result.number ≡ n) }
+        ensures number { result.number ≡ unwrap_or (uint_of (tree_seen item.entry)) 0 }
     {
         let kind = item.kind();
         let count = item.len();

@@ -106,7 +106,8 @@ pub(crate) fn look_number(fault: LookFault) -> u32
 /// Returns the number of a reply to a change. A list of names answers no change, and has the number
 /// of no error.
 pub(crate) fn reply_number(reply: &Reply) -> u32
-    ensures { result ≡ reply_number reply.now }
+    ensures number { result ≡ reply_number reply.now }
+    ensures done { result ≡ 0 → reply.now ≡ Reply.Done }
 {
     match reply {
         Reply::Done => 0,

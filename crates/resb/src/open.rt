@@ -64,6 +64,8 @@ pub extern "C" fn resb_open(alloc: Global, handle: &mut Handle, seed: &[u8]) -> 
     ensures there { result ≡ 0 → engine_of handle.new ≢ None }
     ensures was_closed { result ≡ 0 → engine_of handle.old ≡ None }
     ensures unchanged { result ≢ 0 → engine_of handle.new ≡ engine_of handle.old }
+    ensures busy { IfSome (engine_of handle.old) (λ _. result ≡ 3) }
+    ensures memory { IfNone (engine_of handle.old) (result ≢ 0 → result ≡ 1) }
 {
     if let Some(engine) = take(alloc, handle) {
         *handle = Handle::of(engine);
@@ -123,6 +125,7 @@ pub extern "C" fn resb_share(alloc: Global, handle: &mut Handle, other: &mut Han
     ensures shared { result ≡ 0 → engine_of other.new ≡ engine_of handle.old }
     ensures there { result ≡ 0 → engine_of handle.old ≢ None }
     ensures unchanged { result ≢ 0 → engine_of other.new ≡ engine_of other.old }
+    ensures memory { result ≢ 0 → IfSome (engine_of handle.old) (λ _. result ≡ 1) }
     ensures closed { IfNone (engine_of handle.old) (result ≡ 2) }
 {
     let Some(engine) = take(alloc, handle) else {
