@@ -57,6 +57,8 @@ refuses 'changes below "Unreleased"' made_of
 tools/release prepare 9.8.7 >/dev/null
 refuses 'no changes below "Unreleased"' tools/release prepare 9.8.8
 grep -q '"9.8.7"' crates/rb_arguments/src/command_line.rt || fail 'the source names another version'
+grep -qx '#define RESB_VERSION "9.8.7"' library/resb.h || fail 'the header names another version'
+grep -qF 'b"9.8.7\0"' crates/resb/src/version.rt || fail 'the library names another version'
 grep -qx "## 9.8.7 - $(date -u +%Y-%m-%d)" CHANGELOG.md || fail 'the changelog lacks the version'
 refuses 'not committed' made_of
 commit 'the version'

@@ -38,9 +38,7 @@ type Error struct {
 
 // Code returns the name of the error, such as "BadPath".
 func (e *Error) Code() string {
-	var name [16]byte
-	n := C.resb_error_name(C.uint32_t(e.Number), (*C.char)(unsafe.Pointer(&name[0])), C.size_t(len(name)))
-	return string(name[:n])
+	return C.GoString(C.resb_error_name(C.uint32_t(e.Number)))
 }
 
 func (e *Error) Error() string {

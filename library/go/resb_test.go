@@ -54,7 +54,7 @@ func TestErrors(t *testing.T) {
 	if !errors.As(err, &fault) || fault.Code() != "NoBundle" {
 		t.Error(err)
 	}
-	if _, err := resb.Compile([]byte("de{\na:int{09}}")); err == nil || err.Error() != "BadInt, line 2" {
+	if _, err := resb.Compile([]byte("de{\na:int{09}}")); err == nil || err.Error() != "TextBadInt, line 2" {
 		t.Error(err)
 	}
 	if err := resb.Check(nil); err == nil || err.Error() != "Header" {

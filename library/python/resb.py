@@ -63,7 +63,7 @@ _apart = ctypes.CDLL(_file)
 _library = ctypes.PyDLL(_file)
 _check = _declare(_apart, "check", *_bytes)
 _compile = _declare(_apart, "compile", *_bytes, ctypes.c_char_p, ctypes.c_size_t, _size, _number)
-_error_name = _declare(_library, "error_name", ctypes.c_uint32, ctypes.c_char_p, ctypes.c_size_t, result=ctypes.c_size_t)
+_get_error_name = _declare(_library, "get_error_name", ctypes.c_uint32, ctypes.POINTER(ctypes.c_char_p), result=None)
 _open_with = _declare(_apart, "open_with", _handle, *_bytes, ctypes.POINTER(_Entry), ctypes.c_size_t, *_bytes, _number)
 _close = _declare(_library, "close", _handle, result=None)
 _install = _declare(_library, "install", _handle, *_bytes, *_bytes, *_bytes, ctypes.c_bool)
@@ -89,9 +89,9 @@ class Error(Exception):
     of ICUDATA."""
 
     def __init__(self, number: int, line: int = 0, locale: str = "") -> None:
-        name = ctypes.create_string_buffer(16)
-        length = _error_name(number, name, 16)
-        self.code = name.raw[:length].decode("ascii")
+        name = ctypes.c_char_p()
+        _get_error_name(number, name)
+        self.code = (name.value or b"").decode("ascii")
         self.number = number
         self.line = line
         self.locale = locale

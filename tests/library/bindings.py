@@ -60,7 +60,7 @@ class Test(unittest.TestCase):
         self.assertEqual(code(resb.check, b""), "Header")
         with self.assertRaises(resb.Error) as raised:
             resb.compile("de{\na:int{09}}")
-        self.assertEqual((raised.exception.code, raised.exception.line, raised.exception.number), ("BadInt", 2, 40))
+        self.assertEqual((raised.exception.code, raised.exception.line, raised.exception.number), ("TextBadInt", 2, 40))
 
     def test_changes(self):
         file = resb.compile(TEXT)

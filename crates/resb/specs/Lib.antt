@@ -2,6 +2,7 @@ pub mod Changes
 pub mod Lists
 pub mod Looks
 pub mod OpenLocales
+pub mod Names
 pub mod Numbers
 pub mod Open
 pub mod Start

@@ -14,4 +14,6 @@ mod numbers;
 mod open;
 mod open_locales;
 mod start;
+mod text;
 mod usage;
+mod version;

@@ -1,107 +1,131 @@
-ghost use Rattle.std.specs.Prelude.{◌≡◌, drop};
+//! The names of errors: that of `RESB_TEXT_BAD_INT` is `TextBadInt`.
+ghost use Rattle.resb.specs.Names.{IsAtText, IsZeroEnded};
 
-fn text_name(error: u32) -> &'static str {
+use crate::text::write_start;
+
+/// A name with zero bytes after it.
+type Name = [u8; 18];
+
+/// The name of a number that has none.
+const UNNAMED: &Name = b"\0\0\0\0\0\0\0\0\0\0\0\0\0\0\0\0\0\0";
+
+fn call_name(error: u32) -> &'static Name
+    ensures { IsZeroEnded result.now }
+{
     match error {
-        31 => "TooLong",
-        32 => "NotUtf8",
-        33 => "BadEscape",
-        34 => "OpenQuote",
-        35 => "OpenComment",
-        36 => "Unexpected",
-        37 => "UnknownType",
-        38 => "BadKey",
-        39 => "DuplicateKey",
-        40 => "BadInt",
-        41 => "BadHex",
-        42 => "TooDeep",
-        43 => "TrailingText",
-        44 => "TooLarge",
-        _ => "",
+        0 => b"Ok\0\0\0\0\0\0\0\0\0\0\0\0\0\0\0\0",
+        1 => b"Memory\0\0\0\0\0\0\0\0\0\0\0\0",
+        2 => b"NotOpen\0\0\0\0\0\0\0\0\0\0\0",
+        3 => b"AlreadyOpen\0\0\0\0\0\0\0",
+        4 => b"Shared\0\0\0\0\0\0\0\0\0\0\0\0",
+        5 => b"NoRoom\0\0\0\0\0\0\0\0\0\0\0\0",
+        6 => b"OtherKind\0\0\0\0\0\0\0\0\0",
+        7 => b"NoEntry\0\0\0\0\0\0\0\0\0\0\0",
+        8 => b"Stale\0\0\0\0\0\0\0\0\0\0\0\0\0",
+        _ => UNNAMED,
     }
 }
 
-fn file_name(error: u32) -> &'static str {
+fn request_name(error: u32) -> &'static Name
+    ensures { IsZeroEnded result.now }
+{
     match error {
-        51 => "TooLong",
-        52 => "Header",
-        53 => "BigEndian",
-        54 => "Family",
-        55 => "FormatVersion",
-        56 => "Indexes",
-        57 => "Attributes",
-        58 => "Root",
-        59 => "ItemType",
-        60 => "Offset",
-        61 => "Length",
-        62 => "NotTerminated",
-        63 => "Key",
-        64 => "KeyOrder",
-        65 => "TooDeep",
-        _ => "",
+        11 => b"BadApp\0\0\0\0\0\0\0\0\0\0\0\0",
+        12 => b"Reserved\0\0\0\0\0\0\0\0\0\0",
+        13 => b"BadLocale\0\0\0\0\0\0\0\0\0",
+        14 => b"BadText\0\0\0\0\0\0\0\0\0\0\0",
+        15 => b"BadFile\0\0\0\0\0\0\0\0\0\0\0",
+        16 => b"Exists\0\0\0\0\0\0\0\0\0\0\0\0",
+        17 => b"Absent\0\0\0\0\0\0\0\0\0\0\0\0",
+        18 => b"Full\0\0\0\0\0\0\0\0\0\0\0\0\0\0",
+        19 => b"Twice\0\0\0\0\0\0\0\0\0\0\0\0\0",
+        21 => b"BadPath\0\0\0\0\0\0\0\0\0\0\0",
+        22 => b"PathTooLong\0\0\0\0\0\0\0",
+        23 => b"Chain\0\0\0\0\0\0\0\0\0\0\0\0\0",
+        24 => b"BadParent\0\0\0\0\0\0\0\0\0",
+        25 => b"NoBundle\0\0\0\0\0\0\0\0\0\0",
+        26 => b"Missing\0\0\0\0\0\0\0\0\0\0\0",
+        27 => b"AliasText\0\0\0\0\0\0\0\0\0",
+        28 => b"AliasPackage\0\0\0\0\0\0",
+        29 => b"TooManyAliases\0\0\0\0",
+        30 => b"TooManySteps\0\0\0\0\0\0",
+        _ => UNNAMED,
     }
 }
 
-fn request_name(error: u32) -> &'static str {
+fn text_name(error: u32) -> &'static Name
+    ensures { IsZeroEnded result.now }
+{
     match error {
-        11 => "BadApp",
-        12 => "Reserved",
-        13 => "BadLocale",
-        14 => "BadText",
-        15 => "BadFile",
-        16 => "Exists",
-        17 => "Absent",
-        18 => "Full",
-        19 => "Twice",
-        21 => "BadPath",
-        22 => "PathTooLong",
-        23 => "Chain",
-        24 => "BadParent",
-        25 => "NoBundle",
-        26 => "Missing",
-        27 => "AliasText",
-        28 => "AliasPackage",
-        29 => "TooManyAliases",
-        30 => "TooManySteps",
-        _ => "",
+        31 => b"TextTooLong\0\0\0\0\0\0\0",
+        32 => b"TextNotUtf8\0\0\0\0\0\0\0",
+        33 => b"TextBadEscape\0\0\0\0\0",
+        34 => b"TextOpenQuote\0\0\0\0\0",
+        35 => b"TextOpenComment\0\0\0",
+        36 => b"TextUnexpected\0\0\0\0",
+        37 => b"TextUnknownType\0\0\0",
+        38 => b"TextBadKey\0\0\0\0\0\0\0\0",
+        39 => b"TextDuplicateKey\0\0",
+        40 => b"TextBadInt\0\0\0\0\0\0\0\0",
+        41 => b"TextBadHex\0\0\0\0\0\0\0\0",
+        42 => b"TextTooDeep\0\0\0\0\0\0\0",
+        43 => b"TextTrailingText\0\0",
+        44 => b"TextTooLarge\0\0\0\0\0\0",
+        _ => UNNAMED,
     }
 }
 
-fn parents_name(error: u32) -> &'static str {
+fn file_name(error: u32) -> &'static Name
+    ensures { IsZeroEnded result.now }
+{
     match error {
-        71 => "Shape",
-        72 => "BadLocale",
-        73 => "TwoParents",
-        _ => "",
+        51 => b"FileTooLong\0\0\0\0\0\0\0",
+        52 => b"FileHeader\0\0\0\0\0\0\0\0",
+        53 => b"FileBigEndian\0\0\0\0\0",
+        54 => b"FileFamily\0\0\0\0\0\0\0\0",
+        55 => b"FileFormatVersion\0",
+        56 => b"FileIndexes\0\0\0\0\0\0\0",
+        57 => b"FileAttributes\0\0\0\0",
+        58 => b"FileRoot\0\0\0\0\0\0\0\0\0\0",
+        59 => b"FileItemType\0\0\0\0\0\0",
+        60 => b"FileOffset\0\0\0\0\0\0\0\0",
+        61 => b"FileLength\0\0\0\0\0\0\0\0",
+        62 => b"FileNotTerminated\0",
+        63 => b"FileKey\0\0\0\0\0\0\0\0\0\0\0",
+        64 => b"FileKeyOrder\0\0\0\0\0\0",
+        65 => b"FileTooDeep\0\0\0\0\0\0\0",
+        _ => UNNAMED,
     }
 }
 
-fn name(error: u32) -> &'static str {
+fn parents_name(error: u32) -> &'static Name
+    ensures { IsZeroEnded result.now }
+{
     match error {
-        0 => "Ok",
-        1 => "Memory",
-        2 => "NotOpen",
-        3 => "AlreadyOpen",
-        4 => "Shared",
-        5 => "NoRoom",
-        6 => "OtherKind",
-        7 => "NoEntry",
-        8 => "Stale",
-        9..=30 => request_name(error),
+        71 => b"ParentsShape\0\0\0\0\0\0",
+        72 => b"ParentsBadLocale\0\0",
+        73 => b"ParentsTwoParents\0",
+        _ => UNNAMED,
+    }
+}
+
+fn name(error: u32) -> &'static Name
+    ensures { IsZeroEnded result.now }
+{
+    match error {
+        0..=9 => call_name(error),
+        10..=30 => request_name(error),
         31..=50 => text_name(error),
         51..=70 => file_name(error),
         _ => parents_name(error),
     }
 }
 
-/// Writes the name of an error number to the front of `out`, and returns its length. It writes
-/// nothing if `out` is too short; a number without a name has length 0.
+/// Writes to `start` where the name of an error begins: bytes of the library with a zero byte at
+/// the end, which never change. A number without a name has an empty one.
 #[unsafe(no_mangle)]
-pub extern "C" fn resb_error_name(error: u32, out: &mut [u8]) -> usize
-    ensures beyond { drop result out.new ≡ drop result out.old }
+pub extern "C" fn resb_get_error_name(error: u32, start: &mut *mut u8)
+    ensures { IsAtText start.new }
 {
-    let name = name(error).as_bytes();
-    if name.len() <= out.len() {
-        out[..name.len()].copy_from_slice(name);
-    }
-    name.len()
+    write_start(name(error), start)
 }
