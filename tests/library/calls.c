@@ -196,6 +196,46 @@ static void copies(resb *e) {
     EXPECT(resb_text(e, S("shop"), S("de"), S("nothing"), units, 8, &len) == RESB_MISSING && units[0] == 1);
 }
 
+/* Checks where resb_look_origin and resb_look_origin_at find an item. */
+static void comes_from(resb *e, const char *app, const char *locale, const char *path, const char *actual, const char *valid) {
+    resb_found f = {NULL, 0, 0, 0}, g = f, h = f;
+    resb_origin origin, again;
+    resb_locale opened;
+    memset(&origin, 'x', sizeof origin);
+    memset(&again, 'x', sizeof again);
+    EXPECT(resb_look(e, S(app), S(locale), S(path), &f) == RESB_OK);
+    EXPECT(resb_look_origin(e, S(app), S(locale), S(path), &g, &origin) == RESB_OK && memcmp(&f, &g, sizeof f) == 0);
+    EXPECT(strcmp(origin.actual, actual) == 0 && strcmp(origin.valid, valid) == 0);
+    EXPECT(resb_open_locale(e, S(app), S(locale), &opened) == RESB_OK);
+    EXPECT(resb_look_origin_at(e, &opened, S(path), &h, &again) == RESB_OK && memcmp(&f, &h, sizeof f) == 0);
+    EXPECT(strcmp(again.actual, actual) == 0 && strcmp(again.valid, valid) == 0);
+}
+
+static void origins(resb *e) {
+    resb closed = RESB_CLOSED;
+    resb_found f = {NULL, 0, 0, 0};
+    resb_origin origin = {"x", "y"};
+    resb_locale opened;
+    const char *longest = "de_AT_XXXXXXXX_XXXXXXXX_XXXXXXXX_XXXXXXXX_XXXXXXXX_XXXXXXXX_XXXX";
+    comes_from(e, "shop", "de", "greeting", "de", "de");
+    comes_from(e, "shop", "DE-at", "greeting", "de", "de");
+    comes_from(e, "shop", "de_AT", "only", "root", "de");
+    comes_from(e, "shop", "fr", "greeting", "root", "root");
+    EXPECT(strlen(longest) == 64);
+    EXPECT(resb_install(e, S("long"), S(longest), S("x{a{\"b\"}}"), true) == RESB_OK);
+    comes_from(e, "long", longest, "a", longest, longest);
+    EXPECT(resb_remove(e, S("long"), S(longest)) == RESB_OK);
+    EXPECT(resb_look_origin(&closed, S("shop"), S("de"), S("greeting"), &f, &origin) == RESB_NOT_OPEN);
+    EXPECT(resb_look_origin(e, S("shop"), S("de"), S("nothing"), &f, &origin) == RESB_MISSING);
+    EXPECT(resb_look_origin(e, S("none"), S("de"), S("greeting"), &f, &origin) == RESB_NO_BUNDLE);
+    EXPECT(resb_open_locale(e, S("shop"), S("de"), &opened) == RESB_OK);
+    EXPECT(resb_look_origin_at(&closed, &opened, S("greeting"), &f, &origin) == RESB_NOT_OPEN);
+    EXPECT(resb_look_origin_at(e, &opened, S("nothing"), &f, &origin) == RESB_MISSING);
+    EXPECT(resb_replace(e, S("bank"), S("de"), S("de{greeting{\"Moin\"}}"), true) == RESB_OK);
+    EXPECT(resb_look_origin_at(e, &opened, S("greeting"), &f, &origin) == RESB_STALE);
+    EXPECT(f.at == NULL && strcmp(origin.actual, "x") == 0 && strcmp(origin.valid, "y") == 0);
+}
+
 static void shares(resb *e) {
     resb other = RESB_CLOSED, third = RESB_CLOSED;
     resb_found f;
@@ -295,6 +335,7 @@ int main(void) {
     opens_locales(&e);
     keeps_locales(&e);
     copies(&e);
+    origins(&e);
     limits(&e);
     starts();
     shares(&e);

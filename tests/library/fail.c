@@ -65,6 +65,10 @@ static void history(void) {
     long before = left;
     EXPECT(resb_open_locale(&e, S("shop"), S("de_AT"), &opened) == seen);
     EXPECT((seen || resb_look_at(&e, &opened, S("greeting"), &f) == RESB_OK) && left == before);
+    resb_origin origin;
+    EXPECT((seen || resb_look_origin_at(&e, &opened, S("greeting"), &f, &origin) == RESB_OK) && left == before);
+    EXPECT(resb_look_origin(&e, S("shop"), S("de_AT"), S("greeting"), &f, &origin) == seen && left == before);
+    EXPECT(seen || (strcmp(origin.actual, de ? "de" : "root") == 0 && strcmp(origin.valid, origin.actual) == 0));
     EXPECT(resb_text(&e, S("shop"), S("de_AT"), S("greeting"), units, 8, &len) == seen && (seen || (len == 5 && units[1] == (de ? 'a' : 'e'))));
     if (worked(resb_share(&e, &other)))
         EXPECT(resb_look(&other, S("shop"), S("de_AT"), S("greeting"), &f) == seen);

@@ -75,6 +75,12 @@ static void *copy(void *a) {
     return a;
 }
 
+static void *look_origin(void *a) {
+    resb_origin origin;
+    result = resb_look_origin(&e, S("a"), S("de_DE_POSIX"), S(path), &f, &origin);
+    return a;
+}
+
 static size_t used(void *(*call)(void *)) {
     uint8_t *stack = aligned_alloc(4096, STACK);
     memset(stack, 0xa5, STACK);
@@ -119,6 +125,7 @@ int main(void) {
     measure("open_locale", open_locale);
     measure("look_at", look_at);
     measure("text", copy);
+    measure("look_origin", look_origin);
     resb_close(&e);
     free(text);
     free(out);

@@ -5,6 +5,7 @@ pub mod OpenLocales
 pub mod Names
 pub mod Numbers
 pub mod Open
+pub mod Origins
 pub mod Start
 pub mod Texts
 pub mod Usage

@@ -13,6 +13,7 @@ mod names;
 mod numbers;
 mod open;
 mod open_locales;
+mod origins;
 mod start;
 mod text;
 mod usage;

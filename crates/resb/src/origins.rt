@@ -1,0 +1,181 @@
+//! Lookups that also write where the item was found.
+ghost use Rattle.std.specs.Prelude.{◌≡◌, ◌≢◌, ℕ, List, IfNone, IfSome, true, false};
+ghost use Rattle.rb_engine.specs.OpenLocale.{IsOpenLocale};
+ghost use Rattle.rb_engine.specs.Version.{is_current};
+ghost use Rattle.rb_handle.specs.Stored.{engine_of};
+ghost use Rattle.resb.specs.Looks.{answer_in, response_number, Describes};
+ghost use Rattle.resb.specs.Origins.{ComesFrom, IsNameIn};
+
+use crate::found::Found;
+use crate::held::take;
+use crate::looks::keep_open;
+use crate::numbers::{CLOSED, STALE, look_number};
+use rb_engine::{Engine, OpenLocale};
+use rb_handle::Handle;
+use rb_locales::Name;
+use std::alloc::Global;
+
+/// The size of a name of at most 64 bytes with a zero byte after it.
+const NAME_SIZE: usize = 65;
+
+/// The names of two bundles, each with a zero byte after it: the one that has the item, and the
+/// first one on the locale's trail.
+#[repr(C)]
+#[derive(Drop)]
+pub struct Origin {
+    pub actual: [u8; NAME_SIZE],
+    pub valid: [u8; NAME_SIZE],
+}
+
+/// Returns a name with a zero byte after it.
+fn zero_ended(name: &Name) -> [u8; NAME_SIZE]
+    ensures { IsNameIn result name.now }
+{
+    let bytes = name.as_bytes();
+    let mut field = [0; NAME_SIZE];
+    field[..bytes.len()].copy_from_slice(bytes);
+    field[bytes.len()] = 0;
+    field
+}
+
+impl Origin {
+    fn of(actual: &Name, valid: &Name) -> Origin
+        ensures actual { IsNameIn result.actual actual.now }
+        ensures valid { IsNameIn result.valid valid.now }
+    {
+        Origin {
+            actual: zero_ended(actual),
+            valid: zero_ended(valid),
+        }
+    }
+}
+
+fn look_in(
+    engine: &Engine,
+    app: &[u8],
+    locale: &[u8],
+    path: &[u8],
+    found: &mut Found,
+    origin: &mut Origin,
+) -> u32
+    ensures answer { result ≡ response_number (answer_in engine.now app.now locale.now path.now) }
+    ensures describes { Describes (answer_in engine.now app.now locale.now path.now)
+        found.new.kind found.new.count found.new.number }
+    ensures origin { ComesFrom (answer_in engine.now app.now locale.now path.now)
+        origin.new.actual origin.new.valid }
+    ensures unchanged { result ≢ 0 → found.new ≡ found.old }
+    ensures same_origin { result ≢ 0 → origin.new ≡ origin.old }
+{
+    match engine.look(app, locale, path) {
+        Ok(it) => {
+            *found = Found::of(it.node);
+            *origin = Origin::of(&it.actual, &it.valid);
+            0
+        }
+        Err(fault) => look_number(fault),
+    }
+}
+
+/// Looks up like `resb_look`, and writes the names of the bundle that has the item and of the first
+/// bundle on the locale's trail.
+#[unsafe(no_mangle)]
+pub extern "C" fn resb_look_origin(
+    alloc: Global,
+    handle: &mut Handle,
+    app: &[u8],
+    locale: &[u8],
+    path: &[u8],
+    found: &mut Found,
+    origin: &mut Origin,
+) -> u32
+    ensures stays { engine_of handle.new ≡ engine_of handle.old }
+    ensures answer { IfSome (engine_of handle.old) (λ e. result
+        ≡ response_number (answer_in e app.now locale.now path.now)) }
+    ensures describes { IfSome (engine_of handle.old) (λ e. Describes
+        (answer_in e app.now locale.now path.now)
+        found.new.kind found.new.count found.new.number) }
+    ensures origin { IfSome (engine_of handle.old) (λ e. ComesFrom
+        (answer_in e app.now locale.now path.now) origin.new.actual origin.new.valid) }
+    ensures unchanged { result ≢ 0 → found.new ≡ found.old }
+    ensures same_origin { result ≢ 0 → origin.new ≡ origin.old }
+    ensures closed { IfNone (engine_of handle.old) (result ≡ 2) }
+{
+    let Some(mut engine) = take(alloc, handle) else {
+        return CLOSED;
+    };
+    keep_open(&mut engine, app, locale);
+    let result = look_in(&engine, app, locale, path, found, origin);
+    *handle = Handle::of(engine);
+    result
+}
+
+fn look_at(
+    engine: &Engine,
+    opened: &OpenLocale,
+    path: &[u8],
+    found: &mut Found,
+    origin: &mut Origin,
+) -> u32
+    ensures stale { result ≡ 8 → is_current opened.now.version engine.now.version ≡ false }
+    ensures current { result ≢ 8 → is_current opened.now.version engine.now.version ≡ true }
+    ensures answer { result ≢ 8 → (app locale : List ℕ)
+        → IsOpenLocale opened.now engine.now app locale
+        → result ≡ response_number (answer_in engine.now app locale path.now) }
+    ensures describes { result ≢ 8 → (app locale : List ℕ)
+        → IsOpenLocale opened.now engine.now app locale
+        → Describes (answer_in engine.now app locale path.now)
+        found.new.kind found.new.count found.new.number }
+    ensures origin { result ≢ 8 → (app locale : List ℕ)
+        → IsOpenLocale opened.now engine.now app locale
+        → ComesFrom (answer_in engine.now app locale path.now)
+        origin.new.actual origin.new.valid }
+    ensures unchanged { result ≢ 0 → found.new ≡ found.old }
+    ensures same_origin { result ≢ 0 → origin.new ≡ origin.old }
+{
+    match engine.look_at(opened, path) {
+        Ok(Ok(it)) => {
+            *found = Found::of(it.node);
+            *origin = Origin::of(&it.actual, &it.valid);
+            0
+        }
+        Ok(Err(fault)) => look_number(fault),
+        Err(_) => STALE,
+    }
+}
+
+/// Looks up like `resb_look_at`, and writes the names that `resb_look_origin` writes.
+#[unsafe(no_mangle)]
+pub extern "C" fn resb_look_origin_at(
+    alloc: Global,
+    handle: &mut Handle,
+    opened: &OpenLocale,
+    path: &[u8],
+    found: &mut Found,
+    origin: &mut Origin,
+) -> u32
+    ensures stays { engine_of handle.new ≡ engine_of handle.old }
+    ensures stale { result ≡ 8 → IfSome (engine_of handle.old)
+        (λ e. is_current opened.now.version e.version ≡ false) }
+    ensures current { result ≢ 8 → IfSome (engine_of handle.old)
+        (λ e. is_current opened.now.version e.version ≡ true) }
+    ensures answer { result ≢ 8 → IfSome (engine_of handle.old) (λ e. (app locale : List ℕ)
+        → IsOpenLocale opened.now e app locale
+        → result ≡ response_number (answer_in e app locale path.now)) }
+    ensures describes { result ≢ 8 → IfSome (engine_of handle.old) (λ e. (app locale : List ℕ)
+        → IsOpenLocale opened.now e app locale
+        → Describes (answer_in e app locale path.now)
+        found.new.kind found.new.count found.new.number) }
+    ensures origin { result ≢ 8 → IfSome (engine_of handle.old) (λ e. (app locale : List ℕ)
+        → IsOpenLocale opened.now e app locale
+        → ComesFrom (answer_in e app locale path.now) origin.new.actual origin.new.valid) }
+    ensures unchanged { result ≢ 0 → found.new ≡ found.old }
+    ensures same_origin { result ≢ 0 → origin.new ≡ origin.old }
+    ensures closed { IfNone (engine_of handle.old) (result ≡ 2) }
+{
+    let Some(engine) = take(alloc, handle) else {
+        return CLOSED;
+    };
+    let result = look_at(&engine, opened, path, found, origin);
+    *handle = Handle::of(engine);
+    result
+}
