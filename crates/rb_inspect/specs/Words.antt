@@ -7,4 +7,3 @@ abbrev pub item_word : ItemError → List ℕ
 item_word item.BadPath = codes "BadPath"
 item_word item.PathTooLong = codes "PathTooLong"
 item_word item.Missing = codes "Missing"
-item_word item.Memory = codes "Memory"

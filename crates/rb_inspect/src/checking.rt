@@ -10,12 +10,7 @@ use std::rt::{Clock, Files};
 /// Checks the file `name`, and prints `ok` and the number of tables and arrays entered if it is
 /// accepted. The status is 0; 1 if the file is refused, with the error's name on standard error;
 /// 2 if it can't be read or standard output can't be written.
-pub fn check<R: Files + AllocGlobal + Print + Eprint>(rt: &R, name: &str) -> ExitCode {
-    check_on(rt, Console::plain(), name)
-}
-
-/// Checks as `check`, on a console.
-pub fn check_on<R: Files + AllocGlobal + Print + Eprint>(
+pub fn check<R: Files + AllocGlobal + Print + Eprint>(
     rt: &R,
     console: Console,
     name: &str,

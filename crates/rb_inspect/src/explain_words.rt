@@ -53,12 +53,7 @@ fn explain_word<R: Print>(rt: &R, word: &str) -> io::Result<bool> {
 /// all words. If a word means one thing in a command and another in the next, each meaning is
 /// printed, with the commands that have it. The status is 0; 1 if there is no such word; 2 if
 /// standard output can't be written.
-pub fn explain<R: Print + Eprint>(rt: &R, word: Option<&str>) -> ExitCode {
-    explain_on(rt, Console::plain(), word)
-}
-
-/// Prints as `explain`, on a console.
-pub fn explain_on<R: Print + Eprint>(rt: &R, console: Console, word: Option<&str>) -> ExitCode {
+pub fn explain<R: Print + Eprint>(rt: &R, console: Console, word: Option<&str>) -> ExitCode {
     let Some(word) = word else {
         return printed(rt, list(rt));
     };

@@ -11,14 +11,6 @@ use std::io::BufWriter;
 use std::process::ExitCode;
 use std::rt::Files;
 
-/// Prints the item of the file `name` at a path as JSON, without fallback, or an alias on the way
-/// with the remaining path. The status is 0; 1 if the file is refused or has no such
-/// item, with the file or the path and the error's name on standard error; 2 if the file can't be
-/// read or standard output can't be written.
-pub fn get<R: Files + AllocGlobal + Print + Eprint>(rt: &R, name: &str, path: &str) -> ExitCode {
-    get_on(rt, Console::plain(), name, path)
-}
-
 /// Prints the item of a bundle at a path as JSON.
 fn put_json<R: AllocGlobal + Print + Eprint>(
     rt: &R,
@@ -37,8 +29,11 @@ fn put_json<R: AllocGlobal + Print + Eprint>(
     }
 }
 
-/// Prints as `get`, on a console. If standard output is a terminal, control characters are escaped.
-pub fn get_on<R: Files + AllocGlobal + Print + Eprint>(
+/// Prints the item of the file `name` at a path as JSON, without fallback, or an alias on the way
+/// with the remaining path. On a terminal, control characters are escaped. The status is 0; 1 if the
+/// file is refused or has no such item, with the file or the path and the error's name on standard
+/// error; 2 if the file can't be read or standard output can't be written.
+pub fn get<R: Files + AllocGlobal + Print + Eprint>(
     rt: &R,
     console: Console,
     name: &str,
@@ -72,7 +67,7 @@ fn characters_of<N: Node>(alloc: Global, node: N) -> Result<String, AllocError> 
     String::from_utf16_lossy(alloc, &units)
 }
 
-/// Prints the item at a path as `get_on` does, but a String as its characters and a line feed. A
+/// Prints the item at a path as `get` does, but a String as its characters and a line feed. A
 /// surrogate without its other half is printed as U+FFFD; on a terminal, control characters are
 /// escaped as in names.
 pub fn get_raw<R: Files + AllocGlobal + Print + Eprint>(

@@ -12,9 +12,9 @@ mod trace;
 mod trace_steps;
 mod words;
 
-pub use checking::{check, check_all, check_json, check_on};
-pub use explain_words::{explain, explain_on};
-pub use getting::{get, get_on, get_raw};
+pub use checking::{check, check_all, check_json};
+pub use explain_words::explain;
+pub use getting::{get, get_raw};
 pub use inherited::{Inheritance, print_tree};
-pub use item::{ItemError, put_at, text_at};
+pub use item::{ItemError, put_at};
 pub use lookup::{Lookup, look_up};

@@ -10,6 +10,6 @@ impl ItemError {
     pub fn word(self) -> &'static str
         ensures { result.now ≡ item_word self }
     {
-        variant_name!(self: ItemError { BadPath, PathTooLong, Missing, Memory })
+        variant_name!(self: ItemError { BadPath, PathTooLong, Missing })
     }
 }

@@ -13,8 +13,7 @@ use rb_convert::{
 };
 use rb_fmt::{FormatMode, FormatWords, format_all};
 use rb_inspect::{
-    Inheritance, Lookup, check_all, check_json, check_on, explain_on, get_on, get_raw, look_up,
-    print_tree,
+    Inheritance, Lookup, check, check_all, check_json, explain, get, get_raw, look_up, print_tree,
 };
 use rb_project::{Configured, init};
 use rb_requests::Limits;
@@ -90,7 +89,7 @@ fn run_get<R: Files + AllocGlobal + Print + Eprint>(
     if is_raw {
         get_raw(rt, console, file, path)
     } else {
-        get_on(rt, console, file, path)
+        get(rt, console, file, path)
     }
 }
 
@@ -103,7 +102,7 @@ fn run_check<R: Files + Clock + AllocGlobal + Print + Eprint>(
 ) -> ExitCode {
     match files {
         names if is_json => check_json(rt, console, names),
-        [name] => check_on(rt, console, name),
+        [name] => check(rt, console, name),
         names => check_all(rt, console, names),
     }
 }
@@ -332,7 +331,7 @@ pub fn run_asked<
         Asked::Format(asked) => run_format(rt, console, &asked),
         Asked::Coverage(asked) => run_coverage(rt, console, &asked),
         Asked::Init { folder } => init(rt, console, folder.unwrap_or(".")),
-        Asked::Explain { word } => explain_on(rt, console, word),
+        Asked::Explain { word } => explain(rt, console, word),
         Asked::Lines {
             op,
             is_json,
