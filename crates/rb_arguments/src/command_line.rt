@@ -68,16 +68,12 @@ fn with_commands<'a>(alloc: Global, names: &[&str]) -> Result<Command<'a>, Alloc
     bare(alloc)?.subcommands(made)
 }
 
-pub fn commands<'a>(alloc: Global) -> Result<Command<'a>, AllocError> {
-    with_commands(alloc, &NAMES)
-}
-
 /// Makes only the command that a command line can enter, given its first word after the program's
 /// name, or all commands if the word is none. That command accepts and rejects the same as among
 /// all; making all takes longer than most commands run.
 pub fn commands_for<'a>(alloc: Global, word: Option<&str>) -> Result<Command<'a>, AllocError> {
     match word {
         Some(word) if NAMES.contains(&word) => with_commands(alloc, &[word]),
-        _ => commands(alloc),
+        _ => with_commands(alloc, &NAMES),
     }
 }

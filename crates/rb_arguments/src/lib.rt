@@ -15,4 +15,4 @@ pub use asking::{
     Asked, AskedCoverage, AskedFormat, AskedInherited, AskedLimits, AskedLint, AskedLookup,
     asked_by,
 };
-pub use command_line::{commands, commands_for};
+pub use command_line::commands_for;

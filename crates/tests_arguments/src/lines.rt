@@ -1,6 +1,6 @@
 //! Tests command lines: which are taken, what they ask for, and which are refused.
 use clap::{ArgMatches, Error};
-use rb_arguments::{Asked, AskedLimits, asked_by, commands, commands_for};
+use rb_arguments::{Asked, AskedLimits, asked_by, commands_for};
 use std::alloc::{AllocError, Global};
 use std::test::Fail;
 
@@ -96,7 +96,7 @@ fn words_of<'a>(alloc: Global, line: &'a str) -> Result<Vec<&'a str>, AllocError
 }
 
 fn status_of(alloc: Global, words: &[&str]) -> Result<i32, AllocError> {
-    match commands(alloc)?.try_get_matches_from(words) {
+    match commands_for(alloc, None)?.try_get_matches_from(words) {
         Ok(_) => Ok(0),
         Err(error) => Ok(error.exit_code()),
     }
@@ -155,7 +155,7 @@ resb|look|--trace|--parents|p|de|x/y|a => Look(AskedLookup { parents: Some("p"),
 
 /// Returns what a command line asks for, as a text; empty if it asks for nothing.
 fn asked_text(alloc: Global, words: &[&str]) -> Result<String, Fail> {
-    let Ok(matches) = commands(alloc)?.try_get_matches_from(words) else {
+    let Ok(matches) = commands_for(alloc, None)?.try_get_matches_from(words) else {
         return Ok(String::new(alloc));
     };
     match asked_by(alloc, &matches)? {
@@ -211,7 +211,7 @@ fn serves(
     is_extended_wanted: bool,
 ) -> Result<bool, Fail> {
     let words = words_of(alloc, line)?;
-    let matches = commands(alloc)?.try_get_matches_from(words.as_slice())?;
+    let matches = commands_for(alloc, None)?.try_get_matches_from(words.as_slice())?;
     match asked_by(alloc, &matches)? {
         Some(
             Asked::Serve {
@@ -304,7 +304,7 @@ fn answer(alloc: Global, taken: Result<ArgMatches<'_>, Error>) -> Result<String,
 /// Checks whether a command alone answers its command line as all commands together do.
 fn answers_alike(alloc: Global, line: &str) -> Result<bool, Fail> {
     let words = words_of(alloc, line)?;
-    let all = commands(alloc)?.try_get_matches_from(words.as_slice());
+    let all = commands_for(alloc, None)?.try_get_matches_from(words.as_slice());
     let one = commands_for(alloc, words.get(1).copied())?.try_get_matches_from(words.as_slice());
     Ok(answer(alloc, one)?.as_str() == answer(alloc, all)?.as_str())
 }
