@@ -1,2 +1,3 @@
 pub mod PartsValues
 pub mod HandleValues
+pub mod BundleHandleValues

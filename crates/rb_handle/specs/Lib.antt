@@ -1,2 +1,3 @@
+pub mod BundleHandle
 pub mod Handle
 pub mod Stored
