@@ -49,6 +49,11 @@ static void history(void) {
     if (!worked(resb_compile(S("de{greeting{\"Hallo\"} l{\"a\",\"b\"}}"), out, sizeof out, &written, &line)))
         return;
     worked(resb_check(out, written));
+    resb_bundle bundle = RESB_DISCARDED;
+    EXPECT(worked(resb_prepare(out, written, false, &bundle, &line)) == bundle.is_prepared && line == 0);
+    resb_discard(&bundle);
+    EXPECT(worked(resb_prepare(S("de{greeting{\"Hallo\"}}"), true, &bundle, &line)) == bundle.is_prepared && line == 0);
+    resb_discard(&bundle);
     if (!worked(resb_open(&e, seed, 16))) {
         EXPECT(!e.is_open);
         return;

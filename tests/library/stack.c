@@ -27,6 +27,20 @@ static void *check(void *a) {
     return a;
 }
 
+static void *prepare_text(void *a) {
+    resb_bundle bundle = RESB_DISCARDED;
+    result = resb_prepare(text, text_len, true, &bundle, &line);
+    resb_discard(&bundle);
+    return a;
+}
+
+static void *prepare_file(void *a) {
+    resb_bundle bundle = RESB_DISCARDED;
+    result = resb_prepare(out, written, false, &bundle, &line);
+    resb_discard(&bundle);
+    return a;
+}
+
 static void *install(void *a) {
     result = resb_install(&e, S("a"), S("de"), out, written, false);
     return a;
@@ -117,6 +131,8 @@ int main(void) {
         text[text_len++] = '}';
     measure("compile", compile);
     measure("check", check);
+    measure("prepare a text", prepare_text);
+    measure("prepare a file", prepare_file);
     measure("install", install);
     measure("replace", replace);
     measure("start", start);

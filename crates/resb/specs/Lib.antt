@@ -6,6 +6,7 @@ pub mod Names
 pub mod Numbers
 pub mod Open
 pub mod Origins
+pub mod Prepared
 pub mod Start
 pub mod Texts
 pub mod Usage

@@ -14,6 +14,7 @@ mod numbers;
 mod open;
 mod open_locales;
 mod origins;
+mod prepared;
 mod start;
 mod text;
 mod usage;

@@ -1,0 +1,122 @@
+//! Bundles that are read and checked outside any engine.
+ghost use Rattle.std.specs.Prelude.{◌≡◌, ◌≢◌, None, IfErr, IfNone, IfOk, IfSome, option_map};
+ghost use Rattle.rb_compiler.specs.Compiled.{IsCompiled};
+ghost use Rattle.rb_format.specs.File.{Denotes, source_tree_of};
+ghost use Rattle.rb_handle.specs.Handle.{boxed};
+ghost use Rattle.rb_parser.specs.Source.{IsRefusal};
+ghost use Rattle.resb.specs.Changes.{payload_of};
+ghost use Rattle.resb.specs.Numbers.{IsFileError};
+ghost use Rattle.resb.specs.Prepared.{IsPayloadError, IsPrepared};
+
+use crate::numbers::{MEMORY, OPEN, file_number, text_number};
+use rb_engine::compile;
+use rb_handle::BundleHandle;
+use rb_lexer::{SourceFault, SourceKind};
+use rb_validator::{Bundle, accept};
+use std::alloc::Global;
+use std::mem;
+
+/// Takes the bundle out of a handle, which is discarded until it is put back.
+pub(crate) fn take_bundle(alloc: Global, handle: &mut BundleHandle) -> Option<Box<Bundle>>
+    ensures bundle { option_map boxed result ≡ handle.old.file }
+    ensures discarded { handle.new.file ≡ None }
+{
+    mem::replace(handle, BundleHandle::discarded(alloc)).into_bundle()
+}
+
+/// Checks a file, or returns the number of its first error.
+fn checked(alloc: Global, file: Vec<u8>) -> Result<Box<Bundle>, u32>
+    ensures bundle { IfOk result (λ b. b.value ≡ file.items) }
+    ensures denotes { IfOk result (λ b. Denotes file.items (source_tree_of b.value)) }
+    ensures refused { IfErr result (IsFileError file.items) }
+    ensures error { IfErr result (λ n. n ≢ 0) }
+{
+    match accept(alloc, file) {
+        Ok(bundle) => match Box::new(alloc, bundle) {
+            Ok(bundle) => Ok(bundle),
+            Err(_) => Err(MEMORY),
+        },
+        Err((fault, _)) => Err(file_number(fault)),
+    }
+}
+
+/// Compiles a text. A compiled file is valid, so checking it fails only for memory.
+fn compiled(alloc: Global, text: &[u8]) -> Result<Box<Bundle>, SourceFault>
+    ensures bundle { IfOk result (λ b. IsCompiled text.now b.value) }
+    ensures refused { IfErr result (IsRefusal text.now) }
+{
+    let file = match compile(alloc, text) {
+        Ok(file) => file,
+        Err(fault) => return Err(fault),
+    };
+    match checked(alloc, file) {
+        Ok(bundle) => Ok(bundle),
+        Err(_) => Err(SourceFault {
+            kind: SourceKind::Memory,
+            line: 0,
+        }),
+    }
+}
+
+/// Reads a text or a file, or returns the number of its first error and writes its line.
+fn read(alloc: Global, bytes: &[u8], is_text: bool, line: &mut u64) -> Result<Box<Bundle>, u32>
+    ensures bundle { IfOk result (λ b. IsPrepared (payload_of is_text bytes.now) b.value) }
+    ensures refused { IfErr result
+        (λ n. IsPayloadError (payload_of is_text bytes.now) n line.new) }
+    ensures error { IfErr result (λ n. n ≢ 0) }
+{
+    if is_text {
+        return match compiled(alloc, bytes) {
+            Ok(bundle) => Ok(bundle),
+            Err(fault) => {
+                *line = fault.line;
+                Err(text_number(fault.kind))
+            }
+        };
+    }
+    match bytes.to_vec(alloc) {
+        Ok(file) => checked(alloc, file),
+        Err(_) => Err(MEMORY),
+    }
+}
+
+/// Reads a bundle from a text or a file without an engine, and stores it in a handle. Returns 0 or
+/// the number of the first error, and writes its line in a text to `line`, else 0.
+#[unsafe(no_mangle)]
+pub extern "C" fn resb_prepare(
+    alloc: Global,
+    bytes: &[u8],
+    is_text: bool,
+    handle: &mut BundleHandle,
+    line: &mut u64,
+) -> u32
+    ensures prepared { result ≡ 0 → IfSome handle.new.file
+        (IsPrepared (payload_of is_text bytes.now)) }
+    ensures there { result ≡ 0 → handle.new.file ≢ None }
+    ensures was_discarded { result ≡ 0 → handle.old.file ≡ None }
+    ensures unchanged { result ≢ 0 → handle.new.file ≡ handle.old.file }
+    ensures busy { IfSome handle.old.file (λ _. result ≡ 3) }
+    ensures refused { IfNone handle.old.file
+        (result ≢ 0 → IsPayloadError (payload_of is_text bytes.now) result line.new) }
+{
+    *line = 0;
+    if let Some(bundle) = take_bundle(alloc, handle) {
+        *handle = BundleHandle::of(bundle);
+        return OPEN;
+    }
+    match read(alloc, bytes, is_text, line) {
+        Ok(bundle) => {
+            *handle = BundleHandle::of(bundle);
+            0
+        }
+        Err(number) => number,
+    }
+}
+
+/// Discards the bundle of a handle. A handle without one stays without one.
+#[unsafe(no_mangle)]
+pub extern "C" fn resb_discard(alloc: Global, handle: &mut BundleHandle)
+    ensures { handle.new.file ≡ None }
+{
+    drop(take_bundle(alloc, handle));
+}

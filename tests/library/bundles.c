@@ -1,0 +1,76 @@
+/* Prepares bundles without an engine, with each error for a caller with memory. */
+#include "common.h"
+
+static const char text[] = "de{greeting{\"Gr\\u00fc\\u00df\"} count:int{7} menu{open{\"Auf\"} close{\"Zu\"}}}";
+static uint8_t file[4096];
+static size_t file_len;
+static uint64_t line;
+
+static void compiles(void) {
+    EXPECT(resb_compile(S(text), file, sizeof file, &file_len, &line) == RESB_OK);
+}
+
+static void prepares(void) {
+    resb_bundle bundle = RESB_DISCARDED;
+    EXPECT(!bundle.is_prepared);
+    line = 9;
+    EXPECT(resb_prepare(S(text), true, &bundle, &line) == RESB_OK && bundle.is_prepared && bundle.bundle && line == 0);
+    void *first = bundle.bundle;
+    line = 9;
+    EXPECT(resb_prepare(S("de{"), true, &bundle, &line) == RESB_ALREADY_OPEN && bundle.bundle == first && line == 0);
+    resb_discard(&bundle);
+    EXPECT(!bundle.is_prepared);
+    resb_discard(&bundle);
+    EXPECT(!bundle.is_prepared);
+    line = 9;
+    EXPECT(resb_prepare(file, file_len, false, &bundle, &line) == RESB_OK && bundle.is_prepared && line == 0);
+    resb_discard(&bundle);
+}
+
+/* Expects an error, with its line, and no bundle. */
+static void refuses(const void *bytes, size_t len, bool is_text, uint32_t error, uint64_t at) {
+    resb_bundle bundle = RESB_DISCARDED;
+    line = 99;
+    EXPECT(resb_prepare(bytes, len, is_text, &bundle, &line) == error && line == at && !bundle.is_prepared);
+}
+
+static void refuses_errors(void) {
+    refuses(S("de{\na:int{09}}"), true, RESB_TEXT_BAD_INT, 2);
+    refuses(S("de{a{\"b\"}\n\na{\"c\"}}"), true, RESB_TEXT_DUPLICATE_KEY, 3);
+    refuses(S("de{\n\"a"), true, RESB_TEXT_OPEN_QUOTE, 2);
+    refuses(S("de{"), true, RESB_TEXT_UNEXPECTED, 1);
+    refuses(file, 0, false, RESB_FILE_HEADER, 0);
+    refuses(file, file_len, true, RESB_TEXT_NOT_UTF8, 1);
+    refuses(S(text), false, RESB_FILE_HEADER, 0);
+    uint8_t damaged[4096];
+    memcpy(damaged, file, file_len);
+    damaged[16] = 4; /* the version of the format */
+    refuses(damaged, file_len, false, RESB_FILE_FORMAT_VERSION, 0);
+    memcpy(damaged, file, file_len);
+    damaged[8] = 1; /* the order of bytes */
+    refuses(damaged, file_len, false, RESB_FILE_BIG_ENDIAN, 0);
+}
+
+/* Takes a file that resb_check takes, and refuses another with the error of resb_check. */
+static void refuses_as_check(void) {
+    uint64_t random = 5;
+    uint8_t damaged[4096];
+    for (int i = 0; i < 20000; i++) {
+        resb_bundle bundle = RESB_DISCARDED;
+        memcpy(damaged, file, file_len);
+        for (int k = 0; k <= i % 3; k++)
+            damaged[next_random(&random) % file_len] ^= (uint8_t)(1 << next_random(&random) % 8);
+        uint32_t error = resb_check(damaged, file_len);
+        EXPECT(resb_prepare(damaged, file_len, false, &bundle, &line) == error && line == 0 && bundle.is_prepared == !error);
+        resb_discard(&bundle);
+    }
+}
+
+int main(void) {
+    compiles();
+    prepares();
+    refuses_errors();
+    refuses_as_check();
+    puts("each bundle was prepared as expected");
+    return 0;
+}
