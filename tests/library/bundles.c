@@ -1,4 +1,4 @@
-/* Prepares bundles without an engine, with each error for a caller with memory. */
+/* Prepares bundles without an engine, and exports those of one, with each error for a caller with memory. */
 #include "common.h"
 
 static const char text[] = "de{greeting{\"Gr\\u00fc\\u00df\"} count:int{7} menu{open{\"Auf\"} close{\"Zu\"}}}";
@@ -66,11 +66,36 @@ static void refuses_as_check(void) {
     }
 }
 
+static void exports(void) {
+    resb engine = RESB_CLOSED;
+    uint8_t out[4096], seed[16] = {6};
+    size_t len = 9;
+    memset(out, 0xab, sizeof out);
+    EXPECT(resb_export(&engine, S("shop"), S("de"), out, sizeof out, &len) == RESB_NOT_OPEN && len == 9);
+    EXPECT(resb_open(&engine, seed, 16) == RESB_OK);
+    EXPECT(resb_install(&engine, S("shop"), S("de"), S(text), true) == RESB_OK);
+    EXPECT(resb_install(&engine, S("bank"), S("de"), S("de{}"), true) == RESB_OK);
+    EXPECT(resb_export(&engine, S("sh op"), S("-"), out, sizeof out, &len) == RESB_BAD_APP);
+    EXPECT(resb_export(&engine, S("ICUDATA"), S("-"), out, sizeof out, &len) == RESB_RESERVED);
+    EXPECT(resb_export(&engine, S("shop"), S("-"), out, sizeof out, &len) == RESB_BAD_LOCALE);
+    EXPECT(resb_export(&engine, S("shop"), S("fr"), out, sizeof out, &len) == RESB_ABSENT);
+    EXPECT(resb_export(&engine, S("none"), S("de"), out, sizeof out, &len) == RESB_ABSENT);
+    EXPECT(resb_export(&engine, S("shop"), S("de_AT"), out, sizeof out, &len) == RESB_ABSENT && out[0] == 0xab);
+    EXPECT(resb_export(&engine, S("shop"), S("de"), out, file_len - 1, &len) == RESB_NO_ROOM && len == file_len && out[0] == 0xab);
+    /* A text is stored as the file that it compiles to. */
+    EXPECT(resb_export(&engine, S("shop"), S("DE"), out, file_len, &len) == RESB_OK && len == file_len);
+    EXPECT(memcmp(out, file, file_len) == 0 && out[file_len] == 0xab);
+    /* What is exported can be installed again. */
+    EXPECT(resb_install(&engine, S("copy"), S("de"), out, len, false) == RESB_OK);
+    resb_close(&engine);
+}
+
 int main(void) {
     compiles();
     prepares();
     refuses_errors();
     refuses_as_check();
-    puts("each bundle was prepared as expected");
+    exports();
+    puts("each bundle was prepared and exported as expected");
     return 0;
 }

@@ -82,6 +82,12 @@ static void *look_at(void *a) {
     return a;
 }
 
+static void *export(void *a) {
+    size_t len;
+    result = resb_export(&e, S("a"), S("de"), out, FILE_ROOM, &len);
+    return a;
+}
+
 static void *copy(void *a) {
     uint16_t units[1];
     size_t len;
@@ -142,6 +148,7 @@ int main(void) {
     measure("look_at", look_at);
     measure("text", copy);
     measure("look_origin", look_origin);
+    measure("export", export);
     resb_close(&e);
     free(text);
     free(out);

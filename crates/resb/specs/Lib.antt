@@ -1,4 +1,5 @@
 pub mod Changes
+pub mod Exports
 pub mod Lists
 pub mod Looks
 pub mod OpenLocales

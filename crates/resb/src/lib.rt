@@ -5,6 +5,7 @@ mod changes;
 mod check;
 mod compile;
 mod entry;
+mod exports;
 mod found;
 mod held;
 mod lists;

@@ -24,7 +24,7 @@ fn joined(alloc: Global, names: &[Name]) -> Result<Vec<u8>, AllocError>
 }
 
 /// Copies bytes to the front of a buffer, or writes only their number if it is short.
-fn copy_bytes(bytes: &[u8], out: &mut [u8], len: &mut usize) -> u32
+pub(crate) fn copy_bytes(bytes: &[u8], out: &mut [u8], len: &mut usize) -> u32
     ensures count { len.new ≡ length bytes.now }
     ensures number { (result ≡ 0) ⊎ (result ≡ 5) }
     ensures copied { result ≡ 0 → take len.new out.new ≡ bytes.now }
