@@ -5,13 +5,15 @@ an escape is two characters of it, so that offsets are those of the text."""
 
 from __future__ import annotations
 
+import json
+import pathlib
 from typing import Iterator, NamedTuple, Optional, Union
-
-from . import plurals
 
 DEEPEST = 20
 CHOOSING = ("plural", "selectordinal", "select")
 CATEGORIES = ("zero", "one", "two", "few", "many", "other")
+# a number of each category, such as `one=1 other=2`, with the locales of these numbers
+NUMBERS = json.loads(pathlib.Path(__file__).with_name("plurals.json").read_text(encoding="utf-8"))
 
 
 class Branch(NamedTuple):
@@ -42,10 +44,9 @@ def without_keywords(locale: str) -> str:
 
 def numbers(locale: str, kind: str) -> dict[str, str]:
     """Returns a number for each plural category of a locale's language."""
-    table = plurals.ORDINAL if kind == "selectordinal" else plurals.CARDINAL
     name = without_keywords(locale)
     while name:
-        for row, locales in table.items():
+        for row, locales in NUMBERS["selectordinal" if kind == "selectordinal" else "plural"].items():
             if name in locales.split():
                 return dict(pair.split("=") for pair in row.split())
         name = name.rpartition("_")[0]
