@@ -2,8 +2,7 @@
 texts are changed in place; refused files leave nothing; and other readers (xmllint, polib, javaproperties, json, csv, msgfmt,
 translate-toolkit and Java's Properties) read what it writes. genrb's XLIFF has the same strings.
 
-RESB_PROGRAM or RESB names the program; otherwise it is the built one of this checkout. `-m hand` takes every bundle of ICU's package
-through each format, in some minutes.
+`-m hand` takes every bundle of ICU's package through each format, in some minutes.
 """
 import argparse
 import contextlib
@@ -20,12 +19,10 @@ import subprocess
 import sys
 
 import pytest
+from support import icu
+from support.exchange import Exchange, need_modules
+from support.program import TOP, need, rows, run
 
-sys.path.insert(0, os.path.dirname(os.path.abspath(__file__)))
-from exchange_tool import PROGRAM, TOP, run, run_process  # noqa: E402
-from support import icu  # noqa: E402
-
-pytestmark = pytest.mark.skipif(not os.path.exists(PROGRAM), reason="the program isn't built")
 FORMATS = ["xliff1", "xliff2", "po", "properties", "json", "csv"]
 if not importlib.util.find_spec("polib"):
     FORMATS.remove("po")
@@ -46,27 +43,7 @@ ALLOWED = {
     "json": PLAIN + EMPTY + CONTROL + LONE,
     "csv": PLAIN + EMPTY + [one for one in CONTROL if "\0" not in one],
 }
-# prints the properties of a file, each key and value in hexadecimal digits of their units
-JAVA_READER = """
-public class Reader {
-    static String units(String text) {
-        return text.chars().mapToObj(unit -> String.format("%04x", unit)).collect(java.util.stream.Collectors.joining());
-    }
-    public static void main(String[] args) throws Exception {
-        var properties = new java.util.Properties();
-        try (var reader = new java.io.InputStreamReader(new java.io.FileInputStream(args[0]), "UTF-8")) {
-            properties.load(reader);
-        }
-        properties.forEach((key, value) -> System.out.println(units((String) key) + " " + units((String) value)));
-        var bundle = new java.util.PropertyResourceBundle(new java.io.FileInputStream(args[0]));
-        if (!bundle.keySet().equals(properties.stringPropertyNames())) {
-            throw new Exception("a ResourceBundle has other keys");
-        }
-    }
-}
-"""
 REFUSED = {"xliff1": ["\x01", "\ud800", "\uffff"], "po": ["", "\r", "\ud800", "\x01"], "csv": ["\0", "\udc00"]}
-
 
 
 def escaped(text):
@@ -176,69 +153,51 @@ def xml_text(element, data):
     return "".join(parts)
 
 
-
-
-class Folder:
+class Folder(Exchange):
     """A folder with texts, and what is run in it."""
 
-    def __init__(self, path):
-        self.folder = str(path)
-        self.save("en.txt", 'en{\n// said first\nhello{"Hello, {name}!"} days{"Mon","Tue"} n:int{5} empty:table{}}')
-        self.save("de.txt", 'de{\n// Gruß\nhello{"Hallo, {name}!"} n:int{7}}')
-
-    def path(self, name):
-        return os.path.join(self.folder, name)
-
-    def save(self, name, data):
-        with open(self.path(name), "wb") as file:
-            file.write(data.encode() if isinstance(data, str) else data)
-
-    def read(self, name):
-        with open(self.path(name), "rb") as file:
-            return file.read()
-
-    def run_tool(self, *args):
-        return run(self.folder, *args)
-
-    def tree(self, name):
-        compiled = subprocess.run([PROGRAM, "compile", "-", "-"], input=self.read(name), capture_output=True, check=True).stdout
-        return json.loads(subprocess.run([PROGRAM, "json", "-"], input=compiled, capture_output=True, check=True).stdout)
+    def __init__(self, program, path):
+        super().__init__(program, path)
+        self.put("en.txt", 'en{\n// said first\nhello{"Hello, {name}!"} days{"Mon","Tue"} n:int{5} empty:table{}}')
+        self.put("de.txt", 'de{\n// Gruß\nhello{"Hallo, {name}!"} n:int{7}}')
 
     def export(self, kind, source="en.txt", target="de.txt", *more):
-        status, _, said = self.run_tool("export", "--format", kind, "--source", source, "--target", target, "-o", "out", *more)
+        status, _, said = self.tool("export", "--format", kind, "--source", source, "--target", target, "-o", "out", *more)
         assert (status, said) == (0, "")
 
+    def export_tree(self, kind, tree):
+        self.put("both.txt", bundle_text("de", tree))
+        self.export(kind, "both.txt", "both.txt")
+
     def bring(self, kind, *more, source="en.txt", into="de.txt", file="out"):
-        return self.run_tool("import", "--format", kind, "--source", source, "--into", into, file, *more)
+        return self.tool("import", "--format", kind, "--source", source, "--into", into, file, *more)
 
     def translate(self, texts, *more, **files):
-        self.save("in.json", json.dumps([{"id": name, "target": text} for name, text in texts.items()]))
+        self.put("in.json", json.dumps([{"id": name, "target": text} for name, text in texts.items()]))
         return self.bring("json", *more, file="in.json", **files)
 
     def unpack_icu(self, tree, *names):
         """Writes the texts of ICU's own bundles."""
-        package = icu.package(self.folder)
-        made = [sys.executable, os.path.join(TOP, "tools", "icu2text"), "--force", "--to", self.folder, "--package", package]
-        done = subprocess.run([*made, "--tree", tree, *names], capture_output=True, check=False)
-        assert (done.returncode, done.stderr) == (0, b"")
+        words = ["--force", "--to", self.folder, "--package", icu.package(self.folder), "--tree", tree, *names]
+        assert run([sys.executable, TOP / "tools" / "icu2text", *words])[::2] == (0, b"")
 
     def round_trip(self, kind, source, target):
-        before = self.read(target)
+        before = self.get(target)
         self.export(kind, source, target)
         status, printed, said = self.bring(kind, source=source, into=target)
         assert (status, printed) == (0, "")
         assert said.startswith(f"{target}: 0 set")
-        assert self.read(target) == before
+        assert self.get(target) == before
 
 
 @pytest.fixture
-def at(tmp_path):
-    return Folder(tmp_path)
+def at(program, tmp_path):
+    return Folder(program, tmp_path)
 
 
 def bring_into_empty(at, kind, source, target):
     """Brings all strings of a file into an empty target, and returns the tree of that."""
-    at.save("new.txt", "de { }")
+    at.put("new.txt", "de { }")
     at.export(kind, source, target)
     status, _, said = at.bring(kind, "--values", source=source, into="new.txt")
     assert status == 0, said
@@ -252,8 +211,8 @@ def test_generated_trees(at, kind, number):
     texts = ALLOWED[kind]
     source = {key: generated(pick, texts, 3) for key in pick.sample(KEYS, 8)} | {"all": texts}
     target = changed(pick, texts, source) | ({"all": texts[::-1]} if number % 2 else {})
-    at.save("source.txt", bundle_text("en", source))
-    at.save("target.txt", bundle_text("de:table(nofallback)" if number % 3 == 0 else "de", target))
+    at.put("source.txt", bundle_text("en", source))
+    at.put("target.txt", bundle_text("de:table(nofallback)" if number % 3 == 0 else "de", target))
     at.round_trip(kind, "source.txt", "target.txt")
 
 
@@ -261,7 +220,7 @@ def test_generated_trees(at, kind, number):
 def test_all_strings_come_into_an_empty_text(at, kind):
     texts = ALLOWED[kind]
     tree = {"all": texts, "t": {key: "v" for key in KEYS if key != "%%P"}, "deep": [{"k": texts[0]}, [texts[1]]]}
-    at.save("source.txt", bundle_text("de", tree))
+    at.put("source.txt", bundle_text("de", tree))
     assert bring_into_empty(at, kind, "source.txt", "source.txt") == tree_with_units(tree)
 
 
@@ -280,11 +239,9 @@ def tree_with_units(item):
 @pytest.mark.parametrize("kind", FORMATS)
 def test_other_readers(at, kind):
     needed = {"xliff1": "lxml", "xliff2": "lxml", "properties": "javaproperties"}.get(kind)
-    if needed and not importlib.util.find_spec(needed):
-        pytest.skip(f"the module {needed} is missing")
+    need_modules(*[needed] * bool(needed))
     tree = {"all": ALLOWED[kind], "t": {key: "v" for key in KEYS}}
-    at.save("both.txt", bundle_text("de", tree))
-    at.export(kind, "both.txt", "both.txt")
+    at.export_tree(kind, tree)
     assert read_by_others(kind, at.path("out")) == listed_strings(tree)
 
 
@@ -293,10 +250,10 @@ def test_missing_strings(at, kind):
     at.export(kind)
     found = {name: text for name, text in read_by_others(kind, at.path("out")).items() if text is not None}
     assert found == {"hello": "Hallo, {name}!"}
-    assert b"said first" in at.read("out")
-    at.save("root.txt", 'root{days{"M","T"}}')
+    assert b"said first" in at.get("out")
+    at.put("root.txt", 'root{days{"M","T"}}')
     at.export(kind, "en.txt", "de.txt", "--base", "root.txt")
-    assert "inherited" in at.read("out").decode()
+    assert "inherited" in at.get("out").decode()
 
 
 @pytest.mark.parametrize("kind", FORMATS)
@@ -307,24 +264,19 @@ def test_some_of_icu(at, kind):
 
 @pytest.mark.parametrize("kind", [kind for kind in FORMATS if kind in ("po", "xliff1", "properties", "csv")])
 def test_translate_toolkit(at, kind):
-    if not importlib.util.find_spec("translate"):
-        pytest.skip("python3-translate is missing")
+    need_modules("translate")
     texts = [one for one in ALLOWED[kind] if kind != "properties" or not UNREAD_BY_TOOLKIT.search(one)]
     tree = {"all": texts, "t": {key: "v" for key in KEYS}}
-    at.save("both.txt", bundle_text("de", tree))
-    at.export(kind, "both.txt", "both.txt")
+    at.export_tree(kind, tree)
     assert read_by_toolkit(kind, at.path("out")) == listed_strings(tree)
 
 
 def test_java(at):
-    if not shutil.which("java"):
-        pytest.skip("java is missing")
+    need("java")
     tree = {"all": ALLOWED["properties"], "t": {key: "v" for key in KEYS}}
-    at.save("both.txt", bundle_text("de", tree))
-    at.export("properties", "both.txt", "both.txt")
-    at.save("Reader.java", JAVA_READER)
-    done = subprocess.run(["java", "Reader.java", "out"], cwd=at.folder, capture_output=True, check=False)
-    assert (done.returncode, done.stderr) == (0, b"")
+    at.export_tree("properties", tree)
+    done = run(["java", TOP / "tests" / "exchange" / "Reader.java", at.path("out")])
+    assert (done.status, done.stderr) == (0, b"")
     read = (line.split(" ") for line in done.stdout.decode().splitlines())
     found = {key: value for key, value in ([bytes.fromhex(one).decode("utf-16-be", "surrogatepass") for one in line] for line in read)}
     assert found == listed_strings(tree)
@@ -333,110 +285,54 @@ def test_java(at):
 def test_genrb(at):
     """genrb's XLIFF has a source for each string; numbers, aliases and vectors have a restype. It reads an escaped backslash, as the
     texts here have it, as one that begins an escape."""
-    if not shutil.which("genrb") or not importlib.util.find_spec("lxml"):
-        pytest.skip("genrb or the module lxml is missing")
+    need("genrb")
+    need_modules("lxml")
     from lxml import etree
 
     texts = [one for one in PLAIN if not re.search("[\r\n\t\\\\]", one)]
     tree = {"all": texts, "m": {"open": "Open", "sub": {"a": "A", "n": 5}}, "deep": [["x", "y"], {"z": "Z"}], "b": ("bin", "00ff")}
     tree |= {"v": ("intvector", "1,-2"), "l": ("alias", '"/LOCALE/x"'), "empty": {}}
-    at.save("en.txt", bundle_text("en", tree))
+    at.put("en.txt", bundle_text("en", tree))
     at.export("xliff1", "en.txt", "en.txt")
     subprocess.run(["genrb", "-q", "-x", "-l", "en", "en.txt"], cwd=at.folder, check=True)
-    theirs = [
-        unit.findtext("{*}source")
-        for unit in etree.parse(at.path("en.xlf")).iter("{*}trans-unit")
-        if unit.get("restype") not in ("x-icu-integer", "x-icu-alias")
-    ]
+    units = etree.parse(at.path("en.xlf")).iter("{*}trans-unit")
+    theirs = [unit.findtext("{*}source") for unit in units if unit.get("restype") not in ("x-icu-integer", "x-icu-alias")]
     ours = read_by_others("xliff1", at.path("out"))
     assert ours == listed_strings(tree)
     assert sorted(theirs) == sorted(ours.values())
 
 
-@pytest.mark.parametrize(
-    "kind, program", [("po", ["msgfmt", "-c", "-o", os.devnull]), ("xliff1", ["xmllint", "--noout"]), ("xliff2", ["xmllint", "--noout"])]
-)
-def test_programs(at, kind, program):
-    if kind not in FORMATS or not shutil.which(program[0]):
-        pytest.skip(f"{program[0]} or the module is missing")
-    at.save("both.txt", bundle_text("de", {"all": ALLOWED[kind], "t": {key: "v" for key in KEYS}}))
-    at.export(kind, "both.txt", "both.txt")
-    done = subprocess.run([*program, at.path("out")], capture_output=True, check=False)
-    assert done.returncode == 0, done.stderr
+@pytest.mark.parametrize("kind, words", [
+    ("po", ["msgfmt", "-c", "-o", os.devnull]), ("xliff1", ["xmllint", "--noout"]), ("xliff2", ["xmllint", "--noout"])])
+def test_programs(at, kind, words):
+    need(words[0])
+    need_modules(*["polib"] * (kind == "po"))
+    at.export_tree(kind, {"all": ALLOWED[kind], "t": {key: "v" for key in KEYS}})
+    done = run([*words, at.path("out")])
+    assert done.status == 0, done.stderr
 
 
 # --- Changes in place: the target, what is translated, options, and the target afterwards
 
 ONE = 'en { a { "A" } b { "B" } c { "C" } m { x { "X" } y { "Y" } } l { "1", "2", "3" } n:int { 1 } }'
-IN_PLACE = {
-    "a piece in quotes": ('de { a { "x" } }', {"a": "y"}, 'de { a { "y" } }'),
-    "a bare piece": ("de { a { x } }", {"a": "y"}, 'de { a { "y" } }'),
-    "pieces side by side": ('de {\n a { "x"\n "y" }\n}\n', {"a": "z"}, 'de {\n a { "z" }\n}\n'),
-    "a comment between pieces": ('de { a { "x" /* 1 */ "y" } }', {"a": "z"}, 'de { a { "z" /* 1 */  } }'),
-    "a comment in a piece": ("de { a { x/* 1 */y } }", {"a": "z"}, 'de { a { "z" /* 1 */ } }'),
-    "an empty text": ("de { a:string{} }", {"a": "z"}, 'de { a:string{ "z" } }'),
-    "escapes": ('de { a { "x" } }', {"a": 'q"\\\n\t\x01\u202eÖ'}, 'de { a { "q\\"\\\\\\n\\t\\u0001\\u202eÖ" } }'),
-    "CRLF": ('de {\r\n  a { "x" }\r\n}\r\n', {"b": "y"}, 'de {\r\n  a { "x" }\r\n  b { "y" }\r\n}\r\n'),
-    "a byte order mark": ('\ufeffde { a { "x" } }', {"a": "y"}, '\ufeffde { a { "y" } }'),
-    "after the one before it": ('de {\n\tc { "x" } // c\n\n\ta { "y" } /* a */ // more\n}', {"b": "z"},
-                                'de {\n\tc { "x" } // c\n\n\ta { "y" } /* a */ // more\n\tb { "z" }\n}'),
-    "before the one after it": ('de {\n  // first\n  b { "x" }\n}\n', {"a": "z"}, 'de {\n  a { "z" }\n  // first\n  b { "x" }\n}\n'),
-    "in one line": ('de { c { "x" } }', {"a": "1", "b": "2"}, 'de { a { "1" } b { "2" } c { "x" } }'),
-    "in one line without blanks": ('de{a{"x"}}', {"b": "2"}, 'de{a{"x"} b { "2" } }'),
-    "an empty text of one line": ("de { }", {"a": "1"}, 'de {\n    a { "1" }\n}'),
-    "an empty text of two lines": ("de {\n}\n", {"a": "1", "m/x": "2"}, 'de {\n    a { "1" }\n    m {\n        x { "2" }\n    }\n}\n'),
-    "only a comment": ("de {\n  // empty\n}\n", {"a": "1"}, 'de {\n    a { "1" }\n  // empty\n}\n'),
-    "an empty table": ("de {\n  m:table { }\n}\n", {"m/y": "2"}, 'de {\n  m:table {\n    y { "2" }\n  }\n}\n'),
-    "a new table": ('de {\n  c { "x" }\n}\n', {"m/y": "2", "m/x": "1"}, 'de {\n  c { "x" }\n  m {\n    x { "1" }\n    y { "2" }\n  }\n}\n'),
-    "a new table in one line": ('de { c { "x" } }', {"m/y": "2"}, 'de { c { "x" } m { y { "2" } } }'),
-    "a new array": ('de {\n  c { "x" }\n}\n', {"l/0": "p", "l/1": "q", "l/2": "r"}, 'de {\n  c { "x" }\n  l { "p", "q", "r" }\n}\n'),
-    "a longer array": ('de { l { "p" , "q" } }', {"l/2": "r"}, 'de { l { "p" , "q", "r", } }'),
-    "a longer array of lines": ('de {\n  l {\n    "p",\n    "q" // 2\n  }\n}', {"l/2": "r"},
-                                'de {\n  l {\n    "p",\n    "q", // 2\n    "r",\n  }\n}'),
-    "an element": ('de { l { "p", /* q */ "q", } }', {"l/1": "r"}, 'de { l { "p", /* q */ "r", } }'),
-    "an array with a gap": ('de { l { "p", } }', {"l/2": "r"}, 'de { l { "p", } }'),
-    "half of an array": ('de { a { "x" } }', {"l/0": "r"}, 'de { a { "x" } }'),
-    "what isn't a string": ('de { a:int { 3 } m { "x" } n:int{2} }', {"b": "z"}, 'de { a:int { 3 } b { "z" } m { "x" } n:int{2} }'),
-}
-REMOVED = {
-    "a line": ('de {\n  a { "x" }\n  b { "y" }\n}\n', {"a": "x"}, 'de {\n  a { "x" }\n}\n'),
-    "a comment on its line": ('de {\n  a { "x" }\n  b { "y" } // b\n}\n', {"a": "x"}, 'de {\n  a { "x" }\n  // b\n}\n'),
-    "a comment before it": ('de {\n  // b\n  b { "y" }\n  a { "x" }\n}\n', {"a": "x"}, 'de {\n  // b\n  a { "x" }\n}\n'),
-    "in a line": ('de { a { "x" }, b { "y" } c { "z" } own { "1" } }', {"a": "x"}, 'de { a { "x" }, own { "1" } }'),
-    "a table": ('de {\n  a { "x" }\n  m { x { "1" } y { "2" } }\n}\n', {"a": "x"}, 'de {\n  a { "x" }\n}\n'),
-    "half of a table": ('de { m { x { "1" } y { "2" } } }', {"m/y": "2"}, 'de { m { y { "2" } } }'),
-    "an array": ('de { a { "x" } l { "p", "q" } }', {"a": "x"}, 'de { a { "x" } }'),
-    "all": ('de { a { "x" } }', {"m/x": "1"}, 'de { m { x { "1" } } }'),
-}
 
 
-@pytest.mark.parametrize("name", IN_PLACE)
-def test_in_place(at, name):
-    before, texts, after = IN_PLACE[name]
-    at.save("en.txt", ONE)
-    at.save("de.txt", before)
-    assert at.translate(texts, "--any-arguments")[0] == 0
-    assert at.read("de.txt").decode() == after
-    assert at.translate(texts, "--any-arguments")[0] == 0
-    assert at.read("de.txt").decode() == after
-
-
-@pytest.mark.parametrize("name", REMOVED)
-def test_removed_in_place(at, name):
-    before, texts, after = REMOVED[name]
-    at.save("en.txt", ONE)
-    at.save("de.txt", before)
-    assert at.translate(texts, "--remove-missing")[0] == 0
-    assert at.read("de.txt").decode() == after
+@pytest.mark.parametrize("row", rows("exchange/in_place.jsonl"), ids=lambda row: row["name"])
+def test_in_place(at, row):
+    at.put("en.txt", ONE)
+    at.put("de.txt", row["before"])
+    for _ in range(1 if row["option"] == "--remove-missing" else 2):
+        assert at.translate(row["texts"], row["option"])[0] == 0
+        assert at.get("de.txt").decode() == row["after"]
 
 
 def test_values(at):
-    at.save("en.txt", 'en { n:int { 5 } v:intvector { 1, 2 } b:bin { 00ff } x { "X" } l { "a", :int { 1 } } t:table { } }')
-    at.save("de.txt", 'de {\n  n : int { 7 } // seven\n  x { "Y" }\n}\n')
+    at.put("en.txt", 'en { n:int { 5 } v:intvector { 1, 2 } b:bin { 00ff } x { "X" } l { "a", :int { 1 } } t:table { } }')
+    at.put("de.txt", 'de {\n  n : int { 7 } // seven\n  x { "Y" }\n}\n')
     status, _, said = at.translate({"x": "Z"}, "--values")
     assert (status, said) == (0, "de.txt: 1 set, 1 not in the file\n")
     wanted = 'de {\n  n:int { 5 } // seven\n  v:intvector { 1, 2 }\n  b:bin { "00ff" }\n  x { "Z" }\n  t:table { }\n}\n'
-    assert at.read("de.txt").decode() == wanted
+    assert at.get("de.txt").decode() == wanted
 
 
 @pytest.mark.parametrize("seed", range(6))
@@ -446,16 +342,16 @@ def test_any_edit_of_generated_texts(at, seed):
     texts = ALLOWED["json"]
     source = {key: generated(pick, texts, 3) for key in pick.sample(KEYS, 9)} | {"list": texts[:6]}
     target = changed(pick, texts, source)
-    at.save("en.txt", bundle_text("en", source))
-    at.save("de.txt", bundle_text("de", target))
+    at.put("en.txt", bundle_text("en", source))
+    at.put("de.txt", bundle_text("de", target))
     known = [name for name in listed_strings(source) if "inner" not in name]
     chosen = {name: f"new {name}" for name in pick.sample(known, len(known) // 2)}
     at.export("json")
-    ids = {one["id"] for one in json.loads(at.read("out"))}
+    ids = {one["id"] for one in json.loads(at.get("out"))}
     chosen = {name: text for name, text in chosen.items() if name in ids}
     status, _, said = at.translate(chosen, "--any-arguments", "--force", "--report", "report.json")
     assert status == 0, said
-    report = json.loads(at.read("report.json"))
+    report = json.loads(at.get("report.json"))
     found = listed_strings(plain_tree(at.tree("de.txt")))
     assert set(report["set"]) | set(report["left_out"]) == set(chosen)
     assert {name: found.get(name) for name in report["set"]} == {name: chosen[name] for name in report["set"]}
@@ -478,7 +374,7 @@ def plain_tree(item):
 
 
 def test_counts_and_report(at):
-    at.save("in.json", json.dumps([
+    at.put("in.json", json.dumps([
         {"id": "hello", "target": "Na, {name}?"},
         {"id": "days/0", "target": "Mo", "state": "fuzzy"},
     ]))
@@ -493,7 +389,7 @@ def test_counts_and_report(at):
 def test_report_of_a_refusal(at):
     status, _, said = at.translate({"none": "x"}, "--report", "report.json")
     assert status == 1
-    report = json.loads(at.read("report.json"))
+    report = json.loads(at.get("report.json"))
     assert (report["done"], report["errors"]) == (False, said.splitlines())
 
 
@@ -508,20 +404,20 @@ def test_languages(at, options, source, target):
         "properties": f"# en.txt, from {source} to {target}; UTF-8",
     }.items():
         at.export(kind, "en.txt", "de.txt", *options)
-        assert wanted in at.read("out").decode()
+        assert wanted in at.get("out").decode()
     if "po" in FORMATS:
         at.export("po", "en.txt", "de.txt", *options)
-        text = at.read("out").decode()
+        text = at.get("out").decode()
         assert f'"Language: {target.replace("-", "_")}\\n"' in text
         assert f'"X-Source-Language: {source.replace("-", "_")}\\n"' in text
 
 
 def test_a_root_is_english_by_an_option(at):
-    at.save("root.txt", 'root { a { "A" } }')
+    at.put("root.txt", 'root { a { "A" } }')
     at.export("xliff2", "root.txt")
-    assert 'srcLang="und"' in at.read("out").decode()
+    assert 'srcLang="und"' in at.get("out").decode()
     at.export("xliff2", "root.txt", "de.txt", "--source-language", "en")
-    assert 'srcLang="en"' in at.read("out").decode()
+    assert 'srcLang="en"' in at.get("out").decode()
     assert at.bring("xliff2", source="root.txt")[0] == 0
     status, _, said = at.bring("xliff2", "--source-language", "fr", source="root.txt")
     assert status == 1
@@ -530,17 +426,17 @@ def test_a_root_is_english_by_an_option(at):
 
 def test_an_edit_while_it_runs(at):
     """A stand-in for the program saves another target at its fourth call, when the target was read."""
-    at.save("edits", f"""#!/bin/sh
+    at.put("edits", f"""#!/bin/sh
 echo >>calls
 [ "$(wc -l <calls)" != 4 ] || printf %s 'de {{ hello {{ "by hand {{name}}" }} }}' >de.txt
-exec {PROGRAM} "$@"
+exec {at.program} "$@"
 """)
     os.chmod(at.path("edits"), 0o755)
-    at.save("in.json", '[{"id": "hello", "target": "Na, {name}?"}]')
+    at.put("in.json", '[{"id": "hello", "target": "Na, {name}?"}]')
     call = ("import", "--format", "json", "--source", "en.txt", "--into", "de.txt", "in.json")
-    found = run_process(at.folder, *call, program=at.path("edits"))
+    found = at.process(*call, program=at.path("edits"))
     assert found == (1, "", "de.txt:1: the text changed while it was worked on; nothing is written\n")
-    assert at.read("de.txt").decode() == 'de { hello { "by hand {name}" } }'
+    assert at.get("de.txt").decode() == 'de { hello { "by hand {name}" } }'
     assert sorted(os.listdir(at.folder)) == ["calls", "de.txt", "edits", "en.txt", "in.json"]
 
 
@@ -551,7 +447,7 @@ def test_a_link_and_a_mode_stay(at):
     assert at.translate({"hello": "Na, {name}?"})[0] == 0
     assert os.path.islink(at.path("de.txt"))
     assert os.stat(at.path("real.txt")).st_mode & 0o777 == 0o640
-    assert "Na, {name}?" in at.read("real.txt").decode()
+    assert "Na, {name}?" in at.get("real.txt").decode()
 
 
 def test_what_cannot_be_written_in_place_is_beside(at, monkeypatch):
@@ -565,14 +461,14 @@ def test_what_cannot_be_written_in_place_is_beside(at, monkeypatch):
     status, _, said = at.translate({"hello": "Na, {name}?"})
     assert (status, said.splitlines()[-1]) == (2, "cannot write de.txt")
     (beside,) = [name for name in os.listdir(at.folder) if name.startswith(".resb-unfinished-")]
-    assert "Na, {name}?" in at.read(beside).decode() and "Hallo" in at.read("de.txt").decode()
+    assert "Na, {name}?" in at.get(beside).decode() and "Hallo" in at.get("de.txt").decode()
 
 
 def test_further_names_stay(at):
     os.link(at.path("de.txt"), at.path("other.txt"))
     assert at.translate({"hello": "Na, {name}?"})[0] == 0
     assert os.path.samefile(at.path("de.txt"), at.path("other.txt"))
-    assert at.read("other.txt").decode() == 'de{\n// Gruß\nhello{"Na, {name}?"} n:int{7}}'
+    assert at.get("other.txt").decode() == 'de{\n// Gruß\nhello{"Na, {name}?"} n:int{7}}'
     assert not [name for name in os.listdir(at.folder) if name.startswith(".resb")]
 
 
@@ -600,7 +496,7 @@ def test_owner_access_list_and_attributes_stay(at, monkeypatch, is_denied):
     assert at.translate({"hello": "Na, {name}?"})[0] == 0
     assert rights() == before
     assert (os.stat(path).st_ino == file) == is_denied
-    assert "Na, {name}?" in at.read("de.txt").decode()
+    assert "Na, {name}?" in at.get("de.txt").decode()
 
 
 def test_an_unchanged_text_is_not_written(at):
@@ -613,7 +509,7 @@ def test_an_unchanged_text_is_not_written(at):
 def test_inline_codes(at):
     target = '<pc id="1" dispStart="&lt;b&gt;" dispEnd="&lt;/b&gt;">Na</pc>, <ph id="2" disp="{name}"/>'
     unit = f'<unit id="u" name="hello"><segment><source>x</source><target>{target}</target></segment></unit>'
-    at.save("in.xlf", f'<xliff xmlns="urn:oasis:names:tc:xliff:document:2.0" version="2.0"><file id="f">{unit}</file></xliff>')
+    at.put("in.xlf", f'<xliff xmlns="urn:oasis:names:tc:xliff:document:2.0" version="2.0"><file id="f">{unit}</file></xliff>')
     assert at.bring("xliff2", file="in.xlf")[0] == 0
     assert at.tree("de.txt") == {"hello": "<b>Na</b>, {name}", "n": 7}
 
@@ -621,65 +517,46 @@ def test_inline_codes(at):
 def test_a_pipe_is_written_through(at):
     os.mkfifo(at.path("pipe"))
     reader = subprocess.Popen(["cat", at.path("pipe")], stdout=subprocess.PIPE)
-    assert at.run_tool("export", "--format", "json", "--source", "en.txt", "--target", "de.txt", "-o", "pipe")[0] == 0
+    assert at.tool("export", "--format", "json", "--source", "en.txt", "--target", "de.txt", "-o", "pipe")[0] == 0
     assert len(json.loads(reader.communicate(timeout=50)[0])) == 3
 
 
 # --- Refusals
 
 
-def check_refused(at, kind, data, line, what, *more):
-    at.save("bad", data)
-    before, names = at.read("de.txt"), sorted(os.listdir(at.folder))
-    status, printed, said = at.bring(kind, *more, file="bad")
-    assert (status, printed) == (1, ""), said
-    assert re.search(rf"^bad:{line}: ", said, re.M), said
-    assert what in said
-    assert (at.read("de.txt"), sorted(os.listdir(at.folder))) == (before, names)
-
-
-REFUSED_FILES = [
-    ("json", '[\n{"id":"hello"},\n{"id":"x"}]', 3, "x: no string"),
-    ("json", '[\n{"id":"hello"},\n{"id":"hello"}]', 3, "twice"),
-    ("json", "[\n{]", 2, ""),
-    ("csv", 'id,target\n"hello","a\nb"\nx,y\n', 2, "lacks {name}"),
-    ("csv", "id\n", 1, "columns"),
-    ("properties", "\n\nhello=\\u12\n", 3, ""),
-    ("po", 'msgctxt "x"\nmsgid "a"\nmsgstr "b"\n', 1, "no string"),
-    ("po", 'msgid "a"\nnonsense\n', 2, ""),
-    ("xliff1", "<a>\n<b></a>", 2, ""),
-    ("xliff1", "<!DOCTYPE a []>\n<a/>", 1, "document type"),
-    ("xliff2", "<a/>", 1, "no {urn:"),
-    # controls aren't printed as they are, long patterns and lines don't take quadratic time, and each entry of a PO file counts
-    ("json", '[{"id":"\\u001b[2J\\nforged"}]', 1, "\\u{1b}[2J\\u{a}forged: no string"),
-    ("json", '[{"id":"\\ud800"}]', 1, "\\u{d800}: no string"),
-    ("json", '[{"id":' + "1" * 5000 + "}]", 1, "no object"),
-    ("json", json.dumps([{"id": "hello", "target": "{n,plural,offset:" + "1" * 100_000}]), 1, "isn't a message pattern"),
-    ("json", "[" * 100_000, 1, ""),
-    ("po", 'msgctxt "x"\nmsgid "a"\nmsgstr "b"\n#.\n', 1, "no string"),
-    ("po", 'msgctxt "hello"\nmsgid "a"\nmsgstr "cut of\n', 3, "Syntax error"),
+LONG = [
+    {"kind": "json", "data": '[{"id":' + "1" * 5000 + "}]", "line": 1, "what": "no object"},
+    {"kind": "json", "data": json.dumps([{"id": "hello", "target": "{n,plural,offset:" + "1" * 100_000}]), "line": 1, "what": "isn't a message pattern"},
+    {"kind": "json", "data": "[" * 100_000, "line": 1, "what": ""},
 ]
 
 
-@pytest.mark.parametrize("kind, data, line, what", REFUSED_FILES)
-def test_refused_files(at, kind, data, line, what):
-    if kind in FORMATS:
-        check_refused(at, kind, data, line, what)
+@pytest.mark.parametrize("row", [*rows("exchange/refused.jsonl"), *LONG])
+def test_refused_files(at, row):
+    """Controls aren't printed as they are, long patterns and lines don't take quadratic time, and each entry of a PO file counts."""
+    need_modules(*["polib"] * (row["kind"] == "po"))
+    at.put("bad", row["data"])
+    before, names = at.get("de.txt"), sorted(os.listdir(at.folder))
+    status, printed, said = at.bring(row["kind"], file="bad")
+    assert (status, printed) == (1, ""), said
+    assert re.search(rf"^bad:{row['line']}: ", said, re.M), said
+    assert row["what"] in said
+    assert (at.get("de.txt"), sorted(os.listdir(at.folder))) == (before, names)
 
 
 @pytest.mark.parametrize("kind", sorted(REFUSED.keys()))
 def test_strings_that_a_format_cannot_have(at, kind):
     for text in REFUSED[kind] if kind in FORMATS else ():
-        at.save("x.txt", bundle_text("x", {"k": {"bad": text}}))
-        status, printed, said = at.run_tool("export", "--format", kind, "--source", "x.txt", "--target", "x.txt", "-o", "out")
+        at.put("x.txt", bundle_text("x", {"k": {"bad": text}}))
+        status, printed, said = at.tool("export", "--format", kind, "--source", "x.txt", "--target", "x.txt", "-o", "out")
         assert (status, printed) == (1, "")
         assert re.search(r"^x.txt:\d+: k/bad: ", said)
         assert not os.path.exists(at.path("out"))
 
 
 def test_bad_texts(at):
-    at.save("bad.txt", "de{\na{")
-    status, _, said = at.run_tool("export", "--format", "json", "--source", "en.txt", "--target", "bad.txt")
+    at.put("bad.txt", "de{\na{")
+    status, _, said = at.tool("export", "--format", "json", "--source", "en.txt", "--target", "bad.txt")
     assert (status, said) == (1, "bad.txt:2: Unexpected\n")
 
 
@@ -690,10 +567,10 @@ def test_arguments_may_be_allowed(at):
 
 def test_an_escape_before_a_comment(at):
     """The escape ends at the comment, so the key is `y 1`."""
-    at.save("en.txt", 'en { y\\40/*c*/1 { "Y" } }')
+    at.put("en.txt", 'en { y\\40/*c*/1 { "Y" } }')
     assert at.tree("en.txt") == {"y 1": "Y"}
     at.export("json")
-    assert [one["id"] for one in json.loads(at.read("out"))] == ["y 1"]
+    assert [one["id"] for one in json.loads(at.get("out"))] == ["y 1"]
 
 
 # --- Costs: what is written is at most a multiple of what is read, and what is read takes linear time
@@ -703,14 +580,14 @@ def test_an_escape_before_a_comment(at):
 def test_notes_of_an_array_are_written_once(at, kind):
     count = 2000
     comments = "".join("// n\n" for _ in range(count))
-    at.save("en.txt", "en { " + comments + "a { " + '"x",' * count + " } }")
+    at.put("en.txt", "en { " + comments + "a { " + '"x",' * count + " } }")
     at.export(kind)
-    assert len(at.read("out")) < 100 * len(at.read("en.txt"))
+    assert len(at.get("out")) < 100 * len(at.get("en.txt"))
 
 
 def test_long_ids(at):
-    at.save("en.txt", "en {\n" + "k" * 1001 + ' { "x" } }')
-    status, _, said = at.run_tool("export", "--format", "json", "--source", "en.txt", "--target", "de.txt")
+    at.put("en.txt", "en {\n" + "k" * 1001 + ' { "x" } }')
+    status, _, said = at.tool("export", "--format", "json", "--source", "en.txt", "--target", "de.txt")
     assert status == 1
     assert re.fullmatch(r"en.txt:2: k{40}\.\.: an id of more than 1000 characters\n", said)
 
@@ -733,9 +610,8 @@ HOSTILE = {
 @pytest.mark.parametrize("name", HOSTILE)
 def test_hostile_files(at, name):
     kind, data, what = HOSTILE[name]
-    if kind not in FORMATS:
-        pytest.skip("the module is missing")
-    at.save("bad", data)
+    need_modules(*["polib"] * (kind == "po"))
+    at.put("bad", data)
     status, _, said = at.bring(kind, file="bad")
     assert status == 1
     assert what in said
@@ -767,7 +643,6 @@ def direct(monkeypatch):
     """The tool's functions, which read each text once, since there are tens of thousands of calls."""
     from exchange import common, exporting, importing, texts
 
-    os.environ["RESB"] = PROGRAM
     tree_of = functools.lru_cache(maxsize=8)(texts.tree_of)
     bundle_of = functools.lru_cache(maxsize=8)(lambda data, path: texts.bundle_of(data, path, tree_of(data, path)))
     monkeypatch.setattr(importing, "tree_of", tree_of)
@@ -790,8 +665,8 @@ def out_and_in(at, direct, kind, name, wanted):
     for into in ("bare", "copy"):
         with contextlib.redirect_stderr(io.StringIO()):
             direct.bring(argparse.Namespace(**options, **more, into=at.path(into)))
-    assert listed_strings(direct.tree_of(at.read("bare"), "bare")) == wanted, (kind, name)
-    assert at.read("copy") == at.read(name), (kind, name)
+    assert listed_strings(direct.tree_of(at.get("bare"), "bare")) == wanted, (kind, name)
+    assert at.get("copy") == at.get(name), (kind, name)
     return True
 
 
@@ -802,9 +677,9 @@ def test_every_bundle_of_icu(at, direct, tree):
     counts = dict.fromkeys(FORMATS, 0)
     names = sorted(name for name in os.listdir(at.folder) if name.endswith(".txt"))
     for name in names:
-        wanted = listed_strings(direct.tree_of(at.read(name), name))
-        at.save("copy", at.read(name))  # the source itself can't be replaced
+        wanted = listed_strings(direct.tree_of(at.get(name), name))
+        at.put("copy", at.get(name))  # the source itself can't be replaced
         for kind in FORMATS if wanted else ():
-            at.save("bare", f"{name.removesuffix('.txt')} {{}}")
+            at.put("bare", f"{name.removesuffix('.txt')} {{}}")
             counts[kind] += out_and_in(at, direct, kind, name, wanted)
     print(tree, len(names), "bundles;", ", ".join(f"{kind}: {count} round trips" for kind, count in counts.items()), flush=True)

@@ -8,8 +8,8 @@ import tempfile
 import time
 
 import pytest
-from model import files, texts
-from support.program import MEGABYTE, Skipped, least_memory, limited, limited_output
+from model import files
+from support.program import MEGABYTE, Skipped, least_memory, limited, limited_output, rows
 from support.server import SETTINGS, Server, limit_words, line_of, reply_of
 from support.texts import big
 
@@ -20,8 +20,6 @@ NUMBERS = ("--app-bytes", "--bundle-bytes", "--reply-bytes", "--line-bytes", "--
 OK = {"ok": True}
 SMALL = "x{}"  # its file has 56 bytes, the fewest that there are
 TEXT = 'de{a{"b"}}'  # 10 bytes, and its file 76
-LONG = TEXT + "/*" + "x" * 100 + "*/"  # 114 bytes, and the same file
-FILE = files.write(texts.read(TEXT.encode())).hex()
 FOUND = {"actual": "de", "type": "string", "valid": "de", "value": "b"}  # a line of 57 bytes
 
 
@@ -75,32 +73,6 @@ def serves(resb, arguments, pairs):
     assert (status, len(replies), errors) == (0, len(pairs), b"")
 
 
-CHAIN = install("shop", "root", 'root{b{"B"} x:alias{"de/a"}}')
-# a limit, its value, what comes before, the request, the error below the value, and the answer at it
-AT_VALUES = [
-    ("--app-bytes", 76, [], install("shop", "de"), "OverQuota", OK),
-    ("--app-bytes", 152, [(install("shop", "de"), OK)], install("shop", "fr"), "OverQuota", OK),
-    ("--app-bytes", 76, [], install_file("shop", "de", FILE), "OverQuota", OK),
-    ("--app-bytes", 80, [], install_file("shop", "de", FILE + "00112233"), "OverQuota", OK),
-    ("--bundle-bytes", 76, [], install("shop", "de"), "BundleTooLong", OK),
-    ("--bundle-bytes", 114, [], install("shop", "de", LONG), "BundleTooLong", OK),
-    ("--bundle-bytes", 76, [], install_file("shop", "de", FILE), "BundleTooLong", OK),
-    ("--bundle-bytes", 76, [], install_file("shop", "de", "00" * 76), "BundleTooLong", refused("BadFile")),
-    ("--bundle-bytes", 12, [], install("shop", "de", "de{a{" + " " * 7), "BundleTooLong", refused("BadText")),
-    ("--reply-bytes", 57, [(install("shop", "de"), OK)], look("shop", "de", "a"), "ReplyTooLong", FOUND),
-    ("--reply-bytes", 17, [(install("shop", "de"), OK)], names("shop"), "ReplyTooLong", {"names": ["de"]}),
-    ("--line-bytes", len(line_of(install("shop", "de"))), [], install("shop", "de"), "LineTooLong", OK),
-    ("--line-bytes", 1000, [], b" " * 1000, "LineTooLong", refused("BadLine")),
-    ("--apps", 2, [(install("shop", "de"), OK), (install("bank", "de", SMALL), OK)], install("bank", "fr"), None, OK),
-    ("--apps", 2, [(install("shop", "de"), OK)], install("bank", "de"), "TooManyApps", OK),
-    ("--steps", 6, [(install("shop", "de"), OK)], look("shop", "de_AT", "a"), "TooManySteps", FOUND),
-    ("--steps", 3, [(install("shop", "de"), OK)], look("shop", "de_AT", ""), "TooManySteps", {"actual": "de", "keys": ["a"], "type": "table", "valid": "de"}),
-    ("--steps", 6, [], look("bank", "de_AT", "a"), "TooManySteps", refused("NoBundle")),
-    ("--steps", 12, [(install("shop", "de"), OK)], look("shop", "de_AT", "a/b/c"), "TooManySteps", refused("Missing")),
-    ("--steps", 8, [(install("shop", "de"), OK), (CHAIN, OK)], look("shop", "de", "x"), "TooManySteps", FOUND),
-]
-
-
 def putting(locale, text=TEXT):
     """A change of a release."""
     return {"locale": locale, "text": text}
@@ -133,41 +105,20 @@ def long_tree(missing):
     return install("long", "root", bundle), {"actual": "root", "tree": value, "valid": "root"}
 
 
-ONE, TWO = (install("shop", "de"), OK), release("shop", putting("de"), putting("fr"))
-SIZES, EXPORT = {"op": "list", "app": "shop", "sizes": True}, {"op": "export", "app": "shop", "locale": "de"}
-MERGED, INNER = {"actual": "de", "tree": {"a": "b", "b": "B", "x": "b"}, "valid": "de"}, {"actual": "de", "tree": "b", "valid": "de"}
-# as above, for extended requests; the sum of a release counts at its end, not on the way
-EXTENDED_AT_VALUES = [
-    ("--app-bytes", 152, [], TWO, "OverQuota", OK),
-    ("--app-bytes", 76, [ONE], release("shop", putting("fr"), removing("de")), None, OK),
-    ("--app-bytes", 152, [ONE], release("shop", putting("fr"), removing("fr"), putting("it")), "OverQuota", OK),
-    ("--app-bytes", 132, [ONE], release("shop", putting("de", SMALL), putting("fr")), "OverQuota", OK),
-    ("--bundle-bytes", 76, [], TWO, {"error": "BundleTooLong", "index": 0}, OK),
-    ("--bundle-bytes", 114, [], release("shop", putting("fr", SMALL), putting("de", LONG)), {"error": "BundleTooLong", "index": 1}, OK),
-    ("--apps", 2, [ONE], release("bank", putting("de")), "TooManyApps", OK),
-    ("--apps", 1, [ONE], release("bank", putting("de"), removing("de")), None, OK),
-    ("--line-bytes", len(line_of(TWO)), [], TWO, "LineTooLong", OK),
-    ("--reply-bytes", 41, [ONE], SIZES, "ReplyTooLong", {"bundles": [{"bytes": 76, "locale": "de"}]}),
-    ("--reply-bytes", 164, [ONE], EXPORT, "ReplyTooLong", {"file": FILE}),
-    ("--reply-bytes", 38, [ONE], {**EXPORT, "as": "text"}, "ReplyTooLong", {"text": 'de {\n    a { "b" }\n}\n'}),
-    ("--reply-bytes", 46, [ONE], tree("shop", "de"), "ReplyTooLong", TREE),
-    ("--reply-bytes", 40, [ONE], tree("shop", "de", path="a"), "ReplyTooLong", INNER),
-    # the lookup takes 3 steps, one for each name; the tree as many and one for each key
-    ("--steps", 4, [ONE], tree("shop", "de_AT"), "TooManySteps", TREE),
-    ("--steps", 6, [ONE], tree("shop", "de_AT", path="a"), "TooManySteps", INNER),
-    # 3 names; `a` at two tables, `b` and `x` at one; the alias, and 2 names times 2 for where it leads
-    ("--steps", 12, [ONE, (CHAIN, OK)], tree("shop", "de_AT"), "TooManySteps", MERGED),
-    ("--line-bytes", len(line_of(tree("shop", "de"))), [], tree("shop", "de"), "LineTooLong", refused("NoBundle")),
-]
+ONE = (install("shop", "de"), OK)
 
 
-@pytest.mark.parametrize("words, row", [*(([], row) for row in AT_VALUES), *((["--extended"], row) for row in EXTENDED_AT_VALUES)])
-def test_at_value(resb, words, row):
-    """Each limit at its value and one above is kept, and one below refuses."""
-    limit, value, before, asked, error, answer = row
-    for number in range(max(value - 1 if error else value, 1), value + 2):
-        refusal = error if isinstance(error, dict) else refused(error)
-        serves(resb, [*words, limit, str(number)], [*before, (asked, refusal if number < value else answer)])
+def line_in(row):
+    """Returns a request of a row; a text is the line itself."""
+    return row.encode() if isinstance(row, str) else row
+
+
+@pytest.mark.parametrize("row", rows("limits/at_values.jsonl"), ids=lambda row: f"{row['limit']}={row['value']}")
+def test_at_value(resb, row):
+    """Each limit at its value and one above is kept, and one below refuses, if the row has an error. The sum of a release counts at its end."""
+    for number in range(max(row["value"] - ("error" in row), 1), row["value"] + 2):
+        answer = row["error"] if number < row["value"] else row["answer"]
+        serves(resb, [*row.get("options", ()), row["limit"], str(number)], [*row.get("before", ()), (line_in(row["asked"]), answer)])
 
 
 def test_full_releases(resb):
@@ -182,13 +133,7 @@ def test_full_releases(resb):
         (release("shop", *[removing("de")] * 5000), {"error": "Absent", "index": 1}), (names("bank"), {"names": []})])
 
 
-def test_refusals_of_trees(resb):
-    serves(resb, ["--extended", "--steps", "1", "--reply-bytes", "1"], [
-        ONE, (tree("a b", "de"), refused("BadApp")), (tree("ICUDATA", "de"), refused("Reserved")), (tree("shop", "d"), refused("BadLocale")),
-        (tree("shop", "de", path="a//b"), refused("BadPath")), (tree("shop", "de"), refused("TooManySteps")),
-        (tree("shop", "root"), refused("NoBundle")), (tree("shop", "de", path="a" * 1025), refused("PathTooLong"))])
-    serves(resb, ["--extended", "--reply-bytes", "1"], [
-        ONE, (tree("shop", "de"), refused("ReplyTooLong")), (tree("shop", "de", path="b"), refused("Missing"))])
+def test_the_largest_trees(resb):
     for missing in (0, 1):
         request, longest = long_tree(missing)
         length = len(reply_of(longest))
@@ -208,62 +153,15 @@ def test_refusals_of_trees(resb):
     serves(resb, ["--extended", "--reply-bytes", str(TREE_LIMIT)], [(longer, OK), (tree("long", "de"), refused("ReplyTooLong"))])
 
 
-# requests that no limit applies to, and refusals that come before those of a limit
-NOT_REFUSED = [
-    (["--reply-bytes", "1"], [
-        (install("shop", "de"), OK), (replace("shop", "de"), OK), (install("shop", "de"), refused("Exists")), (b"", refused("BadLine")),
-        (look("shop", "de", "a/b/c"), refused("Missing")), (names("shop"), refused("ReplyTooLong")), (names("a b"), refused("BadApp")),
-        (usage("shop"), used(76, 1)), (usage("ICUDATA"), refused("Reserved")), (remove("shop", "de"), OK)]),
-    (["--steps", "1"], [
-        (look("a b", "de", "a"), refused("BadApp")), (look("ICUDATA", "de", "a"), refused("Reserved")),
-        (look("shop", "d", "a"), refused("BadLocale")), (look("shop", "de", "a//b"), refused("BadPath")),
-        (look("shop", "de", "a"), refused("TooManySteps")), (look("shop", "root", ""), refused("NoBundle")),
-        (look("shop", "de", "a" * 1025), refused("PathTooLong")),
-        (install("shop", "xa", 'xa{%%Parent{"xb"}}'), OK), (install("shop", "xb", 'xb{%%Parent{"xa"}}'), OK),
-        (look("shop", "xa", "a"), refused("Chain"))]),
-    (["--bundle-bytes", "75"], [
-        (install("a b", "de", LONG), refused("BadApp")), (install("ICUDATA", "de", LONG), refused("Reserved")),
-        (install("shop", "d", LONG), refused("BadLocale")), (install("shop", "de", LONG + "}"), refused("BundleTooLong")),
-        (install("shop", "de", "}"), refused("BadText")), (replace("shop", "de"), refused("Absent")), (install("shop", "de", SMALL), OK),
-        (install("shop", "de"), refused("Exists")), (replace("shop", "de"), refused("BundleTooLong")),
-        (install("shop", "fr"), refused("BundleTooLong")), (replace("shop", "de", LONG), refused("BundleTooLong")),
-        ({**install("shop", "de"), "file": FILE}, refused("BadLine")), (names("shop"), {"names": ["de"]})]),
-    (["--app-bytes", "75", "--apps", "1"], [
-        (replace("shop", "de"), refused("Absent")), (install("shop", "de"), refused("OverQuota")), (install("shop", "de", SMALL), OK),
-        (install("shop", "de"), refused("Exists")), (install("bank", "de"), refused("OverQuota")),
-        (install("bank", "de", SMALL), refused("TooManyApps")), (remove("bank", "de"), refused("Absent")),
-        (look("bank", "de", "a"), refused("NoBundle")), (names("bank"), {"names": []}), (usage("bank"), used(0, 0)),
-        (remove("shop", "de"), OK), (install("bank", "de", SMALL), OK), (install("shop", "de", SMALL), refused("TooManyApps"))]),
-    (["--bundle-bytes", "75", "--app-bytes", "75", "--apps", "1"], [
-        (install("shop", "de", SMALL), OK), (install("bank", "de"), refused("BundleTooLong"))]),
-    (["--bundle-bytes", "60"],
-           [(install("shop", f"aa_{number}", SMALL), OK) for number in range(4096)]
-           + [(install("shop", "de"), refused("Full")), (install("shop", "aa_1"), refused("Exists"))]),
-    ([], [(usage("shop"), refused("BadLine")), (install("shop", "de"), OK), (usage("shop"), refused("BadLine"))]),
-    (["--keep-serving"], [
-        (usage("shop"), used(0, 0)), (usage("a b"), refused("BadApp")), (usage(""), refused("BadApp")),
-        (usage("ICUDATA"), refused("Reserved")), ({"op": "usage"}, refused("BadLine")),
-        ({"op": "usage", "app": 1}, refused("BadLine"))]),
-    *(([limit, str(MOST)], [ONE, (usage("shop"), used(76, 1)), (look("shop", "de", "a"), FOUND)]) for limit in NUMBERS),
-]
+@pytest.mark.parametrize("row", rows("limits/refusals.jsonl"), ids=lambda row: " ".join(row["options"]))
+def test_refusals(resb, row):
+    """Requests that no limit applies to, and refusals that come before those of a limit."""
+    serves(resb, row["options"], [(line_in(request), answer) for request, answer in row["pairs"]])
 
 
-@pytest.mark.parametrize("arguments, pairs", NOT_REFUSED, ids=lambda value: " ".join(value) if value and isinstance(value[0], str) else "")
-def test_not_refused(resb, arguments, pairs):
-    serves(resb, arguments, pairs)
-
-
-def test_at_the_quota(resb):
-    """At the quota a bundle gives way to a smaller one, not to a larger one, and what is removed can be installed again."""
-    serves(resb, ["--app-bytes", "152"], [
-        (install("shop", "de"), OK), (install("shop", "fr"), OK), (usage("shop"), used(152, 2)),
-        (install("shop", "it", SMALL), refused("OverQuota")), (replace("shop", "de", 'de{a{"c"}}'), OK), (usage("shop"), used(152, 2)),
-        (replace("shop", "de", 'de{a{"bcd"}}'), refused("OverQuota")), (look("shop", "de", "a"), {**FOUND, "value": "c"}),
-        (replace("shop", "de", SMALL), OK), (usage("shop"), used(132, 2)), (install("shop", "it", SMALL), refused("OverQuota")),
-        (replace("shop", "de"), OK), (usage("shop"), used(152, 2)), (look("shop", "de", "a"), FOUND),
-        (remove("shop", "fr"), OK), (usage("shop"), used(76, 1)), (install("shop", "fr"), OK), (usage("shop"), used(152, 2)),
-        (install("bank", "de"), OK), (install("bank", "fr"), OK), (usage("bank"), used(152, 2)), (remove("shop", "de"), OK),
-        (remove("shop", "fr"), OK), (usage("shop"), used(0, 0)), (names("shop"), {"names": []}), (usage("bank"), used(152, 2))])
+def test_full_before_a_limit(resb):
+    full = [(install("shop", f"aa_{number}", SMALL), OK) for number in range(4096)]
+    serves(resb, ["--bundle-bytes", "60"], [*full, (install("shop", "de"), refused("Full")), (install("shop", "aa_1"), refused("Exists"))])
 
 
 def test_long_line(program):

@@ -8,23 +8,22 @@ import pathlib
 import queue
 import random
 import re
-import shutil
 import subprocess
 import sys
 import threading
 import time
 
 import pytest
+from support import icu
+from support.pages import inline
+from support.program import TOP, need, rows
 
-TOP = pathlib.Path(__file__).resolve().parent.parent
 SERVER = TOP / "tools" / "resb-lsp"
 sys.path.insert(0, str(TOP / "tools"))
 
 from lsp import diagnostics, messages, settings  # noqa: E402
 from lsp.scanner import scan, text_value  # noqa: E402
 from lsp.text import Text  # noqa: E402
-from support import icu  # noqa: E402
-from support.pages import inline  # noqa: E402
 
 SECONDS = 300
 EDITS, AT_ONCE = 10_000, 20
@@ -145,35 +144,14 @@ def edited(content, edits):
     return content
 
 
-ROOT = """root {
-    menu {
-        open { "Open" }
-        close { "Close" }
-    }
-    old:alias { "/LOCALE/menu/open" }
-    files { "{n, plural, one {# file} other {# files}} of {who}" }
-    title { "Title" }
-}
-"""
-DE = """de {
-    menu {
-        open { "Öffnen" }
-    }
-    files { "{n, plural, one {# Datei} other {# Dateien}} von {who}" }
-    title { "Title" }
-}
-"""
-DE_AT = """de_AT {
-    menu { open { "Öffnen" } }
-    files { "{n, plural, one {# Datei} other {# Dateien}} von {wer}" }
-}
-"""
+TEXTS = {name: (TOP / "tests" / "lsp" / f"{name}.txt").read_text(encoding="utf-8") for name in ("root", "de", "de_AT")}
+ROOT, DE = TEXTS["root"], TEXTS["de"]
 
 
 @pytest.fixture
 def module(tmp_path):
     """A folder with the texts of a module."""
-    for name, text in (("root", ROOT), ("de", DE), ("de_AT", DE_AT)):
+    for name, text in TEXTS.items():
         (tmp_path / f"{name}.txt").write_text(text, encoding="utf-8")
     return tmp_path
 
@@ -364,22 +342,10 @@ def test_references_and_rename(client, module):
     assert refused["error"]["message"] == "root.txt has close already"
 
 
-@pytest.mark.parametrize(
-    "text, line, character, labels",
-    [
-        ("de {\n    \n}", 1, 4, {"menu", "old", "files", "title"}),
-        ("de {\n    menu { cl }\n}", 1, 13, {"open", "close"}),
-        ('de {\n    menu { open { "x" }\n     \n}}', 2, 4, {"close"}),
-        ("de {\n    a:in\n}", 1, 8, {"string", "alias", "bin", "binary", "int", "integer", "intvector", "table", "array"}),
-        ('de {\n    %%Parent { "d\n}', 1, 17, {"de_AT", "root"}),
-        ('de {\n    files { "{" }\n}', 1, 14, {"n", "who"}),
-        ('de {\n    files { "{n, plural, one {x} " }\n}', 1, 33, {"one", "other"}),
-        ('de {\n    title { "a b" }\n}', 1, 15, set()),
-    ],
-)
-def test_completion(client, module, text, line, character, labels):
-    name = client.open(module / "de.txt", text)
-    assert {it["label"] for it in client.at("completion", name, line, character)} == labels
+@pytest.mark.parametrize("row", rows("lsp/completions.jsonl"))
+def test_completion(client, module, row):
+    name = client.open(module / "de.txt", row["text"])
+    assert {it["label"] for it in client.at("completion", name, row["line"], row["character"])} == set(row["labels"])
 
 
 def test_symbols_and_foldings(client, module):
@@ -413,30 +379,10 @@ def test_formatting(client, module, program):
     assert client.ask("textDocument/formatting", {"textDocument": {"uri": name}, "options": {}}) == []
 
 
-FIXES = [
-    ('de { a { "un", "deux" "trois" } }', "joined-strings", 'de { a { "un", "deux", "trois" } }'),
-    ('de { a { "un" deux } }', "mixed-quotes", 'de { a { "un deux" } }'),
-    ('de {\n    a { "un }\n    b { "deux" }\n    c { "x }\n}\n', "open-quote", None),
-    ('de { a { "C:\\quit" } }', "unknown-escape", 'de { a { "C:\\\\quit" } }'),
-    ('de { a { "\\\\u00E9" } }', "doubled-backslash", 'de { a { "\\u00E9" } }'),
-    ('fr { a { "x" } }', "bundle-name", 'de { a { "x" } }'),
-    ('de { a { "x" }; b { "y" } }', "suspicious-key", 'de { a { "x" } b { "y" } }'),
-    ('de { a=b { "x" } }', "suspicious-key", 'de { "a=b" { "x" } }'),
-    ("de { a { 'x' } }", "other-quotes", 'de { a { "x" } }'),
-    ("de { a { „x y“ } }", "other-quotes", 'de { a { "x y" } }'),
-    ('de { a { "x \u202e y" } }', "open-direction", 'de { a { "x \\u202E y" } }'),
-    ('de { a { "{n, plural, one {x}}" } }', "missing-other", 'de { a { "{n, plural, one {x} other {x}}" } }'),
-    ('ru { a { "{n, plural, one {x} few {y} other {z}}" } }', "missing-category", None),
-    ('de { a { "{n, plural, zero {x} one {y} other {z}}" } }', "unused-category", 'de { a { "{n, plural, =0 {x} one {y} other {z}}" } }'),
-    ("de { a { \"d'{0} {1}\" } }", "quoted-argument", "de { a { \"d''{0} {1}\" } }"),
-    ('de { a { "{0} of 1}" } }', "stray-brace", "de { a { \"{0} of 1'}'\" } }"),
-    ('de { a { "0} of {1}" } }', "stray-brace", "de { a { \"0'}' of {1}\" } }"),
-]
-
-
-@pytest.mark.parametrize("text, rule, wanted", FIXES, ids=[f"{rule}-{index}" for index, (_, rule, _) in enumerate(FIXES)])
-def test_quick_fixes(program, tmp_path, text, rule, wanted):
+@pytest.mark.parametrize("row", rows("lsp/fixes.jsonl"), ids=lambda row: row["rule"])
+def test_quick_fixes(program, tmp_path, row):
     """A fix takes its warning away; where the page of warnings shows a text, it is that text."""
+    text, rule = row["text"], row["rule"]
     path = tmp_path / ("ru.txt" if text.startswith("ru") else "de.txt")
     with Client(program, tmp_path) as client:
         name = client.open(path, text, language=LANGUAGE)
@@ -446,7 +392,7 @@ def test_quick_fixes(program, tmp_path, text, rule, wanted):
         allowing = [it for it in actions if it["title"] == f"Allow {rule} here"]
         actions = [it for it in actions if it not in allowing]
         after = edited(text, actions[0]["edit"]["changes"][name])
-        assert wanted in (None, after)
+        assert row["wanted"] in (None, after)
         client.change(name, 2, {"text": after})
         assert len([it for it in client.diagnostics(name, 2) if it["code"] == rule]) == len(found) - 1
         if allowing and rule not in ("open-quote", "bundle-name"):
@@ -493,20 +439,10 @@ def test_settings(client, tmp_path_factory):
     assert client.diagnostics(client.open(inner, "de {"), None) == []
     name = client.open(top / "resb.toml")
     assert client.diagnostics(name, 1) == []
-    cases = [
-        ('[[module]]\nfolder = "texts\n', 1, "Illegal character '\\n'"),
-        ('[[module]]\nfolder = "texts/shop"\n', 0, "there is no file of the root"),
-        ('\n[[module]]\nroot = "base.txt"\n', 1, "a module has either a folder or patterns"),
-        ('[[module]]\nfolder = "."\nroot = "base.txt"\n[[module]]\nfolder = 1\n', 4, "the value is a string"),
-        ("module = 1\n", 0, "the value is an array of tables"),
-        ('[lint]\nallow = []\n deny = ["no-such-warning"]\n', 2, "no warning has this name"),
-        ("[lint]\nalow = []\n", 1, "this name has no meaning here"),
-        ("[fmt]\n\nindent = 17\n", 2, "the value is a number from 1 to 16"),
-    ]
-    for version, (content, line, message) in enumerate(cases, 2):
-        client.change(name, version, {"text": content})
+    for version, row in enumerate(rows("lsp/settings.jsonl"), 2):
+        client.change(name, version, {"text": row["text"]})
         (found,) = client.diagnostics(name, version)
-        assert found["range"]["start"]["line"] == line and found["message"].startswith(message), found
+        assert found["range"]["start"]["line"] == row["line"] and found["message"].startswith(row["message"]), found
 
 
 def test_messages():
@@ -558,10 +494,10 @@ def test_cancellation(client, module):
     assert all("result" in reply for reply in replies[:-1])
 
 
-@pytest.mark.parametrize("line", (TOP / "tests" / "lsp" / "handshakes.jsonl").read_text(encoding="utf-8").splitlines(), ids=lambda line: json.loads(line)["editor"].split()[0])
-def test_handshakes(program, module, line):
+@pytest.mark.parametrize("row", rows("lsp/handshakes.jsonl"), ids=lambda row: row["editor"].split()[0])
+def test_handshakes(program, module, row):
     """The first messages of each editor are answered, with what it opens and how it ends."""
-    session = json.loads(line.replace("FOLDER_URI", uri(module)).replace("FOLDER", str(module)))
+    session = json.loads(json.dumps(row).replace("FOLDER_URI", uri(module)).replace("FOLDER", str(module)))
     with Client(program) as client:
         for message in session["messages"]:
             client.send(message)
@@ -745,37 +681,15 @@ def test_keystrokes_in_a_large_text(program, tmp_path):
     assert min(times) < 0.2
 
 
-# --- Neovim
-
-
-NEOVIM = """
-vim.g.resb_lsp = { '%(python)s', '%(server)s' }
-vim.cmd('%(set)s')
-vim.cmd('runtime plugin/resb.lua')
-vim.cmd('edit de.txt')
-vim.wait(100000, function() return #vim.diagnostic.get(0) > 0 end, 20)
-local found = {}
-for _, it in ipairs(vim.diagnostic.get(0)) do
-    table.insert(found, { it.lnum, it.col, it.code or it.user_data.lsp.code, it.message })
-end
-if vim.lsp.buf.format then
-    vim.lsp.buf.format({ timeout_ms = 60000 })
-else
-    vim.lsp.buf.formatting_sync(nil, 60000)
-end
-local report = { diagnostics = found, text = vim.api.nvim_buf_get_lines(0, 0, -1, false), filetype = vim.bo.filetype }
-vim.fn.writefile({ vim.json.encode(report) }, 'report.json')
-vim.cmd('qall!')
-"""
+# --- Neovim and VS Code
 
 
 def test_neovim(program, module):
     """Neovim shows diagnostics and formats, with the plugin of this repository, set up as docs/EDITORS.md says."""
-    if not shutil.which("nvim"):
-        pytest.skip("nvim is missing")
+    need("nvim")
     (module / "de.txt").write_text('de { menu { open { "O", "P" "Q" } } files{"{n}{who}"} title{"T"} }\n', encoding="utf-8")
     values = {"python": sys.executable, "server": SERVER, "set": inline("docs/EDITORS.md", "set runtimepath").replace("/usr/share/resb", str(TOP))}
-    (module / "run.lua").write_text(NEOVIM % values, encoding="utf-8")
+    (module / "run.lua").write_text((TOP / "tests" / "lsp" / "neovim.lua").read_text(encoding="utf-8") % values, encoding="utf-8")
     env = {**os.environ, "RESB": program, "XDG_STATE_HOME": str(module), "XDG_CACHE_HOME": str(module)}
     command = ["nvim", "--headless", "-n", "-u", "NONE", "-i", "NONE", "-c", "luafile run.lua"]
     subprocess.run(command, cwd=module, env=env, check=True, timeout=SECONDS, capture_output=True)
@@ -787,8 +701,7 @@ def test_neovim(program, module):
 
 def test_extension(program, module):
     """The extension for VS Code shows what the server says, over a stand-in for the editor."""
-    if not shutil.which("node"):
-        pytest.skip("node is missing")
+    need("node")
     command = ["node", TOP / "tests" / "lsp" / "extension.js", sys.executable, SERVER, module]
     done = subprocess.run(command, env={**os.environ, "RESB": program}, capture_output=True, text=True, check=True, timeout=SECONDS)
     found = json.loads(done.stdout)
