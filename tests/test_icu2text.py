@@ -18,6 +18,8 @@ STRING, BINARY, TABLE, ALIAS, TABLE32, TABLE16, STRING_V2, INT, ARRAY, ARRAY16, 
 NO_FALLBACK, IS_POOL, USES_POOL = 1, 2, 4
 CHECKSUM, MOST = 0xC0FFEE, 8388608
 DAMAGED = 400
+# the texts of the files that `everything` and `user` make
+EVERYTHING, USER = ((TOP / "tests" / "icu2text" / name).read_text(encoding="utf-8") for name in ("everything.txt", "user.txt"))
 
 
 def units_of(text):
@@ -109,36 +111,6 @@ def everything(version, order="<"):
     return file.end(file.table(**items))
 
 
-EVERYTHING = """\
-de {
-    a { "x\\"\\\\\U0001F600\\ud800" }
-    b:bin { "00ff7f" }
-    c {
-        a { "1" }
-        b { "2" }
-    }
-    d:alias { "/LOCALE/a" }
-    e:int { -5 }
-    f {
-        "",
-        :int { 5 },
-        :array {
-        },
-        {
-            k { "" }
-        },
-    }
-    g:intvector { 7, -1 }
-    h:table {
-    }
-    i:array {
-    }
-    j:intvector { }
-    k:bin { "" }
-}
-"""
-
-
 def pool(order="<", checksum=CHECKSUM):
     """Returns a pool bundle with the keys x and yy and the string "pooled" at unit 1."""
     file = File((3, 0), order, "x yy", [0, *units_of("pooled"), 0], IS_POOL | NO_FALLBACK)
@@ -156,18 +128,6 @@ def user(order="<", limit=8, limit16=8, string=1):
     keys = file.pack("I", 3, file.key("b"), 0x80000000, 0x80000002)
     items = file.pack("I", TABLE16 << 28 | 6, STRING_V2 << 28 | limit + 1, STRING_V2 << 28 | 1)
     return file.end(file.put(TABLE32, keys, items))
-
-
-USER = """\
-de {
-    b {
-        x { "pooled" }
-        yy { "mine" }
-    }
-    x { "mine" }
-    yy { "pooled" }
-}
-"""
 
 
 def package(items, order="<", version=(1, 0)):

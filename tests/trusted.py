@@ -6,7 +6,7 @@ usage: tests/trusted.py [--inner]
 Prints three numbers for each crate, and at last for all: how many lines the contracts of the core's calls reach, how many more those of
 all other calls, and how many more those of laws. The core is texts, files, items, names, lookups, requests and the lines of `serve`
 without limits. Limits, extended requests, drafts of releases, open locales, trees, JSON that is read, formatting, messages, commands
-and the library are in BEYOND. With --inner it prints the files of specs/ that are in the wrong place, with status 1 if there is
+and the library are in trusted.json. With --inner it prints the files of specs/ that are in the wrong place, with status 1 if there is
 any: what no public contract reaches serves only proofs and private functions, and is in specs/inner/.
 
 A line counts if it is not blank, no comment and no `use`. Public are the items that a crate's lib.rt names, with the methods of its types
@@ -15,6 +15,7 @@ toolchain's library, and those that only say why a recursion ends.
 """
 
 import collections
+import json
 import pathlib
 import re
 import sys
@@ -22,45 +23,7 @@ import sys
 CRATES = pathlib.Path(__file__).resolve().parent.parent / "crates"
 
 # Parts of crates beyond the core: all, or some types, functions and clauses (FUNCTION.CLAUSE).
-BEYOND = {
-    "rb_arguments": "all",
-    "rb_compiler": "all",
-    "rb_console": "all",
-    "rb_convert": "all",
-    "rb_coverage": "all",
-    "rb_engine": {
-        "put", "usage", "file_len", "apps", "look_within", "bundle", "sizes", "shelves", "AppShelves",
-        "judge", "ReadFault", "draft", "release", "open_locale", "OpenLocale", "Stale", "look_at", "find_at", "find_kept", "look_kept",
-        "keep_locales", "keep_open", "keep_items", "keep_item", "keep_hints", "fetch", "gains_by_fetch", "Upcoming",
-    },
-    "rb_explain": "all",
-    "rb_fallback": {"look_watched", "look_within", "look_from", "find_from", "Watch"},
-    "rb_fmt": "all",
-    "rb_handle": "all",
-    "rb_inherit": "all",
-    "rb_inspect": "all",
-    "rb_json": {"put_value", "put_leaf", "put_key", "Outlet"},
-    "rb_json_reader": "all",
-    "rb_layout": "all",
-    "rb_lexer": {"Tokens"},
-    "rb_lint": "all",
-    "rb_messages": "all",
-    "rb_packages": {"usage", "file_len", "apps", "Draft", "DraftFault", "draft", "release", "BundleHint", "shelf_near"},
-    "rb_parser": {"parse_unweighed"},
-    "rb_printer": "all",
-    "rb_project": "all",
-    "rb_replies": {
-        "found_is_above", "reply_is_above", "put_usage", "Detail", "file_is_above", "put_file", "put_refusal", "put_sizes",
-        "put_stored", "put_text", "put_tree_line", "sizes_are_above", "text_is_above", "tree_is_above",
-    },
-    "rb_requests": {"serve_limited", "serve_extended", "handle", "put", "look", "limited", "extended_isolated"},
-    "rb_review": "all",
-    "rb_settings": "all",
-    "rb_tool": "all",
-    "rb_validator": {"blocks"},
-    "resb": "all",
-    "rb_writer": {"write.front", "write.end", "write.longest", "write.bytes", "write_if_light"},
-}
+BEYOND = json.loads(pathlib.Path(__file__).with_suffix(".json").read_text(encoding="utf-8"))
 
 HEAD = re.compile(r"(abbrev|unfoldable|pub|data|record|mutual)\b")
 NAMED = re.compile(r"^\s*(?:(?:abbrev|unfoldable|pub|data|record)\s+)+(\S+)")
