@@ -19,21 +19,6 @@ from concurrent.futures import ThreadPoolExecutor
 from support.program import PROGRAM, TOP, rows
 
 ROWS = TOP / "tests" / "faults.jsonl"
-# Perl starts in 2 ms. A fault is in commands whose words match, and changes $out, $err, $status, or files.
-STAND_IN = r"""#!/usr/bin/perl
-my @real = (PROGRAM, @ARGV);
-exec @real unless "@ARGV" =~ m{MATCH};
-# with standard output closed this script is opened in its place
-if (!defined fileno(STDOUT) || (stat(STDOUT))[1] == (stat($0))[1]) { close(STDOUT); exec @real }
-my %before = map { $_ => -M $_ } grep { -e } @ARGV;
-my $child = fork();
-if (!$child) { open(STDOUT, '>', "FOLDER/out$$"); open(STDERR, '>', "FOLDER/err$$"); exec @real }
-waitpid($child, 0);
-my ($status, $out, $err) = ($? >> 8);
-for (['out', \$out], ['err', \$err]) { open(my $f, '<', "FOLDER/$$_[0]$child"); local $/; ${$$_[1]} = <$f> // ''; unlink "FOLDER/$$_[0]$child" }
-CODE;
-syswrite(STDOUT, $out) if length $out; syswrite(STDERR, $err) if length $err; exit $status;
-"""
 # the tests that run a command: files, and parts of commands/
 TESTS = {
     "lint": "lint commands[lint] commands[lint_options] commands[lint_root]", "coverage": "commands[coverage] coverage", "diff": "commands[diff] diff",
@@ -49,7 +34,9 @@ SLOW = " and ".join(f"not {word}" for word in (
 def stand_in(folder, program, row):
     """Returns the path of a program with a fault."""
     path, match = os.path.join(folder, "resb"), row["commands"].replace("{", "\\{")
-    text = STAND_IN.replace("CODE", row["change"]).replace("MATCH", match).replace("FOLDER", folder).replace("PROGRAM", f"'{program}'")
+    text = (TOP / "tests" / "faults.pl").read_text(encoding="utf-8")
+    for word, value in (("CODE", row["change"]), ("MATCH", match), ("FOLDER", folder), ("PROGRAM", f"'{program}'")):
+        text = text.replace(word, value)
     with open(path, "w", encoding="utf-8") as file:
         file.write(text)
     os.chmod(path, 0o755)

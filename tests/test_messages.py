@@ -11,24 +11,11 @@ import pytest
 from hypothesis import given
 from model.trees import units_of
 from support import making
+from support.program import TOP
 
 AT_ONCE, BEFORE = 1000, "{t, number}"
-
-WRITTEN = [
-    "", "{0}", "Hello {name}!", "{n, plural, one {# file} other {# files}}", "{n,plural,offset:1 =0{none}=1{one}one{# a}other{# b}}",
-    "{g, select, female {She} male {He} other {They}} came", "{n, selectordinal, one {#st} two {#nd} few {#rd} other {#th}}", "{0,number}",
-    "{0, number, ::compact-short}", "{0,number,#,##0.00}", "{0,number,integer}", "{d, date, short}", "{d, date, ::yMMMd}", "{d,time,HH:mm}",
-    "{0,spellout}", "{0,ordinal}", "{0,duration}", "{0,choice,0#none|1#one|1<many {0}}", "It''s {0}", "it's {0}", "'{0}' is {0}", "'{'0'}'", "a } b",
-    "}{0}", "{g, select, a {{n, plural, one{x{0}} other{y '#' #}}} other {z}}", "{n,plural,other{'#'{0,date,''yy''}}}", "{0,date,yyyy'}'}",
-    "{0,choice,-1#a|\u221e<b|0\u2264c}", "{ 0 , number , percent }", "{\u00e4b, plural, other{\u2028x}}", "don't '{' do '}' that", "{12}{3}{12}",
-    "{n,plural,=0.5{x}=+1e3{y}other{z}}", "{0,choice,1#'|'a|2#b}", "{32767}", "{a, PLURAL, other{#}}",
-]
-PIECES = [
-    "{", "}", "'", "''", "#", "|", ",", "0", "1", "00", "32767", "32768", "99999", "name", "a b", " ", "\t", "\u2028", "\u200e", "plural", "select",
-    "selectordinal", "choice", "number", "date", "time", "spellout", "ordinal", "duration", "PLURAL", "Number", "foo", "other", "one", "few", "=1", "=",
-    "=-", "=1.5", "=1e", "=.5", "=.", "=\u221e", "offset:", "offset:1", "offset", ":", "::", "<", "\u2264", "\u221e", "-", "+", ".", "e", "\U0001f600",
-    "\ud800", "\u00a7", "\u3030", "{0}", "{n,plural,", "other{", "one{", "{g,select,", "{0,choice,", "0#", "1<", "x", "\u00e9", "{0,date,", "{0,number,",
-]
+# patterns, and pieces of which others are joined
+WRITTEN, PIECES = json.loads((TOP / "tests" / "messages.json").read_text(encoding="utf-8")).values()
 
 
 def error_of(icu, pattern):
