@@ -162,7 +162,8 @@ class Folder(Exchange):
         self.put("de.txt", 'de{\n// Gruß\nhello{"Hallo, {name}!"} n:int{7}}')
 
     def export(self, kind, source="en.txt", target="de.txt", *more):
-        status, _, said = self.tool("export", "--format", kind, "--source", source, "--target", target, "-o", "out", *more)
+        files = ("--source", source, "--target", target, "-o", "out")
+        status, _, said = self.tool("export", "--format", kind, *files, *more)
         assert (status, said) == (0, "")
 
     def export_tree(self, kind, tree):
@@ -296,7 +297,8 @@ def test_genrb(at):
     at.export("xliff1", "en.txt", "en.txt")
     subprocess.run(["genrb", "-q", "-x", "-l", "en", "en.txt"], cwd=at.folder, check=True)
     units = etree.parse(at.path("en.xlf")).iter("{*}trans-unit")
-    theirs = [unit.findtext("{*}source") for unit in units if unit.get("restype") not in ("x-icu-integer", "x-icu-alias")]
+    others = ("x-icu-integer", "x-icu-alias")
+    theirs = [unit.findtext("{*}source") for unit in units if unit.get("restype") not in others]
     ours = read_by_others("xliff1", at.path("out"))
     assert ours == listed_strings(tree)
     assert sorted(theirs) == sorted(ours.values())
@@ -524,16 +526,14 @@ def test_a_pipe_is_written_through(at):
 # --- Refusals
 
 
-LONG = [
-    {"kind": "json", "data": '[{"id":' + "1" * 5000 + "}]", "line": 1, "what": "no object"},
-    {"kind": "json", "data": json.dumps([{"id": "hello", "target": "{n,plural,offset:" + "1" * 100_000}]), "line": 1, "what": "isn't a message pattern"},
-    {"kind": "json", "data": "[" * 100_000, "line": 1, "what": ""},
-]
+LONG = [{"kind": "json", "data": data, "line": 1, "what": what} for data, what in (
+    ('[{"id":' + "1" * 5000 + "}]", "no object"), ("[" * 100_000, ""),
+    (json.dumps([{"id": "hello", "target": "{n,plural,offset:" + "1" * 100_000}]), "isn't a message pattern"))]
 
 
 @pytest.mark.parametrize("row", [*rows("exchange/refused.jsonl"), *LONG])
 def test_refused_files(at, row):
-    """Controls aren't printed as they are, long patterns and lines don't take quadratic time, and each entry of a PO file counts."""
+    """Controls aren't printed as they are, long lines don't take quadratic time, and each entry of a PO file counts."""
     need_modules(*["polib"] * (row["kind"] == "po"))
     at.put("bad", row["data"])
     before, names = at.get("de.txt"), sorted(os.listdir(at.folder))

@@ -1,9 +1,11 @@
-"""Tests `resb-exchange convert`: catalogues of other formats become bundle texts and back. What is expected is written by hand (exchange/), or read
-by other readers: javaproperties, translate-toolkit, Python's gettext and plistlib, and ICU's MessageFormat.
+"""Tests `resb-exchange convert`: catalogues of other formats become bundle texts and back. What is expected is written
+by hand (exchange/), or read by other readers: javaproperties, translate-toolkit, Python's gettext and plistlib, and
+ICU's MessageFormat.
 
-A row of exchange/convert.jsonl has "catalogues" of exchange/catalogues/ and "files", some in other "encodings"; the format "from", the files or folders
-"in", and further "options" of the command; and what it must print ("said", or the beginning of the "last" line), the "trees" of texts that it writes,
-which are "all" of them if the row says so, and with what a text begins or what it "has".
+A row of exchange/convert.jsonl has "catalogues" of exchange/catalogues/ and "files", some in other "encodings"; the
+format "from", the file or folder "in", and further "options" of the command; and what it must print ("said", or the
+beginning of the "last" line), the "trees" of texts that it writes, which are "all" of them if the row says so, and
+parts that a text "has".
 """
 import importlib.util
 import json
@@ -22,6 +24,9 @@ from exchange.convert.readers import Options
 
 CATALOGUES = TOP / "tests" / "exchange" / "catalogues"
 PLACEHOLDERS = rows("exchange/placeholders.jsonl")
+# texts that Python's operator % takes
+PRINTF = [row["text"] for row in PLACEHOLDERS if (row["of"], row["doubts"]) == ("printf", 0)]
+PRINTF = [text for text in PRINTF if not set("@$(") & set(text)]
 
 
 def needs(*modules):
@@ -59,7 +64,7 @@ def test_placeholders(row):
 
 
 @needs("icu")
-@pytest.mark.parametrize("text", [row["text"] for row in PLACEHOLDERS if row["of"] == "printf" and not row["doubts"] and not set("@$(") & set(row["text"])])
+@pytest.mark.parametrize("text", PRINTF)
 def test_messages_say_what_printf_does(text):
     import icu
 
@@ -73,8 +78,9 @@ def test_messages_say_what_printf_does(text):
 
 
 LOCALES = {
-    "de": "de", "pt-BR": "pt_BR", "pt-rBR": "pt_BR", "b+sr+Latn": "sr_Latn", "sr@latin": "sr_Latn", "zh-Hant-TW": "zh_Hant_TW",
-    "zh_CN.UTF-8": "zh_CN", "ca@valencia": "ca__VALENCIA", "es-419": "es_419", "de_DE_1996": "de_DE_1996", "x": None, "strings": None,
+    "de": "de", "pt-BR": "pt_BR", "pt-rBR": "pt_BR", "b+sr+Latn": "sr_Latn", "sr@latin": "sr_Latn",
+    "zh-Hant-TW": "zh_Hant_TW", "zh_CN.UTF-8": "zh_CN", "ca@valencia": "ca__VALENCIA", "es-419": "es_419",
+    "de_DE_1996": "de_DE_1996", "x": None, "strings": None,
 }
 
 
@@ -102,7 +108,7 @@ def test_plurals(row):
 def test_convert(at, row):
     need_modules(*row.get("needs", ()))
     encodings = row.get("encodings", {})
-    files = {name: (CATALOGUES / source).read_text(encoding="utf-8") for name, source in row.get("catalogues", {}).items()}
+    files = {name: (CATALOGUES / source).read_text("utf-8") for name, source in row.get("catalogues", {}).items()}
     for name, text in {**files, **row.get("files", {})}.items():
         at.put(name, text, encodings.get(name, "utf-8"))
     said = at.convert("--from", row["from"], *row.get("options", ()), "--to", "out", row["in"]).splitlines()

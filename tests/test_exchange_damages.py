@@ -1,10 +1,12 @@
-"""`tools/resb-exchange import` over files that a translator's tools have damaged, changed or cut: a row of exchange/damages.jsonl each. What a row
-expects is written by hand; the tools that some name (of gettext) make their files themselves.
+"""`tools/resb-exchange import` over files that a translator's tools have damaged, changed or cut: a row of
+exchange/damages.jsonl each. What a row expects is written by hand; the tools of gettext that some rows name make their
+files themselves.
 
-A row has its "name" and each "kind" of file that it is about. The file is "data", or what the writer here of this kind, or of the kind "by", makes with
-the arguments "file", by default with one new translation; then it may be "cut", have more "before" and "after", and "edits", pairs of old and new
-text, and another "encoding". "tool" is a command that gets it as standard input and prints the file. "args" are further arguments of the tool, "said"
-parts of what it prints, "status" its status (0 if left out), and "changes" what of the target it changes (null removes).
+A row has its "name" and each "kind" of file that it is about. The file is "data", or what the writer here of this
+kind, or of the kind "by", makes with the arguments "file", by default with one new translation; then it may be "cut",
+have more "before" and "after", and "edits", pairs of old and new text, and another "encoding". "tool" is a command
+that gets it as standard input and prints the file. "args" are further arguments of the import, "said" parts of what it
+prints, "status" its status (0 if left out), and "changes" what of the target it changes (null removes).
 """
 import json
 import os

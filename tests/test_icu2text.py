@@ -19,7 +19,7 @@ NO_FALLBACK, IS_POOL, USES_POOL = 1, 2, 4
 CHECKSUM, MOST = 0xC0FFEE, 8388608
 DAMAGED = 400
 # the texts of the files that `everything` and `user` make
-EVERYTHING, USER = ((TOP / "tests" / "icu2text" / name).read_text(encoding="utf-8") for name in ("everything.txt", "user.txt"))
+EVERYTHING, USER = ((TOP / "tests" / "icu2text" / f"{name}.txt").read_text("utf-8") for name in ("everything", "user"))
 
 
 def units_of(text):

@@ -115,10 +115,12 @@ def line_in(row):
 
 @pytest.mark.parametrize("row", rows("limits/at_values.jsonl"), ids=lambda row: f"{row['limit']}={row['value']}")
 def test_at_value(resb, row):
-    """Each limit at its value and one above is kept, and one below refuses, if the row has an error. The sum of a release counts at its end."""
+    """Each limit at its value and one above is kept, and one below refuses, if the row has an error. The sum of a
+    release counts at its end."""
     for number in range(max(row["value"] - ("error" in row), 1), row["value"] + 2):
         answer = row["error"] if number < row["value"] else row["answer"]
-        serves(resb, [*row.get("options", ()), row["limit"], str(number)], [*row.get("before", ()), (line_in(row["asked"]), answer)])
+        words = [*row.get("options", ()), row["limit"], str(number)]
+        serves(resb, words, [*row.get("before", ()), (line_in(row["asked"]), answer)])
 
 
 def test_full_releases(resb):
@@ -161,7 +163,8 @@ def test_refusals(resb, row):
 
 def test_full_before_a_limit(resb):
     full = [(install("shop", f"aa_{number}", SMALL), OK) for number in range(4096)]
-    serves(resb, ["--bundle-bytes", "60"], [*full, (install("shop", "de"), refused("Full")), (install("shop", "aa_1"), refused("Exists"))])
+    more = [(install("shop", "de"), refused("Full")), (install("shop", "aa_1"), refused("Exists"))]
+    serves(resb, ["--bundle-bytes", "60"], full + more)
 
 
 def test_long_line(program):

@@ -688,8 +688,9 @@ def test_neovim(program, module):
     """Neovim shows diagnostics and formats, with the plugin of this repository, set up as docs/EDITORS.md says."""
     need("nvim")
     (module / "de.txt").write_text('de { menu { open { "O", "P" "Q" } } files{"{n}{who}"} title{"T"} }\n', encoding="utf-8")
-    values = {"python": sys.executable, "server": SERVER, "set": inline("docs/EDITORS.md", "set runtimepath").replace("/usr/share/resb", str(TOP))}
-    (module / "run.lua").write_text((TOP / "tests" / "lsp" / "neovim.lua").read_text(encoding="utf-8") % values, encoding="utf-8")
+    path = inline("docs/EDITORS.md", "set runtimepath").replace("/usr/share/resb", str(TOP))
+    script = (TOP / "tests" / "lsp" / "neovim.lua").read_text("utf-8")
+    (module / "run.lua").write_text(script % {"python": sys.executable, "server": SERVER, "set": path}, "utf-8")
     env = {**os.environ, "RESB": program, "XDG_STATE_HOME": str(module), "XDG_CACHE_HOME": str(module)}
     command = ["nvim", "--headless", "-n", "-u", "NONE", "-i", "NONE", "-c", "luafile run.lua"]
     subprocess.run(command, cwd=module, env=env, check=True, timeout=SECONDS, capture_output=True)

@@ -1,5 +1,5 @@
-"""Runs `tools/resb-exchange` in a folder: in this process, as an interpreter takes longer to start than a file to import; and as a separate
-process where it writes to standard output, or runs with another program."""
+"""Runs `tools/resb-exchange` in a folder: in this process, as an interpreter takes longer to start than a file to
+import; and as a separate process where it writes to standard output, or runs with another program."""
 import contextlib
 import importlib
 import importlib.util
