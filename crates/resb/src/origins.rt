@@ -1,5 +1,6 @@
 //! Lookups that also write where the item was found.
-ghost use Rattle.std.specs.Prelude.{◌≡◌, ◌≢◌, ℕ, List, IfNone, IfSome, true, false};
+ghost use Rattle.std.specs.Prelude.{◌≡◌, ◌≢◌, ◌≤◌, ◌<◌, ℕ, List, IfNone, IfSome, Some, length};
+ghost use Rattle.std.specs.Prelude.{slice_get, take, true, false};
 ghost use Rattle.rb_engine.specs.OpenLocale.{IsOpenLocale};
 ghost use Rattle.rb_engine.specs.Version.{is_current};
 ghost use Rattle.rb_handle.specs.Stored.{engine_of};
@@ -27,14 +28,29 @@ pub struct Origin {
     pub valid: [u8; NAME_SIZE],
 }
 
+fn put_front(field: &mut [u8], bytes: &[u8])
+    requires { length bytes.now ≤ length field.old }
+    ensures { take (length bytes.now) field.new ≡ bytes.now }
+{
+    field[..bytes.len()].copy_from_slice(bytes);
+}
+
+fn put_zero(field: &mut [u8], at: usize)
+    requires { at < length field.old }
+    ensures front { take at field.new ≡ take at field.old }
+    ensures zero { slice_get field.new at ≡ Some 0 }
+{
+    field[at] = 0;
+}
+
 /// Returns a name with a zero byte after it.
 fn zero_ended(name: &Name) -> [u8; NAME_SIZE]
     ensures { IsNameIn result name.now }
 {
     let bytes = name.as_bytes();
     let mut field = [0; NAME_SIZE];
-    field[..bytes.len()].copy_from_slice(bytes);
-    field[bytes.len()] = 0;
+    put_front(&mut field, bytes);
+    put_zero(&mut field, bytes.len());
     field
 }
 
