@@ -19,7 +19,7 @@ fi
 made=$(mktemp -d)
 trap 'rm -rf "$made"' EXIT
 git clone -q "$top" "$made/clone"
-cp "$top/tools/release" "$top/tools/package" "$top/tools/pages" "$made/clone/tools/"
+cp "$top/tools/release" "$top/tools/package" "$top/tools/pages" "$top/tools/version" "$made/clone/tools/"
 cp "$top/SECURITY.md" "$top/CHANGELOG.md" "$made/clone/"
 cd "$made/clone"
 commit() { git -c user.name=test -c user.email=test@example.org commit -qam "$1" --allow-empty; }
