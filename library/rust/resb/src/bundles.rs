@@ -1,0 +1,316 @@
+use crate::error::{result_of, Error, Place};
+use crate::{sys, written};
+use std::cell::UnsafeCell;
+use std::collections::hash_map::RandomState;
+use std::hash::{BuildHasher, Hasher};
+use std::mem::MaybeUninit;
+use std::{ptr, slice};
+
+/// A bundle to install: a text, or a `.res` file.
+#[derive(Clone, Copy, Debug)]
+pub enum Content<'a> {
+    Text(&'a str),
+    File(&'a [u8]),
+}
+
+impl<'a> Content<'a> {
+    fn bytes(self) -> &'a [u8] {
+        match self {
+            Content::Text(text) => text.as_bytes(),
+            Content::File(file) => file,
+        }
+    }
+
+    fn is_text(self) -> bool {
+        matches!(self, Content::Text(_))
+    }
+}
+
+/// An item that a lookup found. Strings, binaries and integer vectors are in the engine's copy of
+/// the file.
+#[derive(Clone, Copy, Debug, PartialEq, Eq)]
+pub enum Item<'a> {
+    /// UTF-16 units, which may have lone surrogates.
+    String(&'a [u16]),
+    Binary(&'a [u8]),
+    /// 28 bits with a sign.
+    Int(i32),
+    IntVector(&'a [i32]),
+    /// The number of entries.
+    Table(usize),
+    /// The number of items.
+    Array(usize),
+}
+
+impl<'a> Item<'a> {
+    /// # Safety
+    /// A lookup wrote `found`, and its engine doesn't change while 'a lasts.
+    unsafe fn of(found: sys::resb_found) -> Item<'a> {
+        match found.kind {
+            sys::RESB_STRING => Item::String(items(&found)),
+            sys::RESB_BINARY => Item::Binary(items(&found)),
+            sys::RESB_INT_VECTOR => Item::IntVector(items(&found)),
+            sys::RESB_INT => Item::Int((found.number << 4) as i32 >> 4),
+            sys::RESB_TABLE => Item::Table(found.count),
+            _ => Item::Array(found.count),
+        }
+    }
+}
+
+/// # Safety
+/// `found` describes items of type T, which don't change while 'a lasts.
+unsafe fn items<'a, T>(found: &sys::resb_found) -> &'a [T] {
+    match found.count {
+        0 => &[],
+        count => slice::from_raw_parts(found.at.cast(), count),
+    }
+}
+
+/// A locale that was opened for many lookups. Each change of its engine makes it stale.
+#[derive(Clone, Copy)]
+pub struct Locale(sys::resb_locale);
+
+type Change = unsafe extern "C" fn(
+    *mut sys::resb,
+    *const u8,
+    usize,
+    *const u8,
+    usize,
+    *const u8,
+    usize,
+    bool,
+) -> u32;
+
+/// The bundles of many applications. An application sees its own bundles and those of ICUDATA alone.
+///
+/// It may pass from thread to thread. For lookups on several threads at once make one for each by
+/// [`Bundles::share`].
+pub struct Bundles(Box<UnsafeCell<sys::resb>>);
+
+// SAFETY: a handle may pass from thread to thread. It is not Sync, so one call at a time uses it.
+unsafe impl Send for Bundles {}
+
+impl Drop for Bundles {
+    fn drop(&mut self) {
+        // SAFETY: all items that borrow the bundles are gone.
+        unsafe { sys::resb_close(self.0.get()) }
+    }
+}
+
+/// Returns random bytes, as names of others could make the engine's index slow if they knew them.
+fn seed() -> [u8; 16] {
+    let halves = [(); 2].map(|()| RandomState::new().build_hasher().finish());
+    (u128::from(halves[0]) << 64 | u128::from(halves[1])).to_ne_bytes()
+}
+
+impl Bundles {
+    /// Opens bundles, at first none. RESB_MEMORY.
+    pub fn open() -> Result<Bundles, Error> {
+        Bundles::open_with(&[], "")
+    }
+
+    /// Opens bundles with those of ICUDATA, by their locales, and with the explicit parents of a
+    /// bundle text. Returns the errors of `resb_open_with`, with the index of the bundle or the
+    /// line of the text.
+    pub fn open_with(icudata: &[(&str, Content<'_>)], parents: &str) -> Result<Bundles, Error> {
+        let entry = |&(locale, content): &(&str, Content<'_>)| sys::resb_entry {
+            locale: locale.as_ptr(),
+            locale_len: locale.len(),
+            bytes: content.bytes().as_ptr(),
+            len: content.bytes().len(),
+            is_text: content.is_text(),
+        };
+        let entries: Vec<_> = icudata.iter().map(entry).collect();
+        let (bundles, seed, mut at) = (Bundles::closed(), seed(), 0);
+        let (p, pn) = (parents.as_ptr(), parents.len());
+        // SAFETY: the pointers have the lengths of what they point to.
+        let number = unsafe {
+            let (first, count) = (entries.as_ptr(), entries.len());
+            sys::resb_open_with(
+                bundles.0.get(),
+                seed.as_ptr(),
+                16,
+                first,
+                count,
+                p,
+                pn,
+                &mut at,
+            )
+        };
+        let place = match number {
+            sys::RESB_BAD_LOCALE | sys::RESB_BAD_TEXT | sys::RESB_BAD_FILE | sys::RESB_TWICE => {
+                Place::Bundle(at)
+            }
+            _ if at > 0 => Place::Line(at),
+            _ => Place::Unknown,
+        };
+        result_of(number).map_err(|error| Error { place, ..error })?;
+        Ok(bundles)
+    }
+
+    fn closed() -> Bundles {
+        let handle = sys::resb {
+            engine: ptr::null_mut(),
+            is_open: false,
+        };
+        Bundles(Box::new(UnsafeCell::new(handle)))
+    }
+
+    /// Returns further bundles of the same engine, for another thread. While there are several, a
+    /// change returns RESB_SHARED. RESB_MEMORY.
+    pub fn share(&self) -> Result<Bundles, Error> {
+        let other = Bundles::closed();
+        // SAFETY: both handles are in use by this call alone.
+        result_of(unsafe { sys::resb_share(self.0.get(), other.0.get()) })?;
+        Ok(other)
+    }
+
+    /// Installs a bundle of an application. Returns the errors of `resb_install`, after which
+    /// nothing has changed.
+    pub fn install(&mut self, app: &str, locale: &str, content: Content<'_>) -> Result<(), Error> {
+        self.change(sys::resb_install, app, locale, content)
+    }
+
+    /// Replaces a bundle of an application. Returns the errors of `resb_replace`, after which
+    /// nothing has changed.
+    pub fn replace(&mut self, app: &str, locale: &str, content: Content<'_>) -> Result<(), Error> {
+        self.change(sys::resb_replace, app, locale, content)
+    }
+
+    fn change(
+        &mut self,
+        call: Change,
+        app: &str,
+        locale: &str,
+        content: Content<'_>,
+    ) -> Result<(), Error> {
+        let (a, an, l, ln) = (app.as_ptr(), app.len(), locale.as_ptr(), locale.len());
+        let (b, bn) = (content.bytes().as_ptr(), content.bytes().len());
+        // SAFETY: the pointers have the lengths of what they point to.
+        result_of(unsafe { call(self.0.get(), a, an, l, ln, b, bn, content.is_text()) })
+    }
+
+    /// Removes a bundle of an application. Returns the errors of `resb_remove`, after which nothing has changed.
+    pub fn remove(&mut self, app: &str, locale: &str) -> Result<(), Error> {
+        let (a, an, l, ln) = (app.as_ptr(), app.len(), locale.as_ptr(), locale.len());
+        // SAFETY: the pointers have the lengths of their strings.
+        result_of(unsafe { sys::resb_remove(self.0.get(), a, an, l, ln) })
+    }
+
+    /// Lists the locales of an application's bundles in the order of their installation.
+    /// RESB_BAD_APP, RESB_RESERVED.
+    pub fn list(&self, app: &str) -> Result<Vec<String>, Error> {
+        // SAFETY: the pointers have the lengths of what they point to.
+        let names = written(256, |out, capacity, len| unsafe {
+            sys::resb_list(self.0.get(), app.as_ptr(), app.len(), out, capacity, len)
+        })?;
+        let names = String::from_utf8_lossy(&names);
+        Ok(names.split_terminator('\0').map(str::to_owned).collect())
+    }
+
+    /// Returns the total length of the files that an application stores, and the number of its
+    /// bundles. RESB_BAD_APP, RESB_RESERVED.
+    pub fn usage(&self, app: &str) -> Result<(u64, u64), Error> {
+        let (mut bytes, mut bundles) = (0, 0);
+        let (a, an) = (app.as_ptr(), app.len());
+        // SAFETY: the pointer has the length of its string.
+        result_of(unsafe { sys::resb_usage(self.0.get(), a, an, &mut bytes, &mut bundles) })?;
+        Ok((bytes, bundles))
+    }
+
+    /// Returns the number of applications that have bundles.
+    pub fn apps(&self) -> Result<u64, Error> {
+        let mut apps = 0;
+        // SAFETY: the handle is in use by this call alone.
+        result_of(unsafe { sys::resb_apps(self.0.get(), &mut apps) })?;
+        Ok(apps)
+    }
+
+    /// Returns what a lookup finds, which borrows the bundles.
+    fn found(&self, call: impl FnOnce(*mut sys::resb_found) -> u32) -> Result<Item<'_>, Error> {
+        let mut found = MaybeUninit::uninit();
+        result_of(call(found.as_mut_ptr()))?;
+        // SAFETY: the call has written it. A change needs the bundles mutably, and the engine
+        // refuses one by another handle while this one is open, so the item is good while it
+        // borrows them.
+        Ok(unsafe { Item::of(found.assume_init()) })
+    }
+
+    /// Looks up the item at a path, such as "menu/open". Returns the errors of `resb_look`.
+    pub fn look(&self, app: &str, locale: &str, path: &str) -> Result<Item<'_>, Error> {
+        let (a, an, l, ln) = (app.as_ptr(), app.len(), locale.as_ptr(), locale.len());
+        let (p, pn) = (path.as_ptr(), path.len());
+        // SAFETY: the pointers have the lengths of their strings.
+        self.found(|found| unsafe { sys::resb_look(self.0.get(), a, an, l, ln, p, pn, found) })
+    }
+
+    /// Looks up like [`Bundles::look`], or returns RESB_TOO_MANY_STEPS if that takes more than this
+    /// many steps.
+    pub fn look_within(
+        &self,
+        app: &str,
+        locale: &str,
+        path: &str,
+        steps: u64,
+    ) -> Result<Item<'_>, Error> {
+        let (a, an, l, ln) = (app.as_ptr(), app.len(), locale.as_ptr(), locale.len());
+        let (p, pn) = (path.as_ptr(), path.len());
+        // SAFETY: the pointers have the lengths of their strings.
+        self.found(|found| unsafe {
+            sys::resb_look_within(self.0.get(), a, an, l, ln, p, pn, steps, found)
+        })
+    }
+
+    /// Opens a locale of an application for [`Bundles::look_at`]. Returns the errors of
+    /// `resb_open_locale`.
+    pub fn open_locale(&self, app: &str, locale: &str) -> Result<Locale, Error> {
+        let mut opened = MaybeUninit::uninit();
+        let (a, an, l, ln) = (app.as_ptr(), app.len(), locale.as_ptr(), locale.len());
+        // SAFETY: the pointers have the lengths of their strings, and without an error the call
+        // has written the locale.
+        unsafe {
+            result_of(sys::resb_open_locale(
+                self.0.get(),
+                a,
+                an,
+                l,
+                ln,
+                opened.as_mut_ptr(),
+            ))?;
+            Ok(Locale(opened.assume_init()))
+        }
+    }
+
+    /// Looks up from a locale that was opened with the same engine. RESB_STALE: the engine has
+    /// changed since then. Else returns the errors of [`Bundles::look`].
+    pub fn look_at(&self, opened: &Locale, path: &str) -> Result<Item<'_>, Error> {
+        // SAFETY: the pointers have the lengths of what they point to.
+        self.found(|found| unsafe {
+            sys::resb_look_at(self.0.get(), &opened.0, path.as_ptr(), path.len(), found)
+        })
+    }
+
+    /// Looks up a string, with U+FFFD for lone surrogates. RESB_OTHER_KIND, and the errors of
+    /// [`Bundles::look`].
+    pub fn text(&self, app: &str, locale: &str, path: &str) -> Result<String, Error> {
+        match self.look(app, locale, path)? {
+            Item::String(units) => Ok(String::from_utf16_lossy(units)),
+            _ => Err(Error {
+                number: sys::RESB_OTHER_KIND,
+                place: Place::Unknown,
+            }),
+        }
+    }
+
+    /// Returns the key of an entry of a table, in the order of the keys. RESB_OTHER_KIND,
+    /// RESB_NO_ENTRY, and the errors of [`Bundles::look`].
+    pub fn key(&self, app: &str, locale: &str, path: &str, index: usize) -> Result<String, Error> {
+        let (a, an, l, ln) = (app.as_ptr(), app.len(), locale.as_ptr(), locale.len());
+        let (p, pn) = (path.as_ptr(), path.len());
+        // SAFETY: the pointers have the lengths of what they point to.
+        let key = written(64, |out, capacity, len| unsafe {
+            sys::resb_key(self.0.get(), a, an, l, ln, p, pn, index, out, capacity, len)
+        })?;
+        Ok(String::from_utf8_lossy(&key).into_owned())
+    }
+}

@@ -1,0 +1,52 @@
+use crate::sys;
+use std::fmt;
+
+/// Where an error is in what was passed.
+#[derive(Clone, Copy, Debug, PartialEq, Eq)]
+pub enum Place {
+    Unknown,
+    /// The line of a text.
+    Line(u64),
+    /// The index of a bundle of ICUDATA.
+    Bundle(u64),
+}
+
+/// An error: its number in `resb.h`, such as [`sys::RESB_MISSING`], and its place.
+#[derive(Clone, Copy, Debug, PartialEq, Eq)]
+pub struct Error {
+    pub number: u32,
+    pub place: Place,
+}
+
+impl Error {
+    /// Returns the name of the error, such as "BadPath", which `resb explain` explains.
+    pub fn name(&self) -> String {
+        let mut name = [0; 16];
+        // SAFETY: the buffer has as many bytes as the call is told.
+        let len = unsafe { sys::resb_error_name(self.number, name.as_mut_ptr(), name.len()) };
+        String::from_utf8_lossy(&name[..len]).into_owned()
+    }
+}
+
+impl fmt::Display for Error {
+    fn fmt(&self, out: &mut fmt::Formatter<'_>) -> fmt::Result {
+        match self.place {
+            Place::Unknown => write!(out, "{}", self.name()),
+            Place::Line(line) => write!(out, "{}, line {}", self.name(), line),
+            Place::Bundle(index) => write!(out, "{}, bundle {} of ICUDATA", self.name(), index),
+        }
+    }
+}
+
+impl std::error::Error for Error {}
+
+/// Returns an error without a place for a number that isn't RESB_OK.
+pub(crate) fn result_of(number: u32) -> Result<(), Error> {
+    match number {
+        sys::RESB_OK => Ok(()),
+        _ => Err(Error {
+            number,
+            place: Place::Unknown,
+        }),
+    }
+}

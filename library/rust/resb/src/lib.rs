@@ -1,0 +1,70 @@
+//! ICU resource bundles in process: check, compile, and look up with locale inheritance.
+//!
+//! ```
+//! use resb::{Bundles, Content};
+//!
+//! let mut bundles = Bundles::open()?;
+//! bundles.install("shop", "de", Content::Text("de{menu{open{\"Öffnen\"}}}"))?;
+//! assert_eq!(bundles.text("shop", "de_AT", "menu/open")?, "Öffnen");
+//! # Ok::<(), resb::Error>(())
+//! ```
+//!
+//! An item borrows its bundles, so no change can come while it is used:
+//!
+//! ```compile_fail,E0502
+//! # use resb::{Bundles, Content};
+//! let mut bundles = Bundles::open()?;
+//! let item = bundles.look("shop", "de", "title")?;
+//! bundles.remove("shop", "de")?;
+//! println!("{:?}", item);
+//! # Ok::<(), resb::Error>(())
+//! ```
+
+mod bundles;
+mod error;
+
+pub use bundles::{Bundles, Content, Item, Locale};
+pub use error::{Error, Place};
+pub use resb_sys as sys;
+
+/// Checks whether bytes are a valid `.res` file, or returns the first error.
+pub fn check(file: &[u8]) -> Result<(), Error> {
+    // SAFETY: the pointer has the length of its slice.
+    error::result_of(unsafe { sys::resb_check(file.as_ptr(), file.len()) })
+}
+
+/// Compiles a bundle text to a `.res` file, or returns the first error with its line.
+pub fn compile(text: &str) -> Result<Vec<u8>, Error> {
+    let mut line = 0;
+    // SAFETY: the pointers have the lengths of what they point to.
+    let file = written(4 * text.len() + 256, |out, capacity, len| unsafe {
+        sys::resb_compile(text.as_ptr(), text.len(), out, capacity, len, &mut line)
+    });
+    file.map_err(|error| match line {
+        0 => error,
+        _ => Error {
+            place: Place::Line(line),
+            ..error
+        },
+    })
+}
+
+/// Returns what a call writes to a buffer, which grows as the call asks.
+fn written(
+    mut capacity: usize,
+    mut call: impl FnMut(*mut u8, usize, *mut usize) -> u32,
+) -> Result<Vec<u8>, Error> {
+    loop {
+        let mut out = Vec::with_capacity(capacity);
+        let mut len = 0;
+        let number = call(out.as_mut_ptr(), capacity, &mut len);
+        if number == sys::RESB_NO_ROOM {
+            capacity = len;
+            continue;
+        }
+        error::result_of(number)?;
+        // SAFETY: the call has written this many bytes, and there is room for them.
+        unsafe { out.set_len(len) };
+        return Ok(out);
+    }
+}

@@ -1,0 +1,132 @@
+use resb::{check, compile, sys, Bundles, Content, Error, Item, Place};
+
+const GERMAN: &str = "de{greeting{\"Grüß\"} low:int{-1} v:intvector{1,-2} b:bin{00ff} e:bin{\"\"} \
+                      list{\"a\",\"bc\"} menu{open{\"Auf\"} close{\"Zu\"}}}";
+
+fn opened() -> Bundles {
+    let mut bundles = Bundles::open().unwrap();
+    bundles
+        .install("shop", "de", Content::Text(GERMAN))
+        .unwrap();
+    bundles
+}
+
+fn error(number: u32) -> Error {
+    Error {
+        number,
+        place: Place::Unknown,
+    }
+}
+
+#[test]
+fn finds_each_kind() {
+    let bundles = opened();
+    let look = |path| bundles.look("shop", "de_AT", path).unwrap();
+    let greeting: Vec<u16> = "Grüß".encode_utf16().collect();
+    assert_eq!(look("greeting"), Item::String(&greeting));
+    assert_eq!(look("low"), Item::Int(-1));
+    assert_eq!(look("v"), Item::IntVector(&[1, -2]));
+    assert_eq!(
+        (look("b"), look("e")),
+        (Item::Binary(&[0, 255]), Item::Binary(&[]))
+    );
+    assert_eq!(
+        (look("list"), look("menu")),
+        (Item::Array(2), Item::Table(2))
+    );
+    assert_eq!(bundles.text("shop", "de_AT", "list/1").unwrap(), "bc");
+    assert_eq!(
+        bundles.text("shop", "de_AT", "low"),
+        Err(error(sys::RESB_OTHER_KIND))
+    );
+    assert_eq!(bundles.key("shop", "de", "menu", 0).unwrap(), "close");
+    assert_eq!(
+        bundles.key("shop", "de", "menu", 2),
+        Err(error(sys::RESB_NO_ENTRY))
+    );
+}
+
+#[test]
+fn changes_and_counts() {
+    let mut bundles = opened();
+    let file = compile(GERMAN).unwrap();
+    assert_eq!(check(&file), Ok(()));
+    for index in 0..100 {
+        bundles
+            .install("many", &format!("de_{index:03}"), Content::File(&file))
+            .unwrap();
+    }
+    let names: Vec<_> = (0..100).map(|index| format!("de_{index:03}")).collect();
+    assert_eq!(bundles.list("many").unwrap(), names);
+    assert_eq!(
+        bundles.usage("many").unwrap(),
+        (100 * file.len() as u64, 100)
+    );
+    assert_eq!(bundles.apps().unwrap(), 2);
+    let opened = bundles.open_locale("shop", "de_AT").unwrap();
+    assert_eq!(bundles.look_at(&opened, "low"), Ok(Item::Int(-1)));
+    bundles
+        .replace("shop", "de", Content::Text("de{greeting{\"Tag\"}}"))
+        .unwrap();
+    assert_eq!(bundles.look_at(&opened, "low"), Err(error(sys::RESB_STALE)));
+    assert_eq!(bundles.text("shop", "de", "greeting").unwrap(), "Tag");
+    bundles.remove("shop", "de").unwrap();
+    assert_eq!(
+        bundles.look("shop", "de", ""),
+        Err(error(sys::RESB_NO_BUNDLE))
+    );
+}
+
+#[test]
+fn names_errors() {
+    let mut bundles = opened();
+    let bad_int = compile("de{\na:int{09}}").unwrap_err();
+    assert_eq!(
+        (bad_int.number, bad_int.place),
+        (sys::RESB_TEXT_BAD_INT, Place::Line(2))
+    );
+    assert_eq!(bad_int.to_string(), "BadInt, line 2");
+    assert_eq!(check(b"").unwrap_err().name(), "Header");
+    let twice = bundles.install("shop", "de", Content::Text(GERMAN));
+    assert_eq!(twice, Err(error(sys::RESB_EXISTS)));
+    // de and root, each a step, and one more for the segment
+    assert_eq!(
+        bundles.look_within("shop", "de", "low", 4),
+        Ok(Item::Int(-1))
+    );
+    let few = bundles.look_within("shop", "de", "low", 3);
+    assert_eq!(few, Err(error(sys::RESB_TOO_MANY_STEPS)));
+}
+
+#[test]
+fn opens_with_icudata_and_parents() {
+    let file = compile("root{months{\"M01\"}}").unwrap();
+    let icudata = [("root", Content::File(&file)), ("de", Content::Text("de{"))];
+    let bad_text = Bundles::open_with(&icudata, "").err().unwrap();
+    assert_eq!(bad_text.to_string(), "BadText, bundle 1 of ICUDATA");
+    let bad_parents = Bundles::open_with(&icudata[..1], "x{\nparentLocales{")
+        .err()
+        .unwrap();
+    assert_eq!(bad_parents.to_string(), "Unexpected, line 2");
+    let parents = "x{parentLocales{root{\"zh_Hant\"}}}";
+    let mut bundles = Bundles::open_with(&icudata[..1], parents).unwrap();
+    bundles
+        .install("shop", "root", Content::Text("root{x{\"root\"}}"))
+        .unwrap();
+    assert_eq!(bundles.text("shop", "zh_Hant_TW", "x").unwrap(), "root");
+}
+
+#[test]
+fn looks_up_on_several_threads() {
+    let mut bundles = opened();
+    let shares: Vec<_> = (0..4).map(|_| bundles.share().unwrap()).collect();
+    assert_eq!(bundles.remove("shop", "de"), Err(error(sys::RESB_SHARED)));
+    let looks = |mine: Bundles| {
+        std::thread::spawn(move || {
+            (0..1000).all(|_| mine.text("shop", "de_AT", "menu/open").as_deref() == Ok("Auf"))
+        })
+    };
+    let threads: Vec<_> = shares.into_iter().map(looks).collect();
+    assert!(threads.into_iter().all(|thread| thread.join().unwrap()));
+    assert_eq!(bundles.remove("shop", "de"), Ok(()));
+}
