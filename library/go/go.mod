@@ -1,3 +1,3 @@
-module resb
+module luvdregan.example/resb/library/go
 
 go 1.19

@@ -1,10 +1,11 @@
 // Package resb checks, compiles and looks up ICU resource bundles in process, over the C library libresb.
 //
-// Set CGO_CFLAGS and CGO_LDFLAGS to where resb.h and libresb.a are, unless the package libresb-dev is installed.
+// pkg-config finds the library. If PKG_CONFIG_PATH names the folder that tools/library wrote, it is linked statically; the
+// package libresb-dev gives the shared one, which the loader finds by itself.
 package resb
 
 /*
-#cgo LDFLAGS: -lresb
+#cgo pkg-config: resb
 #include <stdlib.h>
 #include "resb.h"
 
@@ -24,41 +25,75 @@ import (
 	"crypto/rand"
 	"errors"
 	"fmt"
+	"runtime"
 	"strings"
 	"sync"
 	"unicode/utf16"
 	"unsafe"
 )
 
-// An Error has the number of an error in resb.h and, for a text, its line.
-type Error struct {
-	Number uint32
-	Line   uint64
+// A Code is the number of an error in resb.h. It is an error, for errors.Is(err, resb.ErrMissing).
+type Code uint32
+
+// The errors of handles, changes and lookups. Those of texts, files and explicit parents have other numbers.
+const (
+	ErrMemory         Code = C.RESB_MEMORY
+	ErrNotOpen        Code = C.RESB_NOT_OPEN
+	ErrShared         Code = C.RESB_SHARED
+	ErrOtherKind      Code = C.RESB_OTHER_KIND
+	ErrNoEntry        Code = C.RESB_NO_ENTRY
+	ErrBadApp         Code = C.RESB_BAD_APP
+	ErrReserved       Code = C.RESB_RESERVED
+	ErrBadLocale      Code = C.RESB_BAD_LOCALE
+	ErrBadText        Code = C.RESB_BAD_TEXT
+	ErrBadFile        Code = C.RESB_BAD_FILE
+	ErrExists         Code = C.RESB_EXISTS
+	ErrAbsent         Code = C.RESB_ABSENT
+	ErrFull           Code = C.RESB_FULL
+	ErrTwice          Code = C.RESB_TWICE
+	ErrBadPath        Code = C.RESB_BAD_PATH
+	ErrPathTooLong    Code = C.RESB_PATH_TOO_LONG
+	ErrChain          Code = C.RESB_CHAIN
+	ErrBadParent      Code = C.RESB_BAD_PARENT
+	ErrNoBundle       Code = C.RESB_NO_BUNDLE
+	ErrMissing        Code = C.RESB_MISSING
+	ErrAliasText      Code = C.RESB_ALIAS_TEXT
+	ErrAliasPackage   Code = C.RESB_ALIAS_PACKAGE
+	ErrTooManyAliases Code = C.RESB_TOO_MANY_ALIASES
+	ErrTooManySteps   Code = C.RESB_TOO_MANY_STEPS
+)
+
+// Error returns the name of the error, such as "BadPath".
+func (c Code) Error() string {
+	return C.GoString(C.resb_error_name(C.uint32_t(c)))
 }
 
-// Code returns the name of the error, such as "BadPath".
-func (e *Error) Code() string {
-	return C.GoString(C.resb_error_name(C.uint32_t(e.Number)))
+// An Error is what each function returns: a Code, and the line of an error in a text, or the locale of a bundle of ICUDATA.
+type Error struct {
+	Code   Code
+	Line   uint64
+	Locale string
 }
 
 func (e *Error) Error() string {
-	if e.Line > 0 {
-		return fmt.Sprintf("%s, line %d", e.Code(), e.Line)
+	switch {
+	case e.Line > 0:
+		return fmt.Sprintf("%s, line %d", e.Code.Error(), e.Line)
+	case e.Locale != "":
+		return fmt.Sprintf("%s, bundle %s of ICUDATA", e.Code.Error(), e.Locale)
+	default:
+		return e.Code.Error()
 	}
-	return e.Code()
 }
 
-// Is reports whether the target is an Error with the same number.
-func (e *Error) Is(target error) bool {
-	var other *Error
-	return errors.As(target, &other) && other.Number == e.Number
-}
+// Unwrap returns the Code.
+func (e *Error) Unwrap() error { return e.Code }
 
 func errorOf(number C.uint32_t) error {
 	if number == C.RESB_OK {
 		return nil
 	}
-	return &Error{Number: uint32(number)}
+	return &Error{Code: Code(number)}
 }
 
 var nothing [1]byte
@@ -90,15 +125,22 @@ func Compile(text []byte) ([]byte, error) {
 		case C.RESB_NO_ROOM:
 			out = make([]byte, written)
 		default:
-			return nil, &Error{Number: uint32(number), Line: uint64(line)}
+			return nil, &Error{Code: Code(number), Line: uint64(line)}
 		}
 	}
 }
 
-// Bundles has the bundles of many applications. Goroutines may share it.
+// Bundles has the bundles of many applications. Goroutines may share it. The collector closes one that was forgotten.
 type Bundles struct {
 	lock   sync.Mutex
 	handle *C.resb
+}
+
+// bundlesOf returns Bundles for an open handle.
+func bundlesOf(handle *C.resb) *Bundles {
+	b := &Bundles{handle: handle}
+	runtime.SetFinalizer(b, (*Bundles).Close)
+	return b
 }
 
 // An Entry is a bundle of ICUDATA: its locale, and a text or else a .res file.
@@ -127,7 +169,7 @@ func OpenWith(options Options) (*Bundles, error) {
 	}
 	handle := C.new_handle()
 	if handle == nil {
-		return nil, &Error{Number: C.RESB_MEMORY}
+		return nil, errorOf(C.RESB_MEMORY)
 	}
 	entries, free := entriesOf(options.ICUData)
 	defer free()
@@ -136,14 +178,17 @@ func OpenWith(options Options) (*Bundles, error) {
 	var place C.uint64_t
 	number := C.resb_open_with(handle, unsafe.Pointer(s), sn, entries, C.size_t(len(options.ICUData)), p, pn, &place)
 	if number == C.RESB_OK {
-		return &Bundles{handle: handle}, nil
+		return bundlesOf(handle), nil
 	}
 	C.free(unsafe.Pointer(handle))
 	switch number {
 	case C.RESB_BAD_LOCALE, C.RESB_BAD_TEXT, C.RESB_BAD_FILE, C.RESB_TWICE:
-		return nil, fmt.Errorf("bundle %s of ICUDATA: %w", options.ICUData[place].Locale, errorOf(number))
+		if len(options.ICUData) > 0 {
+			return nil, &Error{Code: Code(number), Locale: options.ICUData[place].Locale}
+		}
+		return nil, errorOf(number)
 	default:
-		return nil, &Error{Number: uint32(number), Line: uint64(place)}
+		return nil, &Error{Code: Code(number), Line: uint64(place)}
 	}
 }
 
@@ -174,24 +219,25 @@ func (b *Bundles) Share() (*Bundles, error) {
 	b.lock.Lock()
 	defer b.lock.Unlock()
 	if b.handle == nil {
-		return nil, &Error{Number: C.RESB_NOT_OPEN}
+		return nil, errorOf(C.RESB_NOT_OPEN)
 	}
 	other := C.new_handle()
 	if other == nil {
-		return nil, &Error{Number: C.RESB_MEMORY}
+		return nil, errorOf(C.RESB_MEMORY)
 	}
 	if err := errorOf(C.resb_share(b.handle, other)); err != nil {
 		C.free(unsafe.Pointer(other))
 		return nil, err
 	}
-	return &Bundles{handle: other}, nil
+	return bundlesOf(other), nil
 }
 
-// Close frees the bundles. Later calls return the error NotOpen.
+// Close frees the bundles. Later calls return errorOf(C.RESB_NOT_OPEN).
 func (b *Bundles) Close() {
 	b.lock.Lock()
 	defer b.lock.Unlock()
 	if b.handle != nil {
+		runtime.SetFinalizer(b, nil)
 		C.resb_close(b.handle)
 		C.free(unsafe.Pointer(b.handle))
 		b.handle = nil
@@ -203,7 +249,7 @@ func (b *Bundles) with(call func(handle *C.resb) C.uint32_t) error {
 	b.lock.Lock()
 	defer b.lock.Unlock()
 	if b.handle == nil {
-		return &Error{Number: C.RESB_NOT_OPEN}
+		return errorOf(C.RESB_NOT_OPEN)
 	}
 	return errorOf(call(b.handle))
 }
@@ -244,7 +290,7 @@ func (b *Bundles) List(app string) ([]string, error) {
 		err := b.with(func(h *C.resb) C.uint32_t {
 			return C.resb_list(h, a, an, (*C.char)(unsafe.Pointer(&out[0])), C.size_t(len(out)), &length)
 		})
-		if errors.Is(err, &Error{Number: C.RESB_NO_ROOM}) {
+		if errors.Is(err, Code(C.RESB_NO_ROOM)) {
 			out = make([]byte, length)
 			continue
 		}
@@ -281,7 +327,7 @@ func (b *Bundles) Text(app, locale, path string) (string, error) {
 		err := b.with(func(h *C.resb) C.uint32_t {
 			return C.resb_text(h, a, an, l, ln, p, pn, (*C.uint16_t)(&units[0]), C.size_t(len(units)), &length)
 		})
-		if errors.Is(err, &Error{Number: C.RESB_NO_ROOM}) {
+		if errors.Is(err, Code(C.RESB_NO_ROOM)) {
 			units = make([]uint16, length)
 			continue
 		}
@@ -364,7 +410,7 @@ func (b *Bundles) Key(app, locale, path string, index int) (string, error) {
 		err := b.with(func(h *C.resb) C.uint32_t {
 			return C.resb_key(h, a, an, l, ln, p, pn, C.size_t(index), (*C.char)(unsafe.Pointer(&out[0])), C.size_t(len(out)), &length)
 		})
-		if errors.Is(err, &Error{Number: C.RESB_NO_ROOM}) {
+		if errors.Is(err, Code(C.RESB_NO_ROOM)) {
 			out = make([]byte, length)
 			continue
 		}

@@ -5,10 +5,12 @@ import (
 	"errors"
 	"fmt"
 	"reflect"
+	"runtime"
 	"sync"
 	"testing"
+	"time"
 
-	"resb"
+	resb "luvdregan.example/resb/library/go"
 )
 
 const german = `de{greeting{"Grüß"} low:int{-1} v:intvector{1,-2} b:bin{00ff} empty:bin{""} list{"a","bc"} menu{open{"Auf"} close{"Zu"}}}`
@@ -50,11 +52,12 @@ func TestLook(t *testing.T) {
 func TestErrors(t *testing.T) {
 	b := opened(t)
 	_, err := b.Text("bank", "de", "greeting")
-	var fault *resb.Error
-	if !errors.As(err, &fault) || fault.Code() != "NoBundle" {
+	if !errors.Is(err, resb.ErrNoBundle) || errors.Is(err, resb.ErrMissing) {
 		t.Error(err)
 	}
-	if _, err := resb.Compile([]byte("de{\na:int{09}}")); err == nil || err.Error() != "TextBadInt, line 2" {
+	_, err = resb.Compile([]byte("de{\na:int{09}}"))
+	var fault *resb.Error
+	if !errors.As(err, &fault) || err.Error() != "TextBadInt, line 2" || fault.Line != 2 || !errors.Is(err, fault.Code) {
 		t.Error(err)
 	}
 	if err := resb.Check(nil); err == nil || err.Error() != "Header" {
@@ -64,7 +67,7 @@ func TestErrors(t *testing.T) {
 		t.Error(err)
 	}
 	b.Close()
-	if _, err := b.Text("shop", "de", "greeting"); err == nil || err.Error() != "NotOpen" {
+	if _, err := b.Text("shop", "de", "greeting"); !errors.Is(err, resb.ErrNotOpen) {
 		t.Error(err)
 	}
 }
@@ -130,9 +133,9 @@ func TestErrorsOfTheStart(t *testing.T) {
 		options resb.Options
 		want    string
 	}{
-		{resb.Options{ICUData: []resb.Entry{text("root", "root{}"), {Locale: "de", Bundle: []byte("x")}}}, "bundle de of ICUDATA: BadFile"},
-		{resb.Options{ICUData: []resb.Entry{text("de", "")}}, "bundle de of ICUDATA: BadText"},
-		{resb.Options{ICUData: []resb.Entry{text("", "")}}, "bundle  of ICUDATA: BadText"},
+		{resb.Options{ICUData: []resb.Entry{text("root", "root{}"), {Locale: "de", Bundle: []byte("x")}}}, "BadFile, bundle de of ICUDATA"},
+		{resb.Options{ICUData: []resb.Entry{text("de", "")}}, "BadText, bundle de of ICUDATA"},
+		{resb.Options{ICUData: []resb.Entry{text("root", "root{}"), text("-", "")}}, "BadLocale, bundle - of ICUDATA"},
 		{resb.Options{Parents: []byte("x{\nparentLocales{")}, "Unexpected, line 2"},
 		{resb.Options{Parents: []byte("x{}")}, "Shape"},
 	} {
@@ -162,11 +165,55 @@ func TestShare(t *testing.T) {
 			}
 		}()
 	}
-	if err := b.Remove("shop", "fr"); err == nil {
-		t.Error("no error")
+	if err := b.Remove("shop", "fr"); !errors.Is(err, resb.ErrShared) && !errors.Is(err, resb.ErrAbsent) {
+		t.Error(err)
 	}
 	group.Wait()
 	if err := b.Remove("shop", "de"); err != nil {
+		t.Error(err)
+	}
+}
+
+// TestConcurrentUse looks up, changes and shares one Bundles on several goroutines.
+func TestConcurrentUse(t *testing.T) {
+	b := opened(t)
+	var group sync.WaitGroup
+	for i := 0; i < 4; i++ {
+		app := fmt.Sprint("app", i)
+		group.Add(1)
+		go func() {
+			defer group.Done()
+			for k := 0; k < 100; k++ {
+				err := b.Install(app, "de", []byte(german), true)
+				if err == nil {
+					err = b.Remove(app, "de")
+				}
+				if err != nil {
+					t.Error(err)
+				}
+				if got, err := b.Look("shop", "de_AT", "v"); !reflect.DeepEqual(got, []int32{1, -2}) {
+					t.Error(got, err)
+				}
+			}
+		}()
+	}
+	group.Wait()
+}
+
+// TestForgottenShares waits until the collector has closed shares that nobody refers to, so that a change is possible again.
+func TestForgottenShares(t *testing.T) {
+	b := opened(t)
+	for i := 0; i < 10; i++ {
+		if _, err := b.Share(); err != nil {
+			t.Fatal(err)
+		}
+	}
+	err := b.Remove("shop", "de")
+	for ends := time.Now().Add(time.Minute); errors.Is(err, resb.ErrShared) && time.Now().Before(ends); err = b.Remove("shop", "de") {
+		runtime.GC()
+		time.Sleep(time.Millisecond)
+	}
+	if err != nil {
 		t.Error(err)
 	}
 }
