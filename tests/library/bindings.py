@@ -1,12 +1,26 @@
 #!/usr/bin/env python3
-"""Tests the Python module resb: each kind of item, errors, changes, and threads. RESB_LIBRARY names the shared library."""
+"""Tests the Python package resb: each kind of item, errors, changes, threads, signals and forks."""
 
+import copy
+import mmap
+import multiprocessing
+import os
+import pickle
+import signal
+import sys
+import tempfile
 import threading
+import time
 import unittest
 
 import resb
 
 TEXT = 'de{greeting{"Grüß"} low:int{-1} v:intvector{1,-2} b:bin{00ff} e:bin{""} list{"a","bc"} menu{open{"Auf"} close{"Zu"}} z{""}}'
+
+
+def fails(_):
+    """Raises an error in a process of a pool."""
+    resb.compile("de{\na:int{09}}")
 
 
 def code(call, *arguments):
@@ -57,7 +71,7 @@ class Test(unittest.TestCase):
         self.assertEqual(code(self.bundles.install, "shop", "de", TEXT), "Exists")
         self.assertEqual(code(self.bundles.replace, "shop", "fr", TEXT), "Absent")
         self.assertEqual(code(self.bundles.install, "shop", "fr", b"x"), "BadFile")
-        self.assertEqual(code(resb.check, b""), "Header")
+        self.assertEqual(code(resb.check, b""), "FileHeader")
         with self.assertRaises(resb.Error) as raised:
             resb.compile("de{\na:int{09}}")
         self.assertEqual((raised.exception.code, raised.exception.line, raised.exception.number), ("TextBadInt", 2, 40))
@@ -87,9 +101,9 @@ class Test(unittest.TestCase):
         self.assertEqual(code(resb.Bundles, {"root": b"x"}), "BadFile, bundle root of ICUDATA")
         self.assertEqual(code(resb.Bundles, {"de_AT": "de{}", "DE-at": "de{}"}), "Twice, bundle DE-at of ICUDATA")
         self.assertEqual(code(resb.Bundles, {"-": "de{}"}), "BadLocale, bundle - of ICUDATA")
-        self.assertEqual(code(resb.Bundles, {}, "x{\nparentLocales{"), "Unexpected, line 2")
-        self.assertEqual(code(resb.Bundles, {}, "x{}"), "Shape")
-        self.assertEqual(code(resb.Bundles, {}, 'x{parentLocales{root{"-"}}}'), "BadLocale")
+        self.assertEqual(code(resb.Bundles, {}, "x{\nparentLocales{"), "TextUnexpected, line 2")
+        self.assertEqual(code(resb.Bundles, {}, "x{}"), "ParentsShape")
+        self.assertEqual(code(resb.Bundles, {}, 'x{parentLocales{root{"-"}}}'), "ParentsBadLocale")
 
     def test_limits(self):
         file = resb.compile(TEXT)
@@ -100,9 +114,128 @@ class Test(unittest.TestCase):
         self.assertEqual(self.bundles.look_within("shop", "de", "z", 4), "")
         self.assertEqual(code(self.bundles.look_within, "shop", "de", "greeting", 3), "TooManySteps")
 
+    def test_errors_leave_their_process(self):
+        error = resb.Error(14, locale="de")
+        for other in (pickle.loads(pickle.dumps(error)), copy.copy(error), copy.deepcopy(error)):
+            self.assertEqual((str(other), other.number, other.locale), ("BadText, bundle de of ICUDATA", 14, "de"))
+        with multiprocessing.Pool(1) as pool, self.assertRaises(resb.Error) as raised:
+            pool.map_async(fails, [1]).get(60)
+        self.assertEqual((str(raised.exception), raised.exception.line), ("TextBadInt, line 2", 2))
+
+    def test_bytes_like(self):
+        file = resb.compile(TEXT)
+        with tempfile.TemporaryFile() as stored:
+            stored.write(file)
+            stored.flush()
+            with mmap.mmap(stored.fileno(), 0, access=mmap.ACCESS_READ) as mapped:
+                for number, content in enumerate((bytearray(file), memoryview(file), mapped)):
+                    self.assertIsNone(resb.check(content))
+                    self.bundles.install("many", f"de_{number}", content)
+        self.assertEqual(self.bundles.text("many", "de_2", "menu/open"), "Auf")
+        self.assertEqual(code(resb.check, memoryview(file)[:0]), "FileHeader")
+        self.assertEqual(resb.compile(bytearray(TEXT.encode())), file)
+        common = resb.Bundles({"root": memoryview(file), "de": bytearray(file)})
+        self.addCleanup(common.close)
+        self.assertRaises(TypeError, resb.check, 7)
+        self.assertRaises(BufferError, resb.check, memoryview(file)[::2])
+
+    def test_copies(self):
+        for call in (copy.copy, copy.deepcopy, pickle.dumps):
+            self.assertRaises(TypeError, call, self.bundles)
+        self.assertEqual(self.look("greeting"), "Grüß")
+
+    def test_text(self):
+        self.assertEqual(self.bundles.text("shop", "de", "greeting"), "Grüß")
+        self.assertEqual(code(self.bundles.text, "shop", "de", "low"), "OtherKind")
+
+    def test_interrupted_at_each_step(self):
+        """Looks up and changes between the steps of other calls of the thread, as a signal handler may."""
+        seen = set()
+
+        def interrupt():
+            return self.look("menu/open"), tuple(self.look("v")), code(self.bundles.remove, "shop", "none")
+
+        def trace(frame, event, _):
+            frame.f_trace_opcodes = frame.f_globals["__name__"] == "resb"
+            if event == "opcode":
+                seen.add(interrupt())
+            return trace
+
+        sys.settrace(trace)
+        try:
+            values = self.look("menu/open"), self.look("v"), self.bundles.list("shop")
+            self.bundles.replace("shop", "de", TEXT)
+            self.assertEqual(code(self.bundles.install, "shop", "de", TEXT), "Exists")
+        finally:
+            sys.settrace(None)
+        self.assertEqual(values, ("Auf", [1, -2], ["de"]))
+        self.assertEqual(seen, {("Auf", (1, -2), "Absent"), ("Auf", (1, -2), "Shared")})
+        self.assertEqual(interrupt(), ("Auf", (1, -2), "Absent"))
+
+    def test_forks_beside_threads(self):
+        """Looks up in children that are forked while other threads look up and change."""
+        ends = threading.Event()
+
+        def look():
+            while not ends.is_set():
+                self.look("v")
+
+        def change():
+            while not ends.is_set():
+                self.bundles.replace("shop", "de", TEXT)
+
+        threads = [threading.Thread(target=call) for call in (look, look, change)]
+        for thread in threads:
+            thread.start()
+        statuses = [self.status_of_a_child() for _ in range(10)]
+        ends.set()
+        for thread in threads:
+            thread.join()
+        # 3: a child that was forked during a change finds the bundles closed
+        self.assertLessEqual(set(statuses), {0, 3})
+
+    def status_of_a_child(self):
+        child = os.fork()
+        if not child:
+            signal.alarm(60)  # ends a child that waits for ever
+            status = 1
+            try:
+                status = 0 if (self.look("v"), self.look("menu/open")) == ([1, -2], "Auf") else 1
+            except resb.Error as error:
+                status = 3 if error.code == "NotOpen" else 2
+            finally:
+                os._exit(status)
+        return os.waitstatus_to_exitcode(os.waitpid(child, 0)[1])
+
+    def test_others_run_during_long_calls(self):
+        counts, ends = [0], threading.Event()
+
+        def count():
+            while not ends.is_set():
+                counts[0] += 1
+                time.sleep(0)
+
+        def counted(call, *arguments):
+            """Returns whether another thread counts during a call: here a thread runs until it waits or a call lets others run."""
+            before = counts[0]
+            call(*arguments)
+            return counts[0] > before
+
+        self.addCleanup(sys.setswitchinterval, sys.getswitchinterval())
+        sys.setswitchinterval(1000)
+        counter = threading.Thread(target=count)
+        counter.start()
+        self.addCleanup(counter.join)
+        self.addCleanup(ends.set)
+        text = "de{%s}" % "".join('k%05d{"some text"}' % number for number in range(20_000))
+        file = resb.compile(text)
+        for call in ((resb.compile, text), (resb.check, file), (self.bundles.replace, "shop", "de", text), (resb.Bundles, {"de": file})):
+            self.assertTrue(any(counted(*call) for _ in range(1000)), call[0])
+
     def test_closed(self):
-        self.bundles.close()
-        self.assertEqual(code(self.look, "greeting"), "NotOpen")
+        with self.bundles as bundles:
+            self.assertIs(bundles, self.bundles)
+        self.assertEqual((code(self.look, "greeting"), code(self.bundles.replace, "shop", "de", TEXT)), ("NotOpen", "NotOpen"))
 
     def test_threads(self):
         wrong = []
@@ -123,6 +256,9 @@ class Test(unittest.TestCase):
         for thread in threads:
             thread.join()
         self.assertEqual(wrong, [])
+
+    def test_a_version(self):
+        self.assertRegex(resb.__version__, r"^\d+\.\d+\.\d+")
 
 
 if __name__ == "__main__":

@@ -1,0 +1,337 @@
+"""ICU resource bundles in process: check, compile, and look up with locale inheritance.
+
+    import resb
+
+    bundles = resb.Bundles()
+    bundles.install("shop", "de", 'de{menu{open{"Öffnen"}}}')
+    bundles.text("shop", "de_AT", "menu/open")  # 'Öffnen'
+
+A thin layer over libresb.so.0; docs/LIBRARY.md describes both. Threads and signal handlers may share a `Bundles`.
+"""
+
+from __future__ import annotations
+
+import builtins
+import codecs
+import ctypes
+import os
+import threading
+from collections.abc import Iterator, Mapping, Sequence
+from contextlib import ExitStack
+from typing import TYPE_CHECKING, Callable, NoReturn, Optional, Union, overload
+
+from . import _library
+
+if TYPE_CHECKING:
+    from ._library import BytesLike
+
+    Bundle = Union[str, BytesLike]
+
+__all__ = ["Array", "Bundles", "Error", "Table", "Value", "check", "compile"]
+__version__ = "1.1.0"
+
+Value = Union[str, bytes, int, "list[int]", "Array", "Table"]
+
+_NOT_OPEN, _SHARED, _NO_ROOM, _OTHER_KIND, _BAD_PATH, _MISSING = 2, 4, 5, 6, 21, 26
+_OF_ICUDATA = 13, 14, 15, 19
+_STRING, _BINARY, _TABLE, _INT, _INT_VECTOR = 0, 1, 2, 7, 14
+_UNITS = 512  # a longer string takes a second call
+_decode = codecs.utf_16_le_decode
+_sizes = [ctypes.c_size_t(size) for size in range(1100)]  # the longest path has 1,024 bytes
+
+
+class Error(Exception):
+    """An error with its code, such as "BadPath", and the line of an error in a text, or the locale of a bundle
+    of ICUDATA."""
+
+    def __init__(self, number: int, line: int = 0, locale: str = "") -> None:
+        super().__init__(number, line, locale)
+        name = ctypes.c_char_p()
+        _library.get_error_name(number, name)
+        self.code = (name.value or b"").decode("ascii")
+        self.number = number
+        self.line = line
+        self.locale = locale
+
+    def __str__(self) -> str:
+        place = f", line {self.line}" if self.line else f", bundle {self.locale} of ICUDATA" if self.locale else ""
+        return self.code + place
+
+
+def _must(error: int) -> None:
+    if error:
+        raise Error(error)
+
+
+def check(file: BytesLike) -> None:
+    """Checks whether bytes are a valid .res file; raises Error with its first error."""
+    with _library.bytes_of(file) as (at, length):
+        _must(_library.check(at, length))
+
+
+def compile(text: Bundle) -> bytes:
+    """Compiles a bundle text to a .res file; raises Error with the code and the line of its first error."""
+    line = ctypes.c_uint64()
+    with _library.bytes_of(text) as (at, length):
+        error, file = _written(4 * length + 256, lambda *out: _library.compile(at, length, *out, line))
+    if error:
+        raise Error(error, line.value)
+    return file
+
+
+def _written(capacity: int, call: Callable[..., int]) -> tuple[int, bytes]:
+    """Returns the error of a call, and what it writes to a buffer, which grows as the call asks."""
+    length, error = ctypes.c_size_t(capacity), _NO_ROOM
+    while error == _NO_ROOM:
+        out = ctypes.create_string_buffer(length.value)
+        error = call(out, len(out), length)
+    return error, b"" if error else ctypes.string_at(out, length.value)
+
+
+class Table(Mapping[str, "Value"]):
+    """A table of a bundle, read as it is asked: `table["open"]`. An item is looked up anew, with fallback."""
+
+    def __init__(self, bundles: Bundles, app: str, locale: str, path: str, count: int) -> None:
+        self._bundles, self._app, self._locale, self._path, self._count = bundles, app, locale, path, count
+
+    def __len__(self) -> int:
+        return self._count
+
+    def __iter__(self) -> Iterator[str]:
+        for index in range(self._count):
+            yield self._bundles._key(self._app, self._locale, self._path, index)
+
+    def __getitem__(self, key: str) -> Value:
+        if not key or "/" in key:
+            raise KeyError(key)
+        try:
+            return self._bundles.look(self._app, self._locale, _child(self._path, key))
+        except Error as error:
+            if error.number in (_MISSING, _BAD_PATH):
+                raise KeyError(key) from None
+            raise
+
+
+class Array(Sequence["Value"]):
+    """An array of a bundle, read as it is asked: `array[0]`."""
+
+    def __init__(self, bundles: Bundles, app: str, locale: str, path: str, count: int) -> None:
+        self._bundles, self._app, self._locale, self._path, self._count = bundles, app, locale, path, count
+
+    def __len__(self) -> int:
+        return self._count
+
+    @overload
+    def __getitem__(self, index: int) -> Value: ...
+    @overload
+    def __getitem__(self, index: slice) -> list[Value]: ...
+    def __getitem__(self, index: Union[int, slice]) -> Union[Value, list[Value]]:
+        if isinstance(index, slice):
+            return [self[i] for i in range(*index.indices(self._count))]
+        at = index + self._count if index < 0 else index
+        if not 0 <= at < self._count:
+            raise IndexError(index)
+        return self._bundles.look(self._app, self._locale, _child(self._path, str(at)))
+
+
+def _child(path: str, segment: str) -> str:
+    return f"{path}/{segment}" if path else segment
+
+
+class _Turn:
+    """Orders the calls of threads that can't run side by side. A signal handler may enter again what its thread is in."""
+
+    def __init__(self) -> None:
+        self._lock = threading.RLock()
+        self.depth = 0
+        self.engine: Optional[_library.Handle] = None  # the handle that a change uses alone
+
+    def __enter__(self) -> _Turn:
+        self._lock.acquire()
+        self.depth += 1
+        return self
+
+    def __exit__(self, *_: object) -> None:
+        self.depth -= 1
+        self._lock.release()
+
+
+class _Room:
+    """A buffer of a lookup, with ctypes' objects for it."""
+
+    def __init__(self) -> None:
+        self.bytes = bytearray(2 * _UNITS)
+        self.at = (ctypes.c_char * len(self.bytes)).from_buffer(self.bytes)
+        self.size = ctypes.c_size_t(_UNITS)
+        self.len = ctypes.c_size_t()
+        self.by_len = ctypes.byref(self.len)
+
+
+class Bundles:
+    """The bundles of many applications. An application sees its own bundles and those of ICUDATA alone.
+
+    `icudata` has the bundles of ICUDATA by their locales, and `parents` is a bundle text with explicit parents (docs/LOOKUP.md).
+    A change by a signal handler that interrupts another call raises Error with the code "Shared". In a child that was forked during
+    a change by another thread it is closed."""
+
+    def __init__(self, icudata: Optional[Mapping[str, Bundle]] = None, parents: str = "") -> None:
+        # Lookups of strings use `_handle` without a lock: the interpreter's orders them. A change closes that handle first, so that
+        # they wait for its turn.
+        self._engine = _library.Handle(None, False)
+        self._handle = ctypes.byref(self._engine)
+        self._turns: dict[int, _Turn] = {}  # by process, as a forked child would wait for threads that it doesn't have
+        self._rooms: list[_Room] = []
+        self._open(list((icudata or {}).items()), parents.encode())
+
+    def _open(self, icudata: list[tuple[str, Bundle]], parents: bytes) -> None:
+        entries, place = (_library.Entry * max(1, len(icudata)))(), ctypes.c_uint64()
+        with ExitStack() as kept:
+            for entry, (locale, bundle) in zip(entries, icudata):
+                at, length = kept.enter_context(_library.bytes_of(bundle))
+                address = ctypes.cast(at, ctypes.c_void_p)
+                entry.locale, entry.bytes, entry.is_text = locale.encode(), address, isinstance(bundle, str)
+                entry.locale_len, entry.len = len(locale.encode()), length
+            seed = os.urandom(16)
+            error = _library.open_with(self._engine, seed, 16, entries, len(icudata), parents, len(parents), place)
+        if error in _OF_ICUDATA and icudata:
+            raise Error(error, locale=icudata[place.value][0])
+        if error:
+            raise Error(error, place.value)
+
+    def _turn(self) -> _Turn:
+        pid = os.getpid()
+        return self._turns.get(pid) or self._turns.setdefault(pid, _Turn())
+
+    def _ask(self, call: Callable[..., int], *arguments: object) -> int:
+        with self._turn() as turn:
+            return call(turn.engine or self._engine, *arguments)
+
+    def close(self) -> None:
+        """Frees the bundles. Later calls raise Error with the code "NotOpen"."""
+        with self._alone():
+            _library.close(self._engine)
+
+    def __enter__(self) -> Bundles:
+        return self
+
+    def __exit__(self, *_: object) -> None:
+        self.close()
+
+    def __del__(self, _close: Callable[..., int] = _library.close) -> None:
+        if hasattr(self, "_engine"):
+            _close(self._engine)
+
+    def __reduce_ex__(self, _: object) -> NoReturn:
+        raise TypeError("a Bundles can't be copied or pickled")
+
+    def _alone(self) -> _Turn:
+        """Returns the turn for a change, or raises Error if the change interrupts another call of its thread."""
+        turn = self._turn()
+        with turn:
+            if turn.depth > 1:
+                raise Error(_SHARED)
+        return turn
+
+    def install(self, app: str, locale: str, bundle: Bundle) -> None:
+        """Installs a bundle: a text as str, or a .res file as any bytes-like object. Other threads run meanwhile."""
+        self._change(_library.install, app, locale, bundle)
+
+    def replace(self, app: str, locale: str, bundle: Bundle) -> None:
+        """Replaces a bundle: a text as str, or a .res file as any bytes-like object. Other threads run meanwhile."""
+        self._change(_library.replace, app, locale, bundle)
+
+    def _change(self, call: Callable[..., int], app: str, locale: str, bundle: Bundle) -> None:
+        a, l, engine = app.encode(), locale.encode(), _library.Handle(None, False)
+        with _library.bytes_of(bundle) as (at, length), self._alone() as turn:
+            try:
+                _must(_library.share(self._engine, engine))
+                turn.engine = engine
+                _library.close(self._engine)
+                error = call(engine, a, len(a), l, len(l), at, length, isinstance(bundle, str))
+            finally:
+                if engine.is_open:
+                    _library.close(self._engine)
+                    self._engine, self._handle = engine, ctypes.byref(engine)
+                turn.engine = None
+        _must(error)
+
+    def remove(self, app: str, locale: str) -> None:
+        """Removes a bundle."""
+        a, l = app.encode(), locale.encode()
+        with self._alone():
+            _must(_library.remove(self._engine, a, len(a), l, len(l)))
+
+    def list(self, app: str) -> builtins.list[str]:
+        """Lists the locales of an application's bundles in the order of their installation."""
+        a = app.encode()
+        error, names = _written(256, lambda *out: self._ask(_library.list_locales, a, len(a), *out))
+        _must(error)
+        return names.decode("ascii").split("\0")[:-1]
+
+    def usage(self, app: str) -> tuple[int, int]:
+        """Returns the total length of the files that an application stores, and the number of its bundles."""
+        a, size, count = app.encode(), ctypes.c_uint64(), ctypes.c_uint64()
+        _must(self._ask(_library.usage, a, len(a), size, count))
+        return size.value, count.value
+
+    def apps(self) -> int:
+        """Returns the number of applications that have bundles."""
+        count = ctypes.c_uint64()
+        _must(self._ask(_library.apps, count))
+        return count.value
+
+    def look_within(self, app: str, locale: str, path: str, steps: int) -> Value:
+        """Looks up like `look`, or raises Error with the code "TooManySteps" if the lookup takes more than this many steps."""
+        return self._found(_library.look_within, app, locale, path, steps)
+
+    def look(self, app: str, locale: str, path: str) -> Value:
+        """Looks up an item: a str, bytes, int (28 bits, with a sign), list of ints, Array or Table."""
+        text = self._quick(app, locale, path)
+        return self._found(_library.look, app, locale, path) if text is None else text
+
+    def text(self, app: str, locale: str, path: str) -> str:
+        """Looks up a string; raises Error with the code "OtherKind" for another item."""
+        text = self.look(app, locale, path)
+        if not isinstance(text, str):
+            raise Error(_OTHER_KIND)
+        return text
+
+    def _quick(self, app: str, locale: str, path: str) -> Optional[str]:
+        """Looks up a string of at most 512 units; returns None for what a turn is needed for."""
+        a, l, p = app.encode(), locale.encode(), path.encode()
+        try:
+            an, ln, pn = _sizes[len(a)], _sizes[len(l)], _sizes[len(p)]
+        except IndexError:
+            return None
+        try:
+            room = self._rooms.pop()
+        except IndexError:
+            room = _Room()
+        error = _library.quick_text(self._handle, a, an, l, ln, p, pn, room.at, room.size, room.by_len)
+        text = None if error else _decode(room.bytes[: 2 * room.len.value], "surrogatepass", True)[0]
+        self._rooms.append(room)
+        if error and error not in (_NOT_OPEN, _NO_ROOM, _OTHER_KIND):
+            raise Error(error)
+        return text
+
+    def _found(self, call: Callable[..., int], app: str, locale: str, path: str, *steps: int) -> Value:
+        a, l, p, found = app.encode(), locale.encode(), path.encode(), _library.Found()
+        with self._turn() as turn:
+            _must(call(turn.engine or self._engine, a, len(a), l, len(l), p, len(p), *steps, found))
+            if found.kind == _STRING:
+                return _decode(ctypes.string_at(found.at, 2 * found.count) if found.count else b"", "surrogatepass", True)[0]
+            if found.kind == _INT:
+                return (int(found.number) ^ 1 << 27) - (1 << 27)
+            if found.kind == _BINARY:
+                return ctypes.string_at(found.at, found.count) if found.count else b""
+            if found.kind == _INT_VECTOR:
+                return [*(ctypes.c_int32 * found.count).from_address(found.at)] if found.count else []
+        if found.kind == _TABLE:
+            return Table(self, app, locale, path, found.count)
+        return Array(self, app, locale, path, found.count)
+
+    def _key(self, app: str, locale: str, path: str, index: int) -> str:
+        a, l, p = app.encode(), locale.encode(), path.encode()
+        error, key = _written(64, lambda *out: self._ask(_library.key, a, len(a), l, len(l), p, len(p), index, *out))
+        _must(error)
+        return key.decode("ascii")
