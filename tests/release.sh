@@ -59,6 +59,8 @@ refuses 'no changes below "Unreleased"' tools/release prepare 9.8.8
 grep -q '"9.8.7"' crates/rb_arguments/src/command_line.rt || fail 'the source names another version'
 grep -qx '#define RESB_VERSION "9.8.7"' library/resb.h || fail 'the header names another version'
 grep -qF 'b"9.8.7\0"' crates/resb/src/version.rt || fail 'the library names another version'
+grep -qx '__version__ = "9.8.7"' library/python/resb/__init__.py || fail 'the package for Python has another version'
+[ "$(cat library/rust/*/Cargo.toml library/rust/Cargo.lock | grep -cx 'version = "9.8.7"')" = 4 ] || fail 'the crates have another version'
 grep -qx "## 9.8.7 - $(date -u +%Y-%m-%d)" CHANGELOG.md || fail 'the changelog lacks the version'
 refuses 'not committed' made_of
 commit 'the version'
