@@ -60,7 +60,7 @@ func TestErrors(t *testing.T) {
 	if !errors.As(err, &fault) || err.Error() != "TextBadInt, line 2" || fault.Line != 2 || !errors.Is(err, fault.Code) {
 		t.Error(err)
 	}
-	if err := resb.Check(nil); err == nil || err.Error() != "Header" {
+	if err := resb.Check(nil); err == nil || err.Error() != "FileHeader" {
 		t.Error(err)
 	}
 	if err := b.Install("shop", "de", []byte(german), true); err == nil || err.Error() != "Exists" {
@@ -136,8 +136,8 @@ func TestErrorsOfTheStart(t *testing.T) {
 		{resb.Options{ICUData: []resb.Entry{text("root", "root{}"), {Locale: "de", Bundle: []byte("x")}}}, "BadFile, bundle de of ICUDATA"},
 		{resb.Options{ICUData: []resb.Entry{text("de", "")}}, "BadText, bundle de of ICUDATA"},
 		{resb.Options{ICUData: []resb.Entry{text("root", "root{}"), text("-", "")}}, "BadLocale, bundle - of ICUDATA"},
-		{resb.Options{Parents: []byte("x{\nparentLocales{")}, "Unexpected, line 2"},
-		{resb.Options{Parents: []byte("x{}")}, "Shape"},
+		{resb.Options{Parents: []byte("x{\nparentLocales{")}, "TextUnexpected, line 2"},
+		{resb.Options{Parents: []byte("x{}")}, "ParentsShape"},
 	} {
 		if _, err := resb.OpenWith(it.options); err == nil || err.Error() != it.want {
 			t.Errorf("%v; want %s", err, it.want)

@@ -1,8 +1,8 @@
 //! The C functions of libresb, with the names and the rules of `resb.h`.
-#![no_std]
 #![allow(non_camel_case_types)]
 
-use core::ffi::c_void;
+use std::ffi::c_void;
+use std::os::raw::c_char;
 
 pub const RESB_OK: u32 = 0;
 pub const RESB_MEMORY: u32 = 1;
@@ -107,7 +107,7 @@ pub struct resb_locale {
 }
 
 extern "C" {
-    pub fn resb_error_name(error: u32, out: *mut u8, capacity: usize) -> usize;
+    pub fn resb_get_error_name(error: u32, name: *mut *const c_char);
     pub fn resb_check(file: *const u8, len: usize) -> u32;
     pub fn resb_compile(
         text: *const u8,

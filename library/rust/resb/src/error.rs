@@ -1,5 +1,6 @@
 use crate::sys;
-use std::fmt;
+use std::ffi::CStr;
+use std::{fmt, ptr};
 
 /// Where an error is in what was passed.
 #[derive(Clone, Copy, Debug, PartialEq, Eq)]
@@ -19,12 +20,15 @@ pub struct Error {
 }
 
 impl Error {
-    /// Returns the name of the error, such as "BadPath", which `resb explain` explains.
-    pub fn name(&self) -> String {
-        let mut name = [0; 16];
-        // SAFETY: the buffer has as many bytes as the call is told.
-        let len = unsafe { sys::resb_error_name(self.number, name.as_mut_ptr(), name.len()) };
-        String::from_utf8_lossy(&name[..len]).into_owned()
+    /// Returns the name of the error, such as "BadPath".
+    pub fn name(&self) -> &'static str {
+        let mut name = ptr::null();
+        // SAFETY: the call writes where a text of the library begins, which ends with a zero byte.
+        let name = unsafe {
+            sys::resb_get_error_name(self.number, &mut name);
+            CStr::from_ptr(name)
+        };
+        name.to_str().unwrap_or_default()
     }
 }
 

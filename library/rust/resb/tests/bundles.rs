@@ -85,8 +85,8 @@ fn names_errors() {
         (bad_int.number, bad_int.place),
         (sys::RESB_TEXT_BAD_INT, Place::Line(2))
     );
-    assert_eq!(bad_int.to_string(), "BadInt, line 2");
-    assert_eq!(check(b"").unwrap_err().name(), "Header");
+    assert_eq!(bad_int.to_string(), "TextBadInt, line 2");
+    assert_eq!(check(b"").unwrap_err().name(), "FileHeader");
     let twice = bundles.install("shop", "de", Content::Text(GERMAN));
     assert_eq!(twice, Err(error(sys::RESB_EXISTS)));
     // de and root, each a step, and one more for the segment
@@ -107,7 +107,7 @@ fn opens_with_icudata_and_parents() {
     let bad_parents = Bundles::open_with(&icudata[..1], "x{\nparentLocales{")
         .err()
         .unwrap();
-    assert_eq!(bad_parents.to_string(), "Unexpected, line 2");
+    assert_eq!(bad_parents.to_string(), "TextUnexpected, line 2");
     let parents = "x{parentLocales{root{\"zh_Hant\"}}}";
     let mut bundles = Bundles::open_with(&icudata[..1], parents).unwrap();
     bundles
