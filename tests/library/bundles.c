@@ -1,4 +1,4 @@
-/* Prepares bundles without an engine, and exports those of one, with each error for a caller with memory. */
+/* Prepares bundles without an engine, installs and exports them, with each error for a caller with memory. */
 #include "common.h"
 
 static const char text[] = "de{greeting{\"Gr\\u00fc\\u00df\"} count:int{7} menu{open{\"Auf\"} close{\"Zu\"}}}";
@@ -90,12 +90,75 @@ static void exports(void) {
     resb_close(&engine);
 }
 
+typedef uint32_t change(resb *, const char *, size_t, const char *, size_t, resb_bundle *);
+
+/* Prepares a text and gives it to a change, which leaves no bundle in the handle. */
+static uint32_t put(change *call, resb *engine, const char *app, const char *locale, const char *source) {
+    resb_bundle bundle = RESB_DISCARDED;
+    EXPECT(resb_prepare(source, strlen(source), true, &bundle, &line) == RESB_OK && bundle.is_prepared);
+    uint32_t error = call(engine, app, strlen(app), locale, strlen(locale), &bundle);
+    EXPECT(!bundle.is_prepared);
+    EXPECT(call(engine, app, strlen(app), locale, strlen(locale), &bundle) == RESB_NOT_OPEN && !bundle.is_prepared);
+    return error;
+}
+
+/* Expects the file of a bundle of the application "shop". */
+static void has(resb *engine, const char *locale, const char *source) {
+    uint8_t out[4096], wanted[4096];
+    size_t len, wanted_len;
+    EXPECT(resb_compile(source, strlen(source), wanted, sizeof wanted, &wanted_len, &line) == RESB_OK);
+    EXPECT(resb_export(engine, S("shop"), locale, strlen(locale), out, sizeof out, &len) == RESB_OK);
+    EXPECT(len == wanted_len && memcmp(out, wanted, len) == 0);
+}
+
+/* Gives a change invalid names, a closed engine and a shared one. */
+static void refuses_names(change *call, resb *engine) {
+    resb closed = RESB_CLOSED, other = RESB_CLOSED;
+    EXPECT(put(call, &closed, "shop", "de", text) == RESB_NOT_OPEN && !closed.is_open);
+    EXPECT(put(call, engine, "sh op", "-", text) == RESB_BAD_APP);
+    EXPECT(put(call, engine, "ICUDATA", "-", text) == RESB_RESERVED);
+    EXPECT(put(call, engine, "shop", "-", text) == RESB_BAD_LOCALE);
+    EXPECT(resb_share(engine, &other) == RESB_OK);
+    EXPECT(put(call, engine, "shop", "de", text) == RESB_SHARED);
+    resb_close(&other);
+}
+
+static void installs(void) {
+    resb engine = RESB_CLOSED;
+    uint8_t seed[16] = {7};
+    resb_locale opened;
+    resb_found found;
+    EXPECT(resb_open(&engine, seed, 16) == RESB_OK);
+    refuses_names(resb_install_bundle, &engine);
+    refuses_names(resb_replace_bundle, &engine);
+    EXPECT(put(resb_replace_bundle, &engine, "shop", "de", text) == RESB_ABSENT);
+    EXPECT(put(resb_install_bundle, &engine, "shop", "DE", text) == RESB_OK);
+    has(&engine, "de", text);
+    EXPECT(put(resb_install_bundle, &engine, "shop", "de", "de{}") == RESB_EXISTS);
+    has(&engine, "de", text);
+    EXPECT(resb_open_locale(&engine, S("shop"), S("de"), &opened) == RESB_OK);
+    EXPECT(resb_look_at(&engine, &opened, S("count"), &found) == RESB_OK && found.number == 7);
+    EXPECT(put(resb_replace_bundle, &engine, "shop", "de", "de{count:int{8}}") == RESB_OK);
+    has(&engine, "de", "de{count:int{8}}");
+    EXPECT(resb_look_at(&engine, &opened, S("count"), &found) == RESB_STALE);
+    EXPECT(resb_look(&engine, S("shop"), S("de"), S("count"), &found) == RESB_OK && found.number == 8);
+    for (int i = 1; i < 4096; i++) {
+        char locale[16];
+        snprintf(locale, sizeof locale, "de_%04d", i);
+        EXPECT(put(resb_install_bundle, &engine, "shop", locale, "de{}") == RESB_OK);
+    }
+    EXPECT(put(resb_install_bundle, &engine, "shop", "fr", "fr{}") == RESB_FULL);
+    EXPECT(put(resb_replace_bundle, &engine, "shop", "de_4095", "de{a{\"b\"}}") == RESB_OK);
+    resb_close(&engine);
+}
+
 int main(void) {
     compiles();
     prepares();
     refuses_errors();
     refuses_as_check();
     exports();
-    puts("each bundle was prepared and exported as expected");
+    installs();
+    puts("each bundle was prepared, installed and exported as expected");
     return 0;
 }

@@ -62,6 +62,9 @@ static void history(void) {
     bool root = worked(resb_install(&e, S("shop"), S("root"), S("root{greeting{\"Hello\"}}"), true));
     if (de)
         worked(resb_replace(&e, S("shop"), S("de"), out, written, false));
+    if (worked(resb_prepare(out, written, false, &bundle, &line)))
+        de |= worked((de ? resb_replace_bundle : resb_install_bundle)(&e, S("shop"), S("de"), &bundle));
+    EXPECT(!bundle.is_prepared);
     if (worked(resb_list(&e, S("shop"), names, sizeof names, &len)))
         EXPECT(len == (de ? 3u : 0u) + (root ? 5u : 0u));
     uint32_t seen = resb_look(&e, S("shop"), S("de_AT"), S("greeting"), &f);

@@ -51,6 +51,13 @@ static void *replace(void *a) {
     return a;
 }
 
+static void *replace_bundle(void *a) {
+    resb_bundle bundle = RESB_DISCARDED;
+    result = resb_prepare(text, text_len, true, &bundle, &line);
+    result = result ? result : resb_replace_bundle(&e, S("a"), S("de"), &bundle);
+    return a;
+}
+
 static void *start(void *a) {
     static const char parents[] = "x{parentLocales{root{\"zh_Hant\"}}}";
     uint8_t seed[16] = {0};
@@ -141,6 +148,7 @@ int main(void) {
     measure("prepare a file", prepare_file);
     measure("install", install);
     measure("replace", replace);
+    measure("replace by a prepared bundle", replace_bundle);
     measure("start", start);
     measure("look", look);
     measure("look_within", look_within);

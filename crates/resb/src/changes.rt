@@ -1,15 +1,20 @@
-ghost use Rattle.std.specs.Prelude.{◌≡◌, ◌≢◌, None, IfOk, IfNone, IfSome};
-ghost use Rattle.rb_engine.specs.Source.{change_request};
+ghost use Rattle.std.specs.Prelude.{◌≡◌, ◌≢◌, ℕ, List, Ok, None, IfOk, IfErr, IfNone, IfSome};
+ghost use Rattle.rb_engine.specs.Source.{Reads, change_request};
 ghost use Rattle.rb_engine.specs.Version.{next_version};
+ghost use Rattle.rb_engine.specs.declared.request.Payload.{Payload};
+ghost use Rattle.rb_engine.specs.declared.request.Payload.TheVariants.{File};
 ghost use Rattle.rb_engine.specs.declared.request.Request.TheVariants as requests;
 ghost use Rattle.rb_handle.specs.Stored.{engine_of};
 ghost use Rattle.resb.specs.Changes.{payload_of, HandlesAs, LeadsTo, RaisesVersion};
 
 use crate::held::take;
 use crate::numbers::{CLOSED, MEMORY, SHARED, reply_number};
-use rb_engine::{Change, Engine, Payload, Request};
-use rb_handle::Handle;
+use crate::prepared::take_bundle;
+use rb_engine::{App, Change, Engine, IncomingBundle, Payload, Request};
+use rb_handle::{BundleHandle, Handle};
+use rb_locales::Name;
 use rb_tree::ByteList;
+use rb_validator::Bundle;
 use std::alloc::{AllocError, Global};
 use std::sync::Arc;
 
@@ -158,6 +163,141 @@ pub extern "C" fn resb_replace(
     ensures closed { IfNone (engine_of handle.old) (result ≡ 2) }
 {
     change(alloc, handle, Change::Replace, app, locale, bytes, is_text)
+}
+
+/// Names a bundle that was checked before, or returns it if a name is invalid.
+#[tactic(auto, using(crate::proofs::Named::reads))]
+fn named(app: &[u8], locale: &[u8], bundle: Bundle) -> Result<IncomingBundle, Bundle>
+    ensures read { IfOk result
+        (λ incoming. Reads app.now locale.now (File bundle) (Ok incoming)) }
+    ensures back { IfErr result (λ b. b ≡ bundle) }
+{
+    let Ok(app) = App::read(app) else {
+        return Err(bundle);
+    };
+    let Ok(name) = Name::read(locale) else {
+        return Err(bundle);
+    };
+    // The bytes of a bundle denote a tree.
+    let _ = bundle.bytes();
+    Ok(IncomingBundle::of(&app, &name, bundle))
+}
+
+/// Stores a bundle if no other handle has the engine.
+fn put_alone(engine: &mut Arc<Engine>, change: Change, incoming: IncomingBundle) -> u32
+    ensures unchanged { result ≢ 0 → engine.new.value ≡ engine.old.value }
+    ensures version { result ≡ 0
+        → engine.new.value.version ≡ next_version engine.old.value.version }
+    ensures handled { (app locale : List ℕ) → (payload : Payload)
+        → Reads app locale payload (Ok incoming) → result ≢ 4
+        → HandlesAs engine.old.value (change_request change app locale payload) result
+        engine.new.value }
+{
+    match Arc::get_mut(engine) {
+        Some(engine) => reply_number(&engine.put(change, incoming)),
+        None => SHARED,
+    }
+}
+
+fn put_in(
+    engine: &mut Arc<Engine>,
+    alloc: Global,
+    change: Change,
+    app: &[u8],
+    locale: &[u8],
+    bundle: Bundle,
+) -> u32
+    ensures unchanged { result ≢ 0 → engine.new.value ≡ engine.old.value }
+    ensures version { result ≡ 0
+        → engine.new.value.version ≡ next_version engine.old.value.version }
+    ensures handled { result ≢ 1 → result ≢ 4 → HandlesAs engine.old.value
+        (change_request change app.now locale.now (File bundle)) result engine.new.value }
+{
+    match named(app, locale, bundle) {
+        Ok(incoming) => put_alone(engine, change, incoming),
+        // The engine refuses an invalid name before it reads the file.
+        Err(bundle) => change_in(engine, alloc, change, app, locale, bundle.bytes(), false),
+    }
+}
+
+fn change_to(
+    alloc: Global,
+    handle: &mut Handle,
+    change: Change,
+    app: &[u8],
+    locale: &[u8],
+    bundle: &mut BundleHandle,
+) -> u32
+    ensures there { IfSome (engine_of handle.old) (λ _. engine_of handle.new ≢ None) }
+    ensures unchanged { result ≢ 0 → engine_of handle.new ≡ engine_of handle.old }
+    ensures version { result ≡ 0 → RaisesVersion (engine_of handle.old) (engine_of handle.new) }
+    ensures handled { IfSome bundle.old.file (λ file. LeadsTo
+        (change_request change app.now locale.now (File file)) result
+        (engine_of handle.old) (engine_of handle.new)) }
+    ensures taken { bundle.new.file ≡ None }
+    ensures discarded { IfNone bundle.old.file (result ≡ 2) }
+    ensures closed { IfNone (engine_of handle.old) (result ≡ 2) }
+{
+    let Some(bundle) = take_bundle(alloc, bundle) else {
+        return CLOSED;
+    };
+    let Some(mut engine) = take(alloc, handle) else {
+        return CLOSED;
+    };
+    let result = put_in(
+        &mut engine,
+        alloc,
+        change,
+        app,
+        locale,
+        Box::into_inner(bundle),
+    );
+    *handle = Handle::of(engine);
+    result
+}
+
+/// Takes a prepared bundle out of its handle, and installs it. Its file isn't checked again.
+#[unsafe(no_mangle)]
+pub extern "C" fn resb_install_bundle(
+    alloc: Global,
+    handle: &mut Handle,
+    app: &[u8],
+    locale: &[u8],
+    bundle: &mut BundleHandle,
+) -> u32
+    ensures there { IfSome (engine_of handle.old) (λ _. engine_of handle.new ≢ None) }
+    ensures unchanged { result ≢ 0 → engine_of handle.new ≡ engine_of handle.old }
+    ensures version { result ≡ 0 → RaisesVersion (engine_of handle.old) (engine_of handle.new) }
+    ensures handled { IfSome bundle.old.file (λ file. LeadsTo
+        (requests.Install app.now locale.now (File file)) result
+        (engine_of handle.old) (engine_of handle.new)) }
+    ensures taken { bundle.new.file ≡ None }
+    ensures discarded { IfNone bundle.old.file (result ≡ 2) }
+    ensures closed { IfNone (engine_of handle.old) (result ≡ 2) }
+{
+    change_to(alloc, handle, Change::Install, app, locale, bundle)
+}
+
+/// Takes a prepared bundle out of its handle, and replaces an installed bundle by it.
+#[unsafe(no_mangle)]
+pub extern "C" fn resb_replace_bundle(
+    alloc: Global,
+    handle: &mut Handle,
+    app: &[u8],
+    locale: &[u8],
+    bundle: &mut BundleHandle,
+) -> u32
+    ensures there { IfSome (engine_of handle.old) (λ _. engine_of handle.new ≢ None) }
+    ensures unchanged { result ≢ 0 → engine_of handle.new ≡ engine_of handle.old }
+    ensures version { result ≡ 0 → RaisesVersion (engine_of handle.old) (engine_of handle.new) }
+    ensures handled { IfSome bundle.old.file (λ file. LeadsTo
+        (requests.Replace app.now locale.now (File file)) result
+        (engine_of handle.old) (engine_of handle.new)) }
+    ensures taken { bundle.new.file ≡ None }
+    ensures discarded { IfNone bundle.old.file (result ≡ 2) }
+    ensures closed { IfNone (engine_of handle.old) (result ≡ 2) }
+{
+    change_to(alloc, handle, Change::Replace, app, locale, bundle)
 }
 
 fn remove_in(engine: &mut Arc<Engine>, alloc: Global, app: &[u8], locale: &[u8]) -> u32
