@@ -148,7 +148,11 @@ impl Linter {
     ) -> io::Result<bool> {
         let alloc = rt.alloc();
         let left_out = LeftOut::of(alloc, modules, common.levels, name)?;
-        let root = chosen_root(self.root.as_ref(), common.root, has_root);
+        let root = if has_root {
+            self.root.as_ref()
+        } else {
+            common.root
+        };
         let limits = limits_of(alloc, modules, (name, text), root)?;
         let is_limited = self.baseline.is_empty() && !left_out.has_paths() && !limits.has_lengths();
         let settings = Settings {
@@ -178,15 +182,6 @@ impl Linter {
         self.output.left_out(rt, name, hidden.saturating_add(more))?;
         Ok(is_good)
     }
-}
-
-/// Returns the text of the module's own root, or the one that all texts have.
-fn chosen_root<'a>(
-    own: Option<&'a RootText>,
-    common: Option<&'a RootText>,
-    has_own: bool,
-) -> Option<&'a RootText> {
-    if has_own { own } else { common }
 }
 
 /// Returns the limits of a text's strings: those of the settings, of its comments, and of its root's.

@@ -36,14 +36,6 @@ fn is_for(alloc: Global, section: Section<'_>, name: &str) -> Result<bool, Alloc
     Ok(files.is_empty() || is_one(&files, name))
 }
 
-/// Returns the length of the string that a finding calls too long, if it does.
-fn long_length(finding: &Finding) -> Option<usize> {
-    match &finding.message {
-        Message::Pattern(PatternDoubt::Long { length, .. }) => Some(*length),
-        _ => None,
-    }
-}
-
 impl<'a> StringLimits<'a> {
     /// Adds the words of a table.
     fn add_words(&mut self, alloc: Global, section: Section<'a>) -> Result<(), AllocError> {
@@ -149,12 +141,11 @@ impl<'a> StringLimits<'a> {
     /// Checks whether a finding at a path isn't that of a string which is short enough there. Writes
     /// the path's limit into the finding.
     fn counts(&self, finding: &mut Finding, path: &str) -> bool {
-        let Some(length) = long_length(finding) else {
-            return true;
-        };
-        let longest = self.lowest_for(Some(path));
-        finding.message = Message::Pattern(PatternDoubt::Long { length, longest });
-        length > longest
+        if let Message::Pattern(PatternDoubt::Long { length, longest }) = &mut finding.message {
+            *longest = self.lowest_for(Some(path));
+            return *length > *longest;
+        }
+        true
     }
 
     /// Leaves out the findings of strings that are short enough for the limits at their paths.
