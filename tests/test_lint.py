@@ -158,7 +158,6 @@ BESIDE = [
     ("other-placeholders", beside(size='size { "%s von %d" }'), beside()),
     ("other-placeholders", beside(size='size { "%d" }'), beside()),
     ("other-placeholders", beside(hello='hello { "Hallo ${name}" }'), beside(limit='limit { "8 % so" }')),
-    ("other-placeholders", beside(limit='limit { "bis 8 ${x.y}" }'), beside(limit='limit { "bis 8 ${...}" }')),
     ("other-tags", beside(hi='hi { "<b>Hallo<b>" }'), beside()),
     ("other-tags", beside(hi='hi { "<b>Hallo &lt;</b>" }'), beside(hi='hi { "<b >Hallo <Du></b>" }')),
     ("other-addresses", beside(page='page { "http://exmaple.org" }'), beside(page='page { "(http://example.org), so." }')),
