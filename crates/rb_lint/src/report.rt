@@ -30,10 +30,6 @@ pub struct Settings<'a> {
     pub limit: usize,
     /// The tree of the root's text, to compare with.
     pub root: Option<&'a Tree>,
-    /// The words that no string may have, in UTF-16.
-    pub forbidden: &'a [Vec<u16>],
-    /// The maximum number of characters of a string.
-    pub longest: usize,
 }
 
 /// The findings of a text, in its order.
@@ -138,7 +134,8 @@ fn search_readable<'a>(
             Ok((found, Some(fault)))
         }
         Ok(source) => {
-            search_values(alloc, text, &source.tree, settings, &mut found)?;
+            let both = (&source.tree, settings.root);
+            search_values(alloc, text, both, settings.name, &mut found)?;
             Ok((found, None))
         }
     }
