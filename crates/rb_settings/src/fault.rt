@@ -1,4 +1,4 @@
-//! The problems of a settings file.
+//! What is wrong in a settings file.
 use std::fmt;
 
 /// The reason why a settings file is refused.
@@ -9,7 +9,7 @@ pub enum SettingsFault {
     Memory,
 }
 
-/// A problem at a place of a settings file.
+/// What is wrong at a place.
 #[derive(Clone, Copy)]
 pub enum Problem {
     /// The text is no TOML.
