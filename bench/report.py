@@ -13,10 +13,10 @@ def table(heads, rows):
     return "".join(f"| {' | '.join(map(str, line))} |\n" for line in [heads, ["---"] * len(heads), *rows])
 
 
-def when(told):
+def when(measured):
     """Returns where and when figures were measured."""
-    at, found = told["machine"], ", ".join(f"{name} {version}" for name, version in told["versions"].items())
-    return f"{told['date']}, {at['machine']}, {at['cores']} cores of {at['processor']}, load {at['load']}; {found}.\n"
+    at, found = measured["machine"], ", ".join(f"{name} {version}" for name, version in measured["versions"].items())
+    return f"{measured['date']}, {at['machine']}, {at['cores']} cores of {at['processor']}, load {at['load']}; {found}.\n"
 
 
 def cells(row):
@@ -32,11 +32,11 @@ def cells(row):
 
 def filled(name):
     """Returns the table of one file of figures; empty columns are left out."""
-    told = stored(name)
+    measured = stored(name)
     heads = ["Case", "`resb`", "Peer", "Ours over the peer's", "Memory", "Over the peer's", "Over the input"]
-    rows = list(map(cells, told["rows"]))
+    rows = list(map(cells, measured["rows"]))
     used = [at for at in range(len(heads)) if any(row[at] != "" for row in rows)]
-    return when(told) + "\n" + table([heads[at] for at in used], ([row[at] for at in used] for row in rows))
+    return when(measured) + "\n" + table([heads[at] for at in used], ([row[at] for at in used] for row in rows))
 
 
 # the tables whose goals README.md has
