@@ -37,7 +37,8 @@ def test_completions(resb, name, read):
 @pytest.mark.parametrize(
     "words, wanted",
     [
-        (("lint", "--format", ""), "text json sarif github"),
+        (("lint", "--format", ""), "text full json sarif github"),
+        (("lint", "--color", "a"), "auto always"),
         (("coverage", "--format", "c"), "csv"),
         (("lint", "--allow", "missing-o"), "missing-open-brace missing-other"),
         (("explain", "BadI"), "BadInt"),

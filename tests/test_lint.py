@@ -35,7 +35,9 @@ GERMAN = {
 }
 ROOT = "root {\n" + "".join(f"  {entry}\n" for entry in ENGLISH.values()) + "}\n"
 # The warnings that are off unless they are denied.
-OPTIONAL = {"other-numbers", "same-text"}
+OPTIONAL = {"other-numbers", "other-punctuation", "same-text"}
+# The settings that a warning needs.
+SETTINGS = {"forbidden-word": '[[forbid]]\nfiles = ["d?.txt"]\nwords = ["klicken", "Hände weg"]\n'}
 
 
 def bundle(*entries, name="de"):
@@ -80,6 +82,13 @@ ALONE = [
     ("conflict-marker", 'de {\n  a {\n    "x",\n=======\n  }\n}\n', 'de {\n  a {\n    "x",\n======\n  }\n}\n'),
     ("entry-in-array", bundle('a { "x", b { "y" } }'), bundle('a { x { "x" } b { "y" } }')),
     ("entry-in-array", bundle('a { "x", b { "y" } }'), bundle('a { "x", { "y" } }')),
+    ("forbidden-word", bundle('a { "Bitte klicken" }'), bundle('a { "Bitte wählen" }')),
+    ("forbidden-word", bundle('a { "ans Klicken" } b { "(klicken)" }'), bundle('a { "anklicken, klickend, klickenß" }')),
+    ("forbidden-word", bundle('a { "Hände weg!" }'), bundle('a { "Hände wegen" }')),
+    ("too-long", bundle("// resb-lint: max 5", 'a { "zu lang" }'), bundle("// resb-lint: max 5", 'a { "genau" }')),
+    ("too-long", bundle("// resb-lint: max 5", 'a { b { "x" } c { "x", "zu lang" } }'), bundle("// resb-lint: max 5", 'a { "😀😀😀😀😀" }', 'b { "zu lang" }')),
+    ("too-long", "// resb-lint: max 5\n" + bundle('a { "zu lang" }'), "// resb-lint: max 5\n" + bundle('a { "genau" }')),
+    ("unknown-allowed", bundle("// resb-lint: max x", 'a { "x" }'), bundle("// resb-lint: max 1", 'a { "x" }')),
     ("other-quotes", bundle("a { 'x' }"), bundle('a { "x" }')),
     ("other-quotes", bundle("a { „x“ }"), bundle('a { "„x“" }')),
     ("other-quotes", bundle("a { 'x' }"), bundle("a { it's }")),
@@ -149,12 +158,15 @@ BESIDE = [
     ("other-placeholders", beside(size='size { "%s von %d" }'), beside()),
     ("other-placeholders", beside(size='size { "%d" }'), beside()),
     ("other-placeholders", beside(hello='hello { "Hallo ${name}" }'), beside(limit='limit { "8 % so" }')),
+    ("other-placeholders", beside(limit='limit { "bis 8 ${x.y}" }'), beside(limit='limit { "bis 8 ${...}" }')),
     ("other-tags", beside(hi='hi { "<b>Hallo<b>" }'), beside()),
     ("other-tags", beside(hi='hi { "<b>Hallo &lt;</b>" }'), beside(hi='hi { "<b >Hallo <Du></b>" }')),
     ("other-addresses", beside(page='page { "http://exmaple.org" }'), beside(page='page { "(http://example.org), so." }')),
     ("other-addresses", beside(page='page { "http://example.org/de" }'), beside()),
     ("other-blanks", beside(name='name { "Name:" }'), beside()),
     ("other-blanks", beside(name='name { " Name: " }'), beside()),
+    ("other-punctuation", beside(name='name { "Name " }'), beside()),
+    ("other-punctuation", beside(name='name { "Name. " }'), beside(name='name { "名前： " }')),
     ("other-numbers", beside(limit='limit { "bis 9" }'), beside()),
     ("same-text", beside(hi='hi { "<b>Hello</b>" }', **OWN_WORDS), beside(**OWN_WORDS)),
     ("other-arguments", beside(hello='hello { "Hallo" }'), beside()),
@@ -173,7 +185,7 @@ def lint(resb, path, *options, stdin=b""):
 
 
 def name_of(text):
-    return re.match(r"\w+", text)[0].replace("fr", "de") + ".txt"
+    return re.search(r"^\w+", text, re.M)[0].replace("fr", "de") + ".txt"
 
 
 @pytest.mark.parametrize("at", range(len(ALONE + BESIDE)))
@@ -181,6 +193,8 @@ def test_each_warning_and_the_nearest_text(resb, at):
     rule, text, nearest = (ALONE + BESIDE)[at]
     options = ("--against", resb.put("root.txt", ROOT)) if at >= len(ALONE) else ()
     options += ("--deny", rule) if rule in OPTIONAL else ()
+    if rule in SETTINGS:
+        resb.put("resb.toml", SETTINGS[rule])
     warnings, errors = lint(resb, resb.put(name_of(text), text), *options)
     rules = {finding["rule"] for finding in warnings + errors}
     # a text that isn't compiled may have others: the code of its error has capitals
@@ -345,3 +359,21 @@ def test_formats_say_the_same(resb):
     line = TEXTS["de.txt"].splitlines()[1]
     column = len(line[:line.index("b,")].encode("utf-16-le")) // 2 + 1
     assert (2, column) in [(place[1], place[2]) for place in found[of_text] if place[0] == "de.txt"]
+
+
+# The source's text and its translation, and whether the translation ends in the same way: by the names of the characters in Unicode and by CLDR's
+# "punctuation" exemplars. Thai, Lao and Tibetan have no full stop; Greek writes `;`.
+ENDINGS = [
+    ("Save it.", "Sichern.", True), ("Save it.", "Sichern", False), ("Save it.", "保存します。", True), ("Save it.", "सहेजें।", True), ("Save it.", "محفوظ کریں۔", True),
+    ("Save it.", "Պահպանել։", True), ("Save it.", "บันทึก", True), ("Save it.", "Sichern!", False), ("Save it.", "„Sichern.“", True), ("Save it.", "(Sichern.)", True),
+    ("max.", "max", True), ("Save?", "Αποθήκευση;", True), ("Save?", "حفظ؟", True), ("Save?", "保存しますか？", True), ("Save?", "Sichern.", False),
+    ("Name:", "Nom :", True), ("Name:", "名称：", True), ("Name:", "Name", False), ("Wait…", "Warten...", True), ("Wait...", "Warten…", True), ("Wait...", "Warten.", False),
+    ("Wait…", "Warten", False), ("Done!", "¡Listo!", True), ("Done!", "完了！", True), ("Done!", "Fertig", False), ("Done", "Fertig!", True),
+]
+
+
+def test_punctuation_at_the_end(resb):
+    root, text = (bundle(*(f'k{at} {{ "{case[side]}" }}' for at, case in enumerate(ENDINGS)), name=name) for side, name in ((0, "root"), (1, "de")))
+    _, errors = lint(resb, resb.put("de.txt", text), "--against", resb.put("root.txt", root), "--deny", "other-punctuation")
+    assert [finding["line"] - 2 for finding in errors] == [at for at, case in enumerate(ENDINGS) if not case[2]]
+    assert {finding["rule"] for finding in errors} == {"other-punctuation"}

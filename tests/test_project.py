@@ -126,3 +126,19 @@ def test_init(resb):
     assert settings.read(text, str(resb.folder / "p"), ["bundle-name"])[1] == []
     assert resb("lint", "--config", "p/resb.toml", "p").status == 0
     assert resb("init", "p").status == 2 and resb.get("p/resb.toml").decode() == text
+
+
+def test_limits(resb):
+    """The lowest limit of the settings, of the text's comments and of those in the root's text counts; words are forbidden by file."""
+    resb.put("resb.toml", '[[limit]]\npaths = ["menu/**"]\nlength = 4\n[[limit]]\nfiles = ["m/fr.txt"]\nlength = 6\n[[forbid]]\nfiles = ["m/de.txt"]\nwords = ["Ware"]\n')
+    resb.put("m/root.txt", 'root {\n  menu { a { "Open" } }\n  // resb-lint: max 8\n  list { "12345678", "1" }\n  b { "goods" }\n}\n')
+    entries = '  menu { a { "12345" } }\n  list { "123456789", "1234567" }\n  // resb-lint: max 3\n  b { "Ware" }\n}\n'
+    for name in ("de", "fr"):
+        resb.put(f"m/{name}.txt", name + " {\n" + entries)
+    status, stdout, _ = resb("lint", ".")
+    found = [(*line.decode().split(":")[:2], line.decode().rpartition("[")[2][:-1]) for line in stdout.splitlines()]
+    german = [("2", "too-long"), ("3", "too-long"), ("5", "too-long"), ("5", "forbidden-word")]
+    french = [("2", "too-long"), ("3", "too-long"), ("3", "too-long"), ("5", "too-long")]
+    assert status == 0 and found == [("m/de.txt", *one) for one in german] + [("m/fr.txt", *one) for one in french]
+    limits = [int(line.split(b"at most ")[1].split()[0]) for line in stdout.splitlines() if b"too-long" in line]
+    assert limits == [4, 8, 3, 4, 6, 6, 3]

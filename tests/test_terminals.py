@@ -5,9 +5,11 @@ and the text of items are printed as they are. `json` escapes most in both.
 import json
 import os
 import pty
+import re
 import subprocess
 import termios
 import threading
+import unicodedata
 
 import pytest
 from support.program import TOP, Outcome, Resb, Skipped
@@ -156,7 +158,62 @@ def test_texts(resb):
     compare(resb, ["fmt", "--check", name], named=[NAME], has=NAME)
     github = NAME.replace("\n", "%0A")
     for form in ("text", "github", "json", "sarif"):
-        compare(resb, ["lint", "--format", form, name], change=lambda out: out.replace(github, shown(github)), named=[NAME])
+        compare(resb, ["lint", "--color", "never", "--format", form, name], change=lambda out: out.replace(github, shown(github)), named=[NAME])
+
+
+def columns(text):
+    """Returns the columns of a text, by Python's tables of Unicode."""
+    return sum(2 if unicodedata.east_asian_width(c) in "WF" else 0 if unicodedata.category(c) in ("Mn", "Me", "Cf", "Cc") else 1 for c in text)
+
+
+def snippet(line, column, on_terminal):
+    """Returns the lines that show a column, which counts UTF-16 units, with at most 60 characters before it and from it on."""
+    units = line.encode("utf-16-le")
+    before, after = units[:2 * column - 2].decode("utf-16-le"), units[2 * column - 2:].decode("utf-16-le")
+    before, after = "…" * (len(before) > 60) + before[-60:], after[:60] + "…" * (len(after) > 60)
+    before, after = (text.replace("\t", "    ") for text in (before, after))
+    before, after = (shown(text) if on_terminal else text for text in (before, after))
+    return before + after, " " * columns(before) + "^"
+
+
+# lines with a closing brace that is too much, at `¦`, where the caret is to be
+LINES = ['a { "{0} ¦}" }', '\ta { "日本語 {0} e\u0301 ｶﾅ😀 ¦}" }', '  a { "\x1b[31m {0}\u202e ¦}" }\r', 'a { "{0} %s ¦} %s" }' % ("é" * 200, "x" * 200), 'a { "{0} %s ¦}" }' % ("y" * 49)]
+
+
+@pytest.mark.parametrize("line", LINES, ids=range(len(LINES)))
+def test_lines_of_findings(resb, line):
+    """`lint --format full`, the default on a terminal, shows the line and the place of each finding."""
+    before, after = line.split("¦")
+    column, text = len(before.encode("utf-16-le")) // 2 + 1, before + after
+    resb.put("de.txt", f"de {{\n{text}\n}}\n")
+    name = "stray-brace"
+    message = "a closing brace closes no argument; is an opening brace missing?"
+    for on_terminal, words in (((), ["--format", "full"]), (("out",), ["--color", "never"])):
+        shown_line, caret = snippet(text.rstrip("\r"), column, bool(on_terminal))
+        wanted = f"warning[{name}]: {message}\n     --> de.txt:2:{column}\n    2 | {shown_line}\n      | {caret}\n\n"
+        found = run(resb, ["lint", *words, "--allow", "open-direction", "de.txt"], b"", on_terminal)
+        assert found == (0, wanted, "")
+
+
+def test_colors(resb, monkeypatch):
+    """Colours are on a terminal, except with NO_COLOR, or as `--color` says; they are in no other format than `text` and `full`."""
+    resb.put("de.txt", 'de { a { "x" } a { "y" } b { "{0}}" } }')
+    def colored(form, on_terminal, color=()):
+        out, plain = (run(resb, ["lint", *form, *words, "de.txt"], b"", on_terminal).stdout for words in (color, ("--color", "never")))
+        assert re.sub("\x1b\\[[0-9;]*m", "", out) == plain and "\x1b" not in plain
+        return "\x1b[1;31merror\x1b[0m" in out
+
+    monkeypatch.delenv("NO_COLOR", raising=False)
+    for form in ([], ["--format", "text"], ["--format", "full"]):
+        assert [colored(form, on) for on in ((), ("out",), ("err",))] == [False, True, False]
+        assert [colored(form, on, ("--color", word)) for word in ("always", "never", "auto") for on in ((), ("out",))] == [True, True, False, False, False, True]
+    assert not colored(["--format", "json"], ("out",), ("--color", "always"))
+    monkeypatch.setenv("NO_COLOR", "1")
+    assert not colored([], ("out",)) and colored([], ("out",), ("--color", "always"))
+    monkeypatch.setenv("NO_COLOR", "")
+    assert colored([], ("out",))
+    status, _, errors = run(resb, ["lint", "--color", "red", "de.txt"])
+    assert (status, errors) == (2, "resb: --color is auto, always or never\n")
 
 
 @pytest.mark.parametrize("form", ["table", "list", "csv", "json"])
@@ -177,7 +234,7 @@ def test_folders(resb):
 RES, BAD = NAME + ".res", NAME + "bad.res"
 NAMED = [
     ["check", RES, BAD, "missing" + NAME], ["get", RES, NAME], ["json", RES, NAME], ["text", "missing" + NAME], ["compile", NAME + ".txt", "o.res"],
-    ["compile", "root.txt", RES + "/o"], ["lint", NAME + ".txt"], ["explain", NAME], ["look", NAME, "a", "root.res"],
+    ["compile", "root.txt", RES + "/o"], ["lint", "--color", "never", "--format", "text", NAME + ".txt"], ["explain", NAME], ["look", NAME, "a", "root.res"],
     ["look", "root", "a", NAME + "=missing.res"], ["lines", NAME, "root.txt"], ["serve", "--apps", NAME], ["serve", "--data", NAME], [NAME],
     ["check", "--" + NAME], ["look", "--trace", "root_DE", "none", f"root={RES}"], ["fmt", NAME + ".txt"], ["fmt", "missing" + NAME],
     ["compile", "--to", "o", NAME + ".txt", f"other/{NAME}.txt"], ["compile", "root.txt", NAME + ".txt"],

@@ -11,7 +11,7 @@ _resb() {
         compile) flags='--to --from --json --no-fallback --force --quiet --help' ;;
         check) flags='--json --quiet --help' ;;
         get) flags='--raw --help' ;;
-        lint) flags='--against --root --allow --deny --strict --all --format --name --config --no-config --list --help' formats='text json sarif github' ;;
+        lint) flags='--against --root --allow --deny --strict --all --format --color --name --config --no-config --list --help' formats='text full json sarif github' ;;
         fmt) flags='--check --diff --quiet --config --no-config --help' ;;
         coverage) flags='--parents --cldr-parents --format --config --no-config --help' formats='table list json csv' ;;
         init) flags='--help' ;;
@@ -32,6 +32,7 @@ _resb() {
         explain) COMPREPLY=($(compgen -W "$(resb explain 2>/dev/null | sed -n 's/^  \([A-Za-z]*\):.*/\1/p')" -- "$word")) && return ;;
         help) COMPREPLY=($(compgen -W "$commands" -- "$word")) && return ;;
         --op) COMPREPLY=($(compgen -W 'install replace' -- "$word")) && return ;;
+        --color) COMPREPLY=($(compgen -W 'auto always never' -- "$word")) && return ;;
     esac
     case $word in
         -*) COMPREPLY=($(compgen -W "$flags" -- "$word")) ;;

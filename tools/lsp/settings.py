@@ -23,8 +23,10 @@ KEYS = {
     "coverage": {"parents": TEXT, "cldr-parents": FLAG, "complete": (0, 100)},
     "module": {"folder": TEXT, "patterns": TEXTS, "root": TEXT, "source-language": TEXT, "messages": TEXTS, "no-messages": TEXTS},
     "allow": {"files": TEXTS, "paths": TEXTS, "warnings": NAMES},
+    "forbid": {"files": TEXTS, "words": TEXTS},
+    "limit": {"files": TEXTS, "paths": TEXTS, "length": (1, 100_000)},
 }
-MANY = ("module", "allow")
+MANY = ("module", "allow", "forbid", "limit")
 
 
 class Pattern(NamedTuple):

@@ -113,6 +113,7 @@ AsksFor name rows (Lint asked) =
     × (texts asked.allow.items ≡ words_in rows (codes "allow"))
     × (texts asked.deny.items ≡ words_in rows (codes "deny"))
     × (option_map (λ s. s.now) asked.format ≡ first_of (codes "format") rows)
+    × (option_map (λ s. s.now) asked.color ≡ first_of (codes "color") rows)
     × IsFlagIn rows (codes "strict") asked.is_strict
     × IsFlagIn rows (codes "all") asked.is_all
     × (option_map (λ s. s.now) asked.config ≡ first_of (codes "config") rows)

@@ -52,7 +52,12 @@ const LINT: Description = Description {
         Argument(
             "format",
             Kind::Option("FORMAT"),
-            "text, json, sarif or github; text by default",
+            "text, full, json, sarif or github; full by default on a terminal, and else text",
+        ),
+        Argument(
+            "color",
+            Kind::Option("WHEN"),
+            "auto, always or never; auto by default: on a terminal, unless NO_COLOR is set",
         ),
         Argument(
             "name",

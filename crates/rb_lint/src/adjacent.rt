@@ -17,8 +17,8 @@ struct OpenBody {
     loose: Option<u32>,
 }
 
-/// Checks whether a text is meant to continue the one before it: a comment is between them, or it is in a
-/// line of its own, further right than the line that the other one begins.
+/// Checks whether a text is meant to continue the one before it: a comment is between them, or it begins a
+/// line, further right than the line that the other one begins.
 fn is_continued(text: &[u8], a: &Piece, b: &Piece) -> bool {
     let gap = text.get(a.past..b.first).unwrap_or(&[]);
     gap.contains(&b'/') || a.begins_line && b.begins_line && b.column > a.column

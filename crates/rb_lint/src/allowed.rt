@@ -1,4 +1,5 @@
 //! Comments that allow warnings: `// resb-lint: allow NAME` before an entry.
+use crate::lengths::longest_of;
 use crate::piece::{Piece, PieceKind};
 use crate::rule::{Rule, RuleSet};
 use crate::scan::{Quoting, Visit, visit_pieces};
@@ -57,7 +58,7 @@ struct AllowSearch {
 const PREFIX: &str = "resb-lint:";
 
 /// Returns what follows `resb-lint:` in a comment, up to the end of its line.
-fn directive(window: &[u8]) -> Option<&str> {
+pub(crate) fn directive(window: &[u8]) -> Option<&str> {
     let end = window
         .iter()
         .position(|byte| *byte == b'\n' || *byte == b'\r')
@@ -147,13 +148,14 @@ impl Visit for AllowSearch {
         };
         match words.trim().strip_prefix("allow") {
             Some(names) => self.allow(at, names),
+            None if longest_of(words).is_some() => Ok(()),
             None => Ok(self.found.unknown.push(at)?),
         }
     }
 }
 
-/// Checks whether a text has a comment that allows warnings, as nearly all have none.
-fn has_directive(text: &[u8]) -> bool {
+/// Checks whether a text may have a comment for the linter, as nearly all have none.
+pub(crate) fn has_directive(text: &[u8]) -> bool {
     text.windows(PREFIX.len())
         .any(|window| window == PREFIX.as_bytes())
 }

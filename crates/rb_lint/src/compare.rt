@@ -5,7 +5,7 @@ use crate::messages::{Message, search_message};
 use crate::path::shown_name;
 use crate::pattern::PlacedDoubt;
 use crate::uses::{Named, ValueKind, find_named, without};
-use rb_strings::{Edge, Mark, MarkKind, marks_lacking, marks_of, other_blanks};
+use rb_strings::{Edge, Mark, MarkKind, lacking_ending, marks_lacking, marks_of, other_blanks};
 use std::alloc::{AllocError, Global};
 
 /// A change of a String, at one of its units or of all of it.
@@ -149,6 +149,13 @@ impl Comparison {
         }
         Ok(())
     }
+
+    fn ending(&mut self, here: &[u16], root: &[u16]) -> Result<(), AllocError> {
+        match lacking_ending(here, root) {
+            Some(ending) => self.add(here.len().saturating_sub(1), Change::LacksEnding(ending)),
+            None => Ok(()),
+        }
+    }
 }
 
 /// The doubts of a String and its differences from the root's, each in the order of its units.
@@ -186,6 +193,7 @@ fn string_changes(
     if !here.is_empty() && !root.is_empty() {
         comparison.marks(here, root, message.has_branches || other.has_branches)?;
         comparison.blanks(here, root)?;
+        comparison.ending(here, root)?;
     } else if comparison.changes.is_empty() && !root.is_empty() {
         comparison.add_lack(None, Change::Empty)?;
     }

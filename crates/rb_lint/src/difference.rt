@@ -2,7 +2,7 @@ use crate::rule::Rule;
 use crate::uses::ValueKind;
 use rb_explain::kind_word;
 use rb_messages::MessageFault;
-use rb_strings::{Edge, MarkKind};
+use rb_strings::{Edge, Ending, MarkKind};
 use rb_tree::Kind;
 use std::fmt;
 
@@ -41,6 +41,8 @@ pub enum Change {
     AddsMark(MarkKind, Vec<u8>),
     /// It has other blanks than the root's item.
     Blanks(Edge),
+    /// It doesn't end with the punctuation of the root's item.
+    LacksEnding(Ending),
     /// It is empty, and the root's item isn't.
     Empty,
     /// It is the root's text.
@@ -67,6 +69,7 @@ impl Change {
             Change::LacksMark(kind, _) | Change::AddsMark(kind, _) => mark_rule(*kind),
             Change::Blanks(Edge::Spelled(_)) => Rule::DoubledBackslash,
             Change::Blanks(_) => Rule::OtherBlanks,
+            Change::LacksEnding(_) => Rule::OtherPunctuation,
             Change::Empty => Rule::EmptyText,
             Change::Same => Rule::SameText,
         }
@@ -151,6 +154,13 @@ impl fmt::Display for Difference {
             Change::Blanks(edge) => {
                 let text = edge_text(*edge);
                 write!(f, "'{path}' {text}")
+            }
+            Change::LacksEnding(ending) => {
+                let ending = ending.shown();
+                write!(
+                    f,
+                    "'{path}' doesn't end with '{ending}', as it does in the root"
+                )
             }
             Change::Empty => write!(f, "'{path}' is empty, and not in the root"),
             Change::Same => write!(f, "'{path}' is the root's text; is it to be translated?"),

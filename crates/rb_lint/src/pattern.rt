@@ -27,6 +27,10 @@ pub enum PatternDoubt {
     Style(PatternFault),
     /// Characters that no one writes.
     Damaged(Damage),
+    /// It has a word that the settings forbid.
+    Forbidden(Vec<u8>),
+    /// It has more characters than are allowed.
+    Long { length: usize, longest: usize },
 }
 
 /// A mistake at a unit of its String.
@@ -52,6 +56,8 @@ impl PatternDoubt {
             PatternDoubt::Damaged(Damage::Replacement) => Rule::ReplacementCharacter,
             PatternDoubt::Damaged(Damage::Mojibake) => Rule::Mojibake,
             PatternDoubt::Damaged(Damage::MixedScripts) => Rule::MixedScripts,
+            PatternDoubt::Forbidden(_) => Rule::ForbiddenWord,
+            PatternDoubt::Long { .. } => Rule::TooLong,
         }
     }
 }
@@ -134,6 +140,13 @@ impl fmt::Display for PatternDoubt {
             }
             PatternDoubt::Style(fault) => f.write_str(style_text(*fault)),
             PatternDoubt::Damaged(damage) => f.write_str(damage_text(*damage)),
+            PatternDoubt::Forbidden(word) => write!(f, "the settings forbid '{}'", shown(word)),
+            PatternDoubt::Long { length, longest } => {
+                write!(
+                    f,
+                    "this text has {length} characters; at most {longest} are allowed"
+                )
+            }
             PatternDoubt::OneBranch(name) => {
                 let name = shown(name);
                 write!(

@@ -30,6 +30,10 @@ pub struct Settings<'a> {
     pub limit: usize,
     /// The tree of the root's text, to compare with.
     pub root: Option<&'a Tree>,
+    /// The words that no string may have, in UTF-16.
+    pub forbidden: &'a [Vec<u16>],
+    /// The maximum number of characters of a string.
+    pub longest: usize,
 }
 
 /// The findings of a text, in its order.
@@ -134,8 +138,7 @@ fn search_readable<'a>(
             Ok((found, Some(fault)))
         }
         Ok(source) => {
-            let both = (&source.tree, settings.root);
-            search_values(alloc, text, both, settings.name, &mut found)?;
+            search_values(alloc, text, &source.tree, settings, &mut found)?;
             Ok((found, None))
         }
     }

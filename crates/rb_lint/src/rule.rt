@@ -11,6 +11,7 @@ pub enum Rule {
     ConflictMarker,
     DoubledBackslash,
     EntryInArray,
+    ForbiddenWord,
     JoinedStrings,
     MisspelledKey,
     MissingCategory,
@@ -29,6 +30,7 @@ pub enum Rule {
     ReplacementCharacter,
     StrayBrace,
     SuspiciousKey,
+    TooLong,
     UnknownAllowed,
     UnknownEscape,
     UnknownSelector,
@@ -43,6 +45,7 @@ pub enum Rule {
     OtherLength,
     OtherNumbers,
     OtherPlaceholders,
+    OtherPunctuation,
     OtherTags,
     OtherType,
     SameText,
@@ -51,7 +54,7 @@ pub enum Rule {
 
 impl Rule {
     /// All rules: first those of a text alone, then those against the root's, each by name.
-    pub const ALL: [Rule; 44] = [
+    pub const ALL: [Rule; 47] = [
         Rule::AliasToNothing,
         Rule::BadMessage,
         Rule::BadParent,
@@ -60,6 +63,7 @@ impl Rule {
         Rule::ConflictMarker,
         Rule::DoubledBackslash,
         Rule::EntryInArray,
+        Rule::ForbiddenWord,
         Rule::JoinedStrings,
         Rule::MisspelledKey,
         Rule::MissingCategory,
@@ -78,6 +82,7 @@ impl Rule {
         Rule::ReplacementCharacter,
         Rule::StrayBrace,
         Rule::SuspiciousKey,
+        Rule::TooLong,
         Rule::UnknownAllowed,
         Rule::UnknownEscape,
         Rule::UnknownSelector,
@@ -92,6 +97,7 @@ impl Rule {
         Rule::OtherLength,
         Rule::OtherNumbers,
         Rule::OtherPlaceholders,
+        Rule::OtherPunctuation,
         Rule::OtherTags,
         Rule::OtherType,
         Rule::SameText,
@@ -109,6 +115,7 @@ impl Rule {
             Rule::ConflictMarker => "conflict-marker",
             Rule::DoubledBackslash => "doubled-backslash",
             Rule::EntryInArray => "entry-in-array",
+            Rule::ForbiddenWord => "forbidden-word",
             Rule::JoinedStrings => "joined-strings",
             Rule::MisspelledKey => "misspelled-key",
             Rule::MissingCategory => "missing-category",
@@ -127,6 +134,7 @@ impl Rule {
             Rule::ReplacementCharacter => "replacement-character",
             Rule::StrayBrace => "stray-brace",
             Rule::SuspiciousKey => "suspicious-key",
+            Rule::TooLong => "too-long",
             Rule::UnknownAllowed => "unknown-allowed",
             Rule::UnknownEscape => "unknown-escape",
             Rule::UnknownSelector => "unknown-selector",
@@ -141,6 +149,7 @@ impl Rule {
             Rule::OtherLength => "other-length",
             Rule::OtherNumbers => "other-numbers",
             Rule::OtherPlaceholders => "other-placeholders",
+            Rule::OtherPunctuation => "other-punctuation",
             Rule::OtherTags => "other-tags",
             Rule::OtherType => "other-type",
             Rule::SameText => "same-text",
@@ -159,6 +168,7 @@ impl Rule {
             Rule::ConflictMarker => "a conflict marker of Git",
             Rule::DoubledBackslash => "two backslashes where one would begin an escape",
             Rule::EntryInArray => "a text before a brace in an array",
+            Rule::ForbiddenWord => "a word that the settings forbid",
             Rule::JoinedStrings => "two texts side by side in an array",
             Rule::MisspelledKey => "a key that is nearly one of ICU's",
             Rule::MissingCategory => "a plural category of the language without a message",
@@ -177,6 +187,7 @@ impl Rule {
             Rule::ReplacementCharacter => "a character that could not be read",
             Rule::StrayBrace => "a closing brace in a message that closes no argument",
             Rule::SuspiciousKey => "a key that isn't in quotes and has a space or a sign",
+            Rule::TooLong => "more characters than the settings or a comment allow",
             Rule::UnknownAllowed => "a comment that allows a warning that doesn't exist",
             Rule::UnknownEscape => "a backslash before an ordinary letter",
             Rule::UnknownSelector => "a plural selector that is no category",
@@ -191,6 +202,9 @@ impl Rule {
             Rule::OtherLength => "more or fewer items than the root's",
             Rule::OtherNumbers => "numbers other than the root's; only with --deny",
             Rule::OtherPlaceholders => "conversions such as %d other than the root's",
+            Rule::OtherPunctuation => {
+                "an end without the root's punctuation, or its peer; only with --deny"
+            }
             Rule::OtherTags => "tags such as <b> other than the root's",
             Rule::OtherType => "another type than the root's",
             Rule::SameText => "the text of the root; only with --deny",
@@ -205,7 +219,10 @@ impl Rule {
 
     /// Checks whether a rule is off unless it is denied, as what it finds is often meant.
     pub fn is_optional(self) -> bool {
-        matches!(self, Rule::OtherNumbers | Rule::SameText)
+        matches!(
+            self,
+            Rule::OtherNumbers | Rule::OtherPunctuation | Rule::SameText
+        )
     }
 
     /// Returns the rule with a name.

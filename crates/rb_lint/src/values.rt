@@ -7,12 +7,14 @@ use crate::language::Language;
 use crate::links::{is_bundle_key, is_misspelled, is_parent, leads_nowhere};
 use crate::messages::read_string;
 use crate::parent::Parent;
-use crate::path::{SHOWN_PATH, shortened};
-use crate::pattern::PlacedDoubt;
+use crate::path::{SHOWN_PATH, shortened, shown_name};
+use crate::pattern::{PatternDoubt, PlacedDoubt};
+use crate::report::Settings;
 use crate::rule::Rule;
 use crate::unit_walk::UnitWalk;
 use crate::warning::Doubt;
 use rb_lexer::{Mark, SourceFault, SourceKind, Token, Tokens};
+use rb_strings::{character_count, find_word};
 use rb_tree::{Entries, Kind, Node, Tree};
 use std::alloc::{AllocError, Global};
 
@@ -116,6 +118,9 @@ struct ValueSearch<'a> {
     name: Vec<u8>,
     tree: &'a Tree,
     root: Option<&'a Tree>,
+    /// The words that no string may have, and the maximum number of characters of one.
+    forbidden: &'a [Vec<u16>],
+    longest: usize,
     parent: Parent,
     /// The language of the name that the bundle should have, or else of the one that it has.
     language: Option<Language>,
@@ -243,6 +248,38 @@ impl<'a> ValueSearch<'a> {
         Ok(())
     }
 
+    /// Reports the words of a String that the settings forbid.
+    fn words(
+        &self,
+        span: (usize, usize),
+        units: &[u16],
+        found: &mut Collector<'_>,
+    ) -> Result<(), AllocError> {
+        for word in self.forbidden {
+            if let Some(unit) = find_word(units, word) {
+                let at = UnitWalk::new(self.source, span.0, span.1).place_of(unit);
+                let word = PatternDoubt::Forbidden(shown_name(self.alloc, word)?);
+                found.push(at, Rule::ForbiddenWord, Message::Pattern(word))?;
+            }
+        }
+        Ok(())
+    }
+
+    /// Reports a String that is longer than the settings allow.
+    fn length(
+        &self,
+        first: usize,
+        units: &[u16],
+        found: &mut Collector<'_>,
+    ) -> Result<(), AllocError> {
+        let (length, longest) = (character_count(units), self.longest);
+        if length <= longest {
+            return Ok(());
+        }
+        let doubt = PatternDoubt::Long { length, longest };
+        found.push(first, Rule::TooLong, Message::Pattern(doubt))
+    }
+
     /// Checks a String, and compares it with the root's.
     fn string(
         &mut self,
@@ -277,6 +314,8 @@ impl<'a> ValueSearch<'a> {
                 {
                     found.add(span.0, Doubt::BadParent)?;
                 }
+                self.length(span.0, units.as_slice(), found)?;
+                self.words(span, units.as_slice(), found)?;
                 self.string(span, units.as_slice(), root, found)
             }
             (Some(Tree::Alias(units)), _) => {
@@ -502,26 +541,28 @@ impl<'a> ValueSearch<'a> {
 
 /// Checks the messages of a bundle text, and compares the text with that of the root locale, if it is
 /// known. Reports keys that only one of them has, items of another kind, and arguments of messages that
-/// only one of two Strings has or that they use differently. `tree` is the bundle that the text spells,
-/// and `name` the name that its locale should have. The rules are this project's own.
+/// only one of two Strings has or that they use differently. `tree` is the bundle that the text spells.
+/// The rules are this project's own.
 ///
-/// A missing key is reported at its table, or at the first key there that the root lacks, if its parent is the root and the root's item has text: a
-/// String, an array or a table. Keys that begin with `%%` and aliases are skipped, and of arrays only the
-/// items that both have are compared. Of a long path and a long name a warning has the first and the last
-/// bytes. `Err` means out of memory.
+/// A missing key is reported at its table, or at the first key there that the root lacks, if its parent
+/// is the root and the root's item has text: a String, an array or a table. Keys that begin with `%%` and
+/// aliases are skipped, and of arrays only the items that both have are compared. Of a long path and a
+/// long name a warning has the first and the last bytes. `Err` means out of memory.
 pub(crate) fn search_values(
     alloc: Global,
     text: &[u8],
-    both: (&Tree, Option<&Tree>),
-    name: Option<&[u8]>,
+    tree: &Tree,
+    settings: &Settings<'_>,
     found: &mut Collector<'_>,
 ) -> Result<(), AllocError> {
-    let (bundle, root) = both;
+    let name = settings.name;
     let mut search = ValueSearch {
         alloc,
-        tree: bundle,
-        root,
-        parent: Parent::of(name.unwrap_or(b""), bundle),
+        tree,
+        root: settings.root,
+        forbidden: settings.forbidden,
+        longest: settings.longest,
+        parent: Parent::of(name.unwrap_or(b""), tree),
         source: text,
         name: name.unwrap_or(b"").to_vec(alloc)?,
         language: name.map(|name| Language::of(name)),

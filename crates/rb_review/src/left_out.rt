@@ -37,7 +37,7 @@ pub(crate) struct LeftOut<'a> {
 }
 
 /// Checks whether one of the patterns matches a name.
-fn is_one(patterns: &[&str], name: &str) -> bool {
+pub(crate) fn is_one(patterns: &[&str], name: &str) -> bool {
     patterns
         .iter()
         .any(|pattern| matches(pattern.as_bytes(), name.as_bytes()))

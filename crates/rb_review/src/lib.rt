@@ -9,6 +9,8 @@ mod left_out;
 mod lint_output;
 mod lint_words;
 mod linting;
+mod snippet;
+mod string_limits;
 
 pub use coverage::{CoverageWords, cover_all};
 pub use lint_words::LintWords;

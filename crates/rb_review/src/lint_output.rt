@@ -1,6 +1,7 @@
 //! The output of `resb lint`: lines for people and editors, JSON, SARIF, and GitHub's commands.
 use crate::escaped::{GitHubText, UriText};
 use crate::lint_words::Format;
+use crate::snippet::{Lines, Snippet};
 use rb_console::{Console, JsonText};
 use rb_lint::{Finding, Rule};
 use std::io;
@@ -22,6 +23,7 @@ struct Line<'a> {
 pub(crate) struct LintOutput {
     format: Format,
     console: Console,
+    has_colors: bool,
     /// Something was printed, so that SARIF needs a comma.
     has_line: bool,
 }
@@ -29,11 +31,28 @@ pub(crate) struct LintOutput {
 const SARIF_HEAD: &str = "{\"$schema\":\"https://json.schemastore.org/sarif-2.1.0.json\",\
 \"version\":\"2.1.0\",\"runs\":[{\"tool\":{\"driver\":{\"name\":\"resb\",\"rules\":[";
 
+/// The control sequences of styles, and the one that ends each.
+const BOLD: &str = "\u{1b}[1m";
+
+const FRAME: &str = "\u{1b}[1;34m";
+
+const PLAIN: &str = "\u{1b}[0m";
+
+/// Returns the control sequence of a level's style.
+fn level_style(level: &str) -> &'static str {
+    match level {
+        "error" => "\u{1b}[1;31m",
+        "warning" => "\u{1b}[1;33m",
+        _ => "\u{1b}[1;36m",
+    }
+}
+
 impl LintOutput {
-    pub(crate) fn new(format: Format, console: Console) -> LintOutput {
+    pub(crate) fn new(format: Format, console: Console, has_colors: bool) -> LintOutput {
         LintOutput {
             format,
             console,
+            has_colors,
             has_line: false,
         }
     }
@@ -68,20 +87,78 @@ impl LintOutput {
         &mut self,
         rt: &R,
         file: &str,
+        lines: &mut Lines<'_>,
         finding: &Finding,
     ) -> io::Result<()> {
         let message = format!(in rt.alloc(); "{}", &finding.message)?;
-        self.line(
-            rt,
-            Line {
-                file,
-                place: Some((finding.line, finding.column)),
-                level: finding.severity.word(),
-                rule: finding.code(),
-                message: message.as_str(),
-            },
-            finding.rule.is_some(),
-        )
+        let line = Line {
+            file,
+            place: Some((finding.line, finding.column)),
+            level: finding.severity.word(),
+            rule: finding.code(),
+            message: message.as_str(),
+        };
+        self.line(rt, line, finding.rule.is_some())?;
+        if self.format == Format::Full {
+            let line = lines.line(finding.line);
+            self.snippet(rt, line, finding)?;
+        }
+        Ok(())
+    }
+
+    /// Returns the control sequence of a style, or nothing without colours.
+    fn style(&self, sequence: &'static str) -> &'static str {
+        if self.has_colors { sequence } else { "" }
+    }
+
+    /// Prints the line of a finding, and a caret below its place. A line that isn't UTF-8 is left
+    /// out.
+    fn snippet<R: AllocGlobal + Print>(
+        &self,
+        rt: &R,
+        line: &[u8],
+        finding: &Finding,
+    ) -> io::Result<()> {
+        let Ok(line) = str::from_utf8(line) else {
+            return println!(rt; "");
+        };
+        let snippet = Snippet::of(rt.alloc(), line, finding.column)?;
+        let width = snippet.width(rt.alloc(), self.console)?;
+        let number = finding.line;
+        let (before, after) = (
+            self.console.on_stdout(snippet.before.as_str()),
+            self.console.on_stdout(snippet.after.as_str()),
+        );
+        let (frame, plain) = (self.style(FRAME), self.style(PLAIN));
+        println!(rt; "{frame}{number:>5} |{plain} {before}{after}")?;
+        print!(rt; "{frame}      |{plain} ")?;
+        for _ in 0..width {
+            print!(rt; " ")?;
+        }
+        let level = self.style(level_style(finding.severity.word()));
+        println!(rt; "{level}^{plain}\n")
+    }
+
+    /// Prints the message of a finding, and its place in a line below.
+    fn full_line<R: Print>(&self, rt: &R, line: Line<'_>, is_rule: bool) -> io::Result<()> {
+        let (file, message) = (
+            self.console.on_stdout(line.file),
+            self.console.on_stdout(line.message),
+        );
+        let level = line.level;
+        let (style, plain) = (self.style(level_style(level)), self.style(PLAIN));
+        let (bold, frame) = (self.style(BOLD), self.style(FRAME));
+        match line.rule {
+            Some(rule) if is_rule => print!(rt; "{style}{level}[{rule}]{plain}")?,
+            _ => print!(rt; "{style}{level}{plain}")?,
+        }
+        println!(rt; "{bold}: {message}{plain}")?;
+        match line.place {
+            Some((number, column)) => {
+                println!(rt; "{frame}     -->{plain} {file}:{number}:{column}")
+            }
+            None => println!(rt; "{frame}     -->{plain} {file}\n"),
+        }
     }
 
     /// Prints how many warnings of a file were left out.
@@ -111,6 +188,7 @@ impl LintOutput {
     fn line<R: Print>(&mut self, rt: &R, line: Line<'_>, is_rule: bool) -> io::Result<()> {
         match self.format {
             Format::Text => self.text_line(rt, line, is_rule),
+            Format::Full => self.full_line(rt, line, is_rule),
             Format::Json => json_line(rt, line),
             Format::GitHub => self.github_line(rt, line),
             Format::Sarif => {
@@ -128,9 +206,12 @@ impl LintOutput {
             self.console.on_stdout(line.message),
         );
         let level = line.level;
+        let (style, plain) = (self.style(level_style(level)), self.style(PLAIN));
         match line.place {
-            Some((number, column)) => print!(rt; "{file}:{number}:{column}: {level}: {message}")?,
-            None => print!(rt; "{file}: {level}: {message}")?,
+            Some((number, column)) => {
+                print!(rt; "{file}:{number}:{column}: {style}{level}{plain}: {message}")?;
+            }
+            None => print!(rt; "{file}: {style}{level}{plain}: {message}")?,
         }
         match line.rule {
             Some(rule) if is_rule => println!(rt; " [{rule}]"),

@@ -16,6 +16,10 @@ pub struct LintWords<'a> {
     pub allow: &'a [&'a str],
     pub deny: &'a [&'a str],
     pub format: Option<&'a str>,
+    /// When the output has colours: `auto`, `always` or `never`.
+    pub color: Option<&'a str>,
+    /// The environment asks for no colours.
+    pub is_colorless: bool,
     /// Warnings count for the status.
     pub is_strict: bool,
     /// No warning is left out.
@@ -28,7 +32,10 @@ pub struct LintWords<'a> {
 /// The forms of the output.
 #[derive(Clone, Copy, PartialEq, Eq)]
 pub(crate) enum Format {
+    /// A line for each finding.
     Text,
+    /// The line of each finding in its text, with the place below.
+    Full,
     /// An object for each finding, in a line.
     Json,
     /// One SARIF log of version 2.1.0.
@@ -38,15 +45,28 @@ pub(crate) enum Format {
 }
 
 impl Format {
-    /// Returns the format with a name, or None if there is none.
-    pub(crate) fn named(name: Option<&str>) -> Option<Format> {
+    /// Returns the format with a name, or that for the console without one. None if no format has the
+    /// name.
+    pub(crate) fn named(name: Option<&str>, console: Console) -> Option<Format> {
         match name {
+            None if console.is_output_terminal => Some(Format::Full),
             None | Some("text") => Some(Format::Text),
+            Some("full") => Some(Format::Full),
             Some("json") => Some(Format::Json),
             Some("sarif") => Some(Format::Sarif),
             Some("github") => Some(Format::GitHub),
             Some(_) => None,
         }
+    }
+}
+
+/// Returns whether the output has colours, or None if the word is neither `auto`, `always` nor `never`.
+pub(crate) fn has_colors(words: &LintWords<'_>, console: Console) -> Option<bool> {
+    match words.color {
+        None | Some("auto") => Some(console.is_output_terminal && !words.is_colorless),
+        Some("always") => Some(true),
+        Some("never") => Some(false),
+        Some(_) => None,
     }
 }
 

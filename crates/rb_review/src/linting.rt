@@ -2,16 +2,21 @@
 use crate::baseline::Baseline;
 use crate::left_out::LeftOut;
 use crate::lint_output::LintOutput;
-use crate::lint_words::{Format, LintWords, levels_of, rule_names, with_settings};
+use crate::lint_words::{Format, LintWords, has_colors, levels_of, rule_names, with_settings};
+use crate::snippet::Lines;
+use crate::string_limits::StringLimits;
 use rb_console::{
     Console, StartError, cannot_read_on, not_started_on, printed, read_file, read_text, refused_on,
     stem,
 };
-use rb_lint::{Finding, Levels, Rule, Settings, Severity, WARNING_LIMIT, find_all};
+use rb_lint::{
+    Finding, Levels, PathLength, Report, Rule, Settings, Severity, WARNING_LIMIT, find_all,
+    lengths_in,
+};
 use rb_parser::parse;
 use rb_project::{Modules, Project, Text, open_project, root_of, texts_of};
 use rb_tree::Tree;
-use std::alloc::AllocError;
+use std::alloc::{AllocError, Global};
 use std::io;
 use std::process::ExitCode;
 use std::rt::Files;
@@ -26,7 +31,15 @@ struct Common<'a> {
     /// The name of standard input's text.
     name: Option<&'a str>,
     /// The root's text that all are compared with.
-    root: Option<&'a Tree>,
+    root: Option<&'a RootText>,
+}
+
+/// The root's text.
+#[derive(Drop)]
+struct RootText {
+    tree: Tree,
+    /// The limits of its comments, which its translations have too.
+    lengths: Vec<PathLength>,
 }
 
 /// The state of a command from text to text.
@@ -34,9 +47,9 @@ struct Common<'a> {
 struct Linter {
     output: LintOutput,
     baseline: Baseline,
-    /// The last root's text of a module, and its tree, if it compiles.
+    /// The last root's text of a module, if it compiles.
     root_name: String,
-    root: Option<Tree>,
+    root: Option<RootText>,
     /// A root's text was refused.
     has_bad_root: bool,
 }
@@ -62,7 +75,7 @@ impl Linter {
             return Ok(());
         }
         self.root_name = String::from_str(rt.alloc(), name)?;
-        self.root = root_tree(rt, console, name);
+        self.root = read_root_text(rt, console, name);
         if self.root.is_none() {
             self.has_bad_root = true;
         }
@@ -103,6 +116,7 @@ impl Linter {
         let paths = left_out.paths(rt.alloc(), text, findings)?;
         let file = project.relative(rt.alloc(), name)?;
         let (mut is_good, mut count, mut more) = (true, 0usize, 0u64);
+        let mut lines = Lines::of(text);
         for (i, finding) in findings.iter().enumerate() {
             let path = paths.get(i).map_or("", |path| path.as_str());
             if self.leaves_out(rt, left_out, finding, (file.as_str(), path))? {
@@ -115,7 +129,7 @@ impl Linter {
                 }
                 count = count.saturating_add(1);
             }
-            self.output.finding(rt, name, finding)?;
+            self.output.finding(rt, name, &mut lines, finding)?;
             if common.is_strict || finding.severity == Severity::Error {
                 is_good = false;
             }
@@ -132,19 +146,32 @@ impl Linter {
         (name, text): (&str, &[u8]),
         has_root: bool,
     ) -> io::Result<bool> {
-        let left_out = LeftOut::of(rt.alloc(), modules, common.levels, name)?;
-        let is_limited = self.baseline.is_empty() && !left_out.has_paths();
-        let settings = Settings {
-            name: bundle_name(name),
-            levels: left_out.levels,
-            limit: if is_limited { common.limit } else { usize::MAX },
-            root: if has_root {
-                self.root.as_ref()
-            } else {
-                common.root
-            },
+        let alloc = rt.alloc();
+        let left_out = LeftOut::of(alloc, modules, common.levels, name)?;
+        let takes_all = !self.baseline.is_empty() || left_out.has_paths();
+        let report = if has_root {
+            let root = self.root.as_ref();
+            report_of(
+                alloc,
+                common,
+                modules,
+                &left_out,
+                takes_all,
+                (name, text),
+                root,
+            )?
+        } else {
+            let root = common.root;
+            report_of(
+                alloc,
+                common,
+                modules,
+                &left_out,
+                takes_all,
+                (name, text),
+                root,
+            )?
         };
-        let report = find_all(rt.alloc(), text, &settings)?;
         let (is_good, more) = self.print_findings(
             rt,
             common,
@@ -157,6 +184,54 @@ impl Linter {
             .left_out(rt, name, report.left_out.saturating_add(more))?;
         Ok(is_good)
     }
+}
+
+/// Returns the findings of a text within the limits of its strings. Takes all findings, not only as
+/// many as are printed, where some are left out later.
+fn report_of(
+    alloc: Global,
+    common: Common<'_>,
+    modules: &Modules<'_>,
+    left_out: &LeftOut<'_>,
+    takes_all: bool,
+    (name, text): (&str, &[u8]),
+    root: Option<&RootText>,
+) -> Result<Report, AllocError> {
+    let limits = limits_of(alloc, modules, (name, text), root)?;
+    let settings = Settings {
+        name: bundle_name(name),
+        levels: left_out.levels,
+        limit: if takes_all || limits.has_lengths() {
+            usize::MAX
+        } else {
+            common.limit
+        },
+        root: match root {
+            Some(root) => Some(&root.tree),
+            None => None,
+        },
+        forbidden: &limits.forbidden,
+        longest: limits.lowest(),
+    };
+    let report = find_all(alloc, text, &settings)?;
+    Ok(Report {
+        findings: limits.applied(alloc, text, report.findings)?,
+        left_out: report.left_out,
+    })
+}
+
+/// Returns the limits of a text's strings: those of the settings, of its comments, and of its root's.
+fn limits_of<'a>(
+    alloc: Global,
+    modules: &Modules<'a>,
+    (name, text): (&str, &[u8]),
+    root: Option<&RootText>,
+) -> Result<StringLimits<'a>, AllocError> {
+    let mut limits = StringLimits::of(alloc, modules, name, lengths_in(alloc, text)?)?;
+    if let Some(root) = root {
+        limits.add_lengths(alloc, &root.lengths)?;
+    }
+    Ok(limits)
 }
 
 /// Returns the status of a text by its findings. Out of memory is an error of the text.
@@ -255,12 +330,12 @@ fn lint_each<R: Files + Input + AllocGlobal + Print + Eprint>(
     status
 }
 
-/// Reads the tree of the root's text, or reports the error.
-fn root_tree<R: Files + AllocGlobal + Eprint>(
+/// Reads the root's text, or reports the error.
+fn read_root_text<R: Files + AllocGlobal + Eprint>(
     rt: &R,
     console: Console,
     name: &str,
-) -> Option<Tree> {
+) -> Option<RootText> {
     let text = match read_file(rt, name) {
         Ok(text) => text,
         Err(error) => {
@@ -269,7 +344,16 @@ fn root_tree<R: Files + AllocGlobal + Eprint>(
         }
     };
     match parse(rt.alloc(), &text) {
-        Ok(source) => Some(source.tree),
+        Ok(source) => match lengths_in(rt.alloc(), &text) {
+            Ok(lengths) => Some(RootText {
+                tree: source.tree,
+                lengths,
+            }),
+            Err(_) => {
+                let _ = refused_on(rt, console, name, "Memory");
+                None
+            }
+        },
         Err(fault) => {
             let word = fault.kind.word();
             let (name, line, hint) = (console.on_stderr(name), fault.line, console.hint(word));
@@ -305,7 +389,7 @@ fn lint_in<R: Files + Input + AllocGlobal + Print + Eprint>(
     rt: &R,
     common: Common<'_>,
     modules: &Modules<'_>,
-    format: Format,
+    choices: Choices,
     arguments: &[&str],
 ) -> ExitCode {
     let console = common.console;
@@ -318,7 +402,7 @@ fn lint_in<R: Files + Input + AllocGlobal + Print + Eprint>(
         Err(status) => return status,
     };
     let mut linter = Linter {
-        output: LintOutput::new(format, console),
+        output: LintOutput::new(choices.format, console, choices.has_colors),
         baseline,
         root_name: String::new(rt.alloc()),
         root: None,
@@ -332,19 +416,19 @@ fn lint_project<R: Files + Input + AllocGlobal + Print + Eprint>(
     rt: &R,
     common: Common<'_>,
     modules: &Modules<'_>,
-    format: Format,
+    choices: Choices,
     words: &LintWords<'_>,
 ) -> ExitCode {
     let Some(root) = words.root else {
-        return lint_in(rt, common, modules, format, words.texts);
+        return lint_in(rt, common, modules, choices, words.texts);
     };
-    match root_tree(rt, common.console, root) {
-        Some(tree) => {
+    match read_root_text(rt, common.console, root) {
+        Some(root) => {
             let common = Common {
-                root: Some(&tree),
+                root: Some(&root),
                 ..common
             };
-            lint_in(rt, common, modules, format, words.texts)
+            lint_in(rt, common, modules, choices, words.texts)
         }
         None => ExitCode::from(1),
     }
@@ -354,6 +438,7 @@ fn lint_project<R: Files + Input + AllocGlobal + Print + Eprint>(
 #[derive(Clone, Copy)]
 struct Choices {
     format: Format,
+    has_colors: bool,
     levels: Levels,
     is_strict: bool,
 }
@@ -378,7 +463,7 @@ fn lint_modules<R: Files + Input + AllocGlobal + Print + Eprint>(
         name: words.name,
         root: None,
     };
-    lint_project(rt, common, modules, choices.format, words)
+    lint_project(rt, common, modules, choices, words)
 }
 
 /// Reads the settings and the modules of a project, and prints the findings.
@@ -393,6 +478,7 @@ fn lint_with<R: Files + Input + AllocGlobal + Print + Eprint>(
     let is_strict = words.is_strict || project.settings.section("lint").flag("strict");
     let choices = Choices {
         format: choices.format,
+        has_colors: choices.has_colors,
         levels,
         is_strict,
     };
@@ -401,7 +487,8 @@ fn lint_with<R: Files + Input + AllocGlobal + Print + Eprint>(
 }
 
 /// Prints what is doubtful in bundle texts, and the error of each text that isn't compiled, in the
-/// order of each text, as `TEXT:LINE:COLUMN: warning: ..`, or in another format. If a root's text
+/// order of each text, as `TEXT:LINE:COLUMN: warning: ..`, or in another format: on a terminal with
+/// the line of the text and a caret below the place, in colours. If a root's text
 /// is given, prints also how each text that is compiled differs from it. The status is 0; 1 if a
 /// text has an error or can't be read, with `is_strict` also if there is a warning, and if the
 /// root's text is refused or can't be read, before anything is printed; 2 if a word is no name of a
@@ -415,8 +502,12 @@ pub fn lint_all<R: Files + Input + AllocGlobal + Print + Eprint>(
     console: Console,
     words: &LintWords<'_>,
 ) -> ExitCode {
-    let Some(format) = Format::named(words.format) else {
-        let _ = eprintln!(rt; "resb: --format is text, json, sarif or github");
+    let Some(format) = Format::named(words.format, console) else {
+        let _ = eprintln!(rt; "resb: --format is text, full, json, sarif or github");
+        return ExitCode::from(2);
+    };
+    let Some(has_colors) = has_colors(words, console) else {
+        let _ = eprintln!(rt; "resb: --color is auto, always or never");
         return ExitCode::from(2);
     };
     let Some(levels) = levels_of(rt, console, words) else {
@@ -431,6 +522,7 @@ pub fn lint_all<R: Files + Input + AllocGlobal + Print + Eprint>(
     };
     let choices = Choices {
         format,
+        has_colors,
         levels,
         is_strict: words.is_strict,
     };

@@ -1,4 +1,4 @@
-//! What is wrong in a settings file.
+//! The problems of a settings file.
 use std::fmt;
 
 /// The reason why a settings file is refused.
@@ -9,7 +9,7 @@ pub enum SettingsFault {
     Memory,
 }
 
-/// What is wrong at a place.
+/// A problem at a place of a settings file.
 #[derive(Clone, Copy)]
 pub enum Problem {
     /// The text is no TOML.

@@ -30,6 +30,7 @@ impl KeyKind {
             KeyKind::Flag => "true or false",
             KeyKind::Number(_, 100) => "a number from 0 to 100",
             KeyKind::Number(_, 16) => "a number from 1 to 16",
+            KeyKind::Number(_, 100_000) => "a number from 1 to 100000",
             KeyKind::Number(_, _) => "a number from 20 to 1000",
         }
     }
@@ -39,7 +40,7 @@ impl KeyKind {
 pub(crate) fn table_kind(name: &str) -> Option<TableKind> {
     match name {
         "lint" | "fmt" | "coverage" => Some(TableKind::One),
-        "module" | "allow" => Some(TableKind::Many),
+        "module" | "allow" | "forbid" | "limit" => Some(TableKind::Many),
         _ => None,
     }
 }
@@ -86,6 +87,21 @@ fn allow_key(key: &str) -> Option<KeyKind> {
     }
 }
 
+fn forbid_key(key: &str) -> Option<KeyKind> {
+    match key {
+        "files" | "words" => Some(KeyKind::Texts),
+        _ => None,
+    }
+}
+
+fn limit_key(key: &str) -> Option<KeyKind> {
+    match key {
+        "files" | "paths" => Some(KeyKind::Texts),
+        "length" => Some(KeyKind::Number(1, 100_000)),
+        _ => None,
+    }
+}
+
 /// Returns the type of a key's value in the table of a name, or None if the table has no such key.
 pub(crate) fn key_kind(table: &str, key: &str) -> Option<KeyKind> {
     match table {
@@ -93,6 +109,8 @@ pub(crate) fn key_kind(table: &str, key: &str) -> Option<KeyKind> {
         "fmt" => fmt_key(key),
         "coverage" => coverage_key(key),
         "module" => module_key(key),
+        "forbid" => forbid_key(key),
+        "limit" => limit_key(key),
         _ => allow_key(key),
     }
 }

@@ -51,6 +51,8 @@ pub(crate) enum Class {
     AddressEnd,
     /// Any unit but white space.
     Ink,
+    /// Any unit but white space and closing quotes and brackets.
+    Body,
 }
 
 impl Class {
@@ -65,8 +67,30 @@ impl Class {
             Class::Numeral => is_digit(unit) || matches!(unit, 0x2C | 0x2E),
             Class::AddressEnd => !matches!(unit, 0x21 | 0x2C | 0x2E | 0x3A | 0x3B | 0x3F),
             Class::Ink => !is_blank(unit),
+            Class::Body => !is_blank(unit) && !is_closer(unit),
         }
     }
+}
+
+/// Checks for a closing quote or bracket.
+fn is_closer(unit: u16) -> bool {
+    matches!(
+        unit,
+        0x22 | 0x27
+            | 0x29
+            | 0x5D
+            | 0xBB
+            | 0x2018
+            | 0x2019
+            | 0x201C
+            | 0x201D
+            | 0x203A
+            | 0x300B
+            | 0x300D
+            | 0x300F
+            | 0x3011
+            | 0xFF09
+    )
 }
 
 fn is_address(unit: u16) -> bool {

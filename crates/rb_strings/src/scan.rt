@@ -104,6 +104,14 @@ fn is_conversion_letter(unit: u16) -> bool {
     }
 }
 
+/// Checks whether a name in braces may be a variable's: `${...}` is prose.
+fn is_variable(inside: &[u16]) -> bool {
+    match inside.first() {
+        Some(first) => is_name(*first) && !matches!(*first, 0x2D | 0x2E),
+        None => false,
+    }
+}
+
 /// Returns the length of a variable such as `${name}`, or 0.
 fn variable_length(text: &[u16]) -> usize {
     let inside = match text.get(2..) {
@@ -111,7 +119,7 @@ fn variable_length(text: &[u16]) -> usize {
         _ => return 0,
     };
     let count = count_of(inside, 0, Class::Name);
-    if count > 0 && inside.get(count) == Some(&RIGHT_BRACE) {
+    if is_variable(inside) && inside.get(count) == Some(&RIGHT_BRACE) {
         count.saturating_add(3)
     } else {
         0

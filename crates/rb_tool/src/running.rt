@@ -18,9 +18,11 @@ use rb_inspect::{
 use rb_project::{Configured, init};
 use rb_requests::Limits;
 use rb_review::{CoverageWords, LintWords, cover_all, lint_all, list_rules};
+use std::env;
+use std::env::VarError;
 use std::process::ExitCode;
 use std::random::RandomSource;
-use std::rt::{Clock, Files};
+use std::rt::{Clock, Env, Files};
 
 /// Returns a console that prints nothing on success if `--quiet` was given.
 fn quieted(console: Console, is_quiet: bool) -> Console {
@@ -111,8 +113,17 @@ fn configured(file: Option<&str>, is_none: bool) -> Configured<'_> {
     Configured { file, is_none }
 }
 
+/// Checks whether the environment has a NO_COLOR that isn't empty.
+fn is_colorless<R: AllocGlobal + Env>(rt: &R) -> bool {
+    match env::var(rt, "NO_COLOR") {
+        Ok(value) => !value.is_empty(),
+        Err(VarError::NotPresent) => false,
+        Err(_) => true,
+    }
+}
+
 /// `lint [OPTIONS] TEXT..`
-fn run_lint<R: Files + Input + AllocGlobal + Print + Eprint>(
+fn run_lint<R: Files + Input + AllocGlobal + Print + Eprint + Env>(
     rt: &R,
     console: Console,
     asked: &AskedLint<'_>,
@@ -126,6 +137,8 @@ fn run_lint<R: Files + Input + AllocGlobal + Print + Eprint>(
         allow: &asked.allow,
         deny: &asked.deny,
         format: asked.format,
+        color: asked.color,
+        is_colorless: is_colorless(rt),
         is_strict: asked.is_strict,
         is_all: asked.is_all,
         texts: &asked.texts,
@@ -257,7 +270,7 @@ fn serving_of<'a>(
 
 /// Runs a command.
 pub fn run_asked<
-    R: Files + RandomSource + Clock + AllocGlobal + Input + Print + Eprint + Clone + Drop,
+    R: Files + RandomSource + Clock + AllocGlobal + Input + Print + Eprint + Env + Clone + Drop,
 >(rt: &R, console: Console, asked: Asked<'_>) -> ExitCode {
     match asked {
         Asked::Compile {

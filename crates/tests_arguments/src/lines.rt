@@ -138,12 +138,13 @@ resb|json|--inherit|de|a => Inherited(AskedInherited { parents: None, is_cldr: f
 resb|json|--inherit|de|--parents|p|--path|x/y|a|b|c|d => Inherited(AskedInherited { parents: Some("p"), is_cldr: false, locale: "de", path: "x/y", is_pretty: false, files: ["a", "b", "c", "d"] })
 resb|json|--inherit|de|--cldr-parents|a => Inherited(AskedInherited { parents: None, is_cldr: true, locale: "de", path: "", is_pretty: false, files: ["a"] })
 resb|text|a|--name|de => Text { file: "a", name: Some("de") }
-resb|lint|--root|r|a|b => Lint(AskedLint { root: Some("r"), name: None, allow: [], deny: [], format: None, is_strict: false, is_all: false, config: None, no_config: false, is_list: false, texts: ["a", "b"] })
-resb|lint|--allow|x|a|--deny|y|--allow|z|--against|r|--root|s|--strict|--all|--format|json|--name|n => Lint(AskedLint { root: Some("r"), name: Some("n"), allow: ["x", "z"], deny: ["y"], format: Some("json"), is_strict: true, is_all: true, config: None, no_config: false, is_list: false, texts: ["a"] })
-resb|lint|--list => Lint(AskedLint { root: None, name: None, allow: [], deny: [], format: None, is_strict: false, is_all: false, config: None, no_config: false, is_list: true, texts: [] })
+resb|lint|--root|r|a|b => Lint(AskedLint { root: Some("r"), name: None, allow: [], deny: [], format: None, color: None, is_strict: false, is_all: false, config: None, no_config: false, is_list: false, texts: ["a", "b"] })
+resb|lint|--allow|x|a|--deny|y|--allow|z|--against|r|--root|s|--strict|--all|--format|json|--name|n => Lint(AskedLint { root: Some("r"), name: Some("n"), allow: ["x", "z"], deny: ["y"], format: Some("json"), color: None, is_strict: true, is_all: true, config: None, no_config: false, is_list: false, texts: ["a"] })
+resb|lint|--color|never|a => Lint(AskedLint { root: None, name: None, allow: [], deny: [], format: None, color: Some("never"), is_strict: false, is_all: false, config: None, no_config: false, is_list: false, texts: ["a"] })
+resb|lint|--list => Lint(AskedLint { root: None, name: None, allow: [], deny: [], format: None, color: None, is_strict: false, is_all: false, config: None, no_config: false, is_list: true, texts: [] })
 resb|fmt|--check|-q|a|b => Format(AskedFormat { is_check: true, is_diff: false, is_quiet: true, config: None, no_config: false, texts: ["a", "b"] })
 resb|fmt|--config|c|a => Format(AskedFormat { is_check: false, is_diff: false, is_quiet: false, config: Some("c"), no_config: false, texts: ["a"] })
-resb|lint|--no-config|a => Lint(AskedLint { root: None, name: None, allow: [], deny: [], format: None, is_strict: false, is_all: false, config: None, no_config: true, is_list: false, texts: ["a"] })
+resb|lint|--no-config|a => Lint(AskedLint { root: None, name: None, allow: [], deny: [], format: None, color: None, is_strict: false, is_all: false, config: None, no_config: true, is_list: false, texts: ["a"] })
 resb|init|a => Init { folder: Some("a") }
 resb|init => Init { folder: None }
 resb|coverage|--format|csv|a|--parents|p|de=b => Coverage(AskedCoverage { parents: Some("p"), is_cldr: false, format: Some("csv"), config: None, no_config: false, texts: ["a", "de=b"] })
