@@ -11,7 +11,8 @@ any: what no public contract reaches serves only proofs and private functions, a
 
 A line counts if it is not blank, no comment and no `use`. Public are the items that a crate's lib.rt names, with the methods of its types
 and traits. Of a `module _` block its head counts, and those of its definitions that are reached. Not counted are definitions of the
-toolchain's library, and those that only say why a recursion ends.
+toolchain's library, and those that only say why a recursion ends, what memory a type owns, or how its value comes from its fields if
+these are private: all that a caller learns of the value is in the clauses of the type's calls, which are proved for that value.
 """
 
 import collections
@@ -140,6 +141,7 @@ def contracts(crate, of_laws, with_private):
             continue
         text = file.read_text()
         scope = Scope(text)
+        opaque = opaque_types(text)
         owner = None
         is_inherent = False
         function = None
@@ -159,8 +161,19 @@ def contracts(crate, of_laws, with_private):
             shown = re.match(r"\s*ghost (?!use|invariant|inverse|coded)(\w+)(.*)", line)
             if clause and function:
                 yield clause[3], scope, is_beyond(crate, owner, name, clause[2])
-            elif shown and owner in names and (with_private or shown[1] != "size_decreases"):
+            elif shown and owner in names and (with_private or shown[1] not in hidden_items(owner in opaque)):
                 yield shown[2], scope, is_beyond(crate, owner, None, None)
+
+
+def opaque_types(text):
+    """Returns the structs of a source that have no public field."""
+    structs = re.findall(r"^pub struct (\w+)[^{;]*\{([^}]*)\}", text, re.M)
+    return {name for name, fields in structs if not re.search(r"\bpub\b", fields)}
+
+
+def hidden_items(is_opaque):
+    """Returns the ghost items of a type that a reader needn't believe."""
+    return {"size_decreases", "also_owns"} | ({"view"} if is_opaque else set())
 
 
 def clauses_joined(text):
