@@ -4,6 +4,9 @@ use Rattle.rb_tree.specs.SourceTree.{SourceTree}
 use Rattle.rb_parser.specs.Source.{IsGoodSource}
 use Rattle.rb_parents.specs.Trail.{ParentsOf}
 use Rattle.rb_parents.specs.Explicit.{GivesParents}
+use Rattle.rb_console.specs.declared.cldr.TheConstants.{CLDR_PARENTS}
+use Rattle.rb_console.specs.declared.parents.ParentsSource.{ParentsSource}
+use Rattle.rb_console.specs.declared.parents.ParentsSource.TheVariants.{File, Cldr}
 
 -- the explicit parents of a bundle text
 pub record AreParentsIn (text : List ℕ) (parents : ParentsOf) : Type 0 where
@@ -12,11 +15,13 @@ pub record AreParentsIn (text : List ℕ) (parents : ParentsOf) : Type 0 where
   pub good : IsGoodSource text name source
   pub gives : GivesParents source.tree parents
 
--- without a place there are none; with one they are those of a text: the bytes that were read, or CLDR's
-abbrev pub AreParentsFor : {F : Type 0} → Option F → ParentsOf → Type 0
+-- without a place there are none; CLDR's are those of the text that the program has with it, and those of a file are
+-- those of some text: the bytes that were read
+abbrev pub AreParentsFor : Option ParentsSource → ParentsOf → Type 0
 AreParentsFor None parents = (name : List ℕ) → parents name ≡ None
-AreParentsFor (Some place) parents = (text : List ℕ) × AreParentsIn text parents
+AreParentsFor (Some (File file)) parents = (text : List ℕ) × AreParentsIn text parents
+AreParentsFor (Some Cldr) parents = AreParentsIn CLDR_PARENTS.now parents
 
 -- an engine's explicit parents are these
-abbrev pub HasParentsFor : {F : Type 0} → Option F → ParentsOf → Type 0
+abbrev pub HasParentsFor : Option ParentsSource → ParentsOf → Type 0
 HasParentsFor place parents = (read : ParentsOf) × AreParentsFor place read × ((name : List ℕ) → parents name ≡ read name)

@@ -2,6 +2,7 @@
 ghost use Rattle.std.specs.Prelude.{IfOk, Some};
 ghost use Rattle.rb_parents.specs.Family.{parent_of};
 ghost use Rattle.rb_console.specs.Starting.{AreParentsFor, AreParentsIn};
+ghost use Rattle.rb_console.specs.declared.parents.ParentsSource.TheVariants as source;
 
 use crate::cldr::CLDR_PARENTS;
 use crate::error::StartError;
@@ -79,7 +80,7 @@ fn parents_in_file<'a, R: Files + AllocGlobal>(
     rt: &R,
     file: &'a str,
 ) -> Result<Parents, StartError<'a>>
-    ensures { IfOk result (λ p. AreParentsFor (Some file) (parent_of p)) }
+    ensures { IfOk result (λ p. AreParentsFor (Some (source.File file.entry)) (parent_of p)) }
 {
     match bytes_of(rt, file) {
         Ok(text) => parents_in(rt.alloc(), file, &text),

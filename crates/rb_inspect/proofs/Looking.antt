@@ -11,6 +11,7 @@ use Rattle.rb_fallback.specs.declared.found.Found.{Found}
 use Rattle.rb_parents.specs.Trail.{ParentsOf}
 use Rattle.rb_inspect.specs.Looking.{IsFoundWith, is_found, looked_up}
 use Rattle.rb_console.specs.Starting.{AreParentsFor}
+use Rattle.rb_console.specs.declared.parents.ParentsSource.{ParentsSource}
 
 found_in : {N : Type 0} (tree : N → Resource) (r : Result (Found N) LookFault) → is_ok r ≡ is_found (look_response tree r)
 found_in tree (Ok found) = refl
@@ -25,8 +26,8 @@ pub step_start : (old : State) (call : Call) (response : Response) (new : State)
 step_start old call response new (inl memory) = memory.start
 step_start old call response new (inr answered) = answered.start
 
-pub found_with : {F : Type 0} (file : Option F) (read : ParentsOf) (first last : Kept) (locale path : List ℕ) → AreParentsFor file read
+pub found_with : (source : Option ParentsSource) (read : ParentsOf) (first last : Kept) (locale path : List ℕ) → AreParentsFor source read
     → ((name : List ℕ) → (state_of first).start.parents name ≡ read name) → (state_of last).start ≡ (state_of first).start
-    → is_found (looked_up last locale path) ≡ true → IsFoundWith file locale path
-found_with file read first last locale path are same kept found =
+    → is_found (looked_up last locale path) ≡ true → IsFoundWith source locale path
+found_with source read first last locale path are same kept found =
     (last, (read, are, λ name. ap (λ s. s.parents name) kept ∙ same name), found)

@@ -4,6 +4,7 @@ use Rattle.rb_engine.specs.Answer.{Response, Finds, answer_over}
 use Rattle.rb_engine.specs.Ask.{Looks}
 use Rattle.rb_engine.specs.Kept.{Kept, state_of}
 use Rattle.rb_console.specs.Starting.{HasParentsFor}
+use Rattle.rb_console.specs.declared.parents.ParentsSource.{ParentsSource}
 
 -- the application for which the bundles are installed
 abbrev pub look_app : List ℕ
@@ -23,7 +24,7 @@ abbrev pub look_status : {T E : Type 0} → Bool → Result T E → ℕ
 look_status found (Ok done) = if found then 0 else 1
 look_status found (Err error) = 2
 
--- something is found by an engine with the explicit parents of a file, if one is given
-abbrev pub IsFoundWith : {F : Type 0} → Option F → List ℕ → List ℕ → Type 0
+-- something is found by an engine with explicit parents, if any are given
+abbrev pub IsFoundWith : Option ParentsSource → List ℕ → List ℕ → Type 0
 IsFoundWith parents locale path = (engine : Kept) × HasParentsFor parents (state_of engine).start.parents
     × (is_found (looked_up engine locale path) ≡ true)
