@@ -278,6 +278,21 @@ def test_walks_through_nested_arrays(resb, count):
         assert resb("text", file) == Outcome(1, b"", b"chain.res: TooLarge\n")
 
 
+@pytest.mark.parametrize("more", [0, 1])
+def test_the_longest_text(resb, more):
+    """A text of 8,388,608 bytes is printed and exported; a longer one is too large."""
+    frame = 'root {\n    a { "%s" }\n}\n'
+    string = "x" * (8_388_608 - len(frame % "") + more)
+    source = 'root{a{"%s"}}' % string
+    done = Outcome(1, b"", b"root.res: TooLarge\n") if more else Outcome(0, (frame % string).encode(), b"")
+    assert resb("text", resb.put("root.res", resb.compiled(source))) == done
+    names = {"app": "shop", "locale": "root"}
+    asked = [json.dumps({"op": "put", **names, "text": source}), json.dumps({"op": "export", **names, "as": "text"})]
+    served = resb.serve([line.encode() for line in asked], "--extended")
+    replies = [json.loads(line) for line in served.stdout.splitlines()]
+    assert replies == [{"ok": True, "replaced": False}, {"error": "TooLarge"} if more else {"text": frame % string}]
+
+
 @pytest.mark.parametrize("length, code", [(1024, "Missing"), (1025, "PathTooLong")])
 def test_long_path(resb, length, code):
     path = "x" * length

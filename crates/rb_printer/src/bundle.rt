@@ -102,8 +102,6 @@ fn print_expecting<N: Node>(
 pub fn print_bundle(alloc: Global, name: &UnitList, bundle: &Bundle) -> Result<Vec<u8>, PrintError>
     ensures text { IfOk result
         (λ bytes. IsBundleText bytes.items name.now (source_tree_of bundle.now)) }
-    ensures error { IfErr result (λ e. e ≡ errors.TooLarge
-        → source_limit < length (page_bytes name.now (source_tree_of bundle.now))) }
 {
     // A text is about as long as its file and the frame.
     let expected = bundle.bytes().len();

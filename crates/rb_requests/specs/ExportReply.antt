@@ -1,10 +1,8 @@
 -- Defines the replies to requests for what is stored, a rule of this project: a bundle's file or its text, and the sizes
 -- of an application's files.
-use Rattle.std.specs.Prelude.{◌≡◌, ◌<◌, ◌⊎◌, ℕ, List, length, map, Bool, true, false, if◌then◌else◌, codes}
+use Rattle.std.specs.Prelude.{◌≡◌, ◌⊎◌, ℕ, List, length, map, Bool, true, false, if◌then◌else◌, codes}
 use Rattle.std.specs.Prelude.{Option, Some, None, Result, Ok, Err}
 use Rattle.rb_format.specs.File.{source_tree_of}
-use Rattle.rb_lexer.specs.Limits.{source_limit}
-use Rattle.rb_printer.specs.Page.{page_bytes}
 use Rattle.rb_printer.specs.Whole.{IsBundleText}
 use Rattle.rb_packages.specs.Packages.{files_of, file_at}
 use Rattle.rb_packages.specs.Words.{app_word}
@@ -25,12 +23,13 @@ sizes_reply limits kept (Err e) = error_line (app_word e)
 sizes_reply limits kept (Ok app) =
     limited_line limits (line_of (sizes_data (map (λ e. (e.0, length e.1)) (files_of app kept.packages))))
 
--- a text of the bundle under its locale's name, or an error if the text would be too long to be read again
+-- a text of the bundle under its locale's name, or an error if the text would be too long to be read again; how long a
+-- text is is left open
 abbrev pub PrintedReply : Limits → (n file text : List ℕ) → Type 0
 PrintedReply limits n file text =
     ((printed : List ℕ) × IsBundleText printed n (source_tree_of file)
     × (text ≡ limited_line limits (line_of (text_data printed))))
-    ⊎ ((source_limit < length (page_bytes n (source_tree_of file))) × (text ≡ error_line (codes "TooLarge")))
+    ⊎ (text ≡ error_line (codes "TooLarge"))
 
 -- the file of a bundle, or its text
 abbrev pub FileReply : Limits → (is_text : Bool) → (n : List ℕ) → Option (List ℕ) → List ℕ → Type 0

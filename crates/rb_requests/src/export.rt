@@ -1,12 +1,9 @@
 //! Returns what is stored: the files of bundles, their texts, and their lengths.
-ghost use Rattle.std.specs.Prelude.{◌≡◌, ◌<◌, [], length, option_map, IfErr, IfOk, OnOk};
+ghost use Rattle.std.specs.Prelude.{◌≡◌, [], option_map, IfErr, IfOk, OnOk};
 ghost use Rattle.rb_format.specs.File.{source_tree_of};
 ghost use Rattle.rb_locales.specs.Locale.{name as name_of};
 ghost use Rattle.rb_packages.specs.App.{app_of};
-ghost use Rattle.rb_lexer.specs.Limits.{source_limit};
-ghost use Rattle.rb_printer.specs.Page.{page_bytes};
 ghost use Rattle.rb_printer.specs.Whole.{IsBundleText};
-ghost use Rattle.rb_printer.specs.declared.error.PrintError.TheVariants as print_errors;
 ghost use Rattle.rb_replies.specs.Extended.{file_line, text_data};
 ghost use Rattle.rb_requests.specs.ExportReply.{ExportReply, FileReply, PrintedReply};
 ghost use Rattle.rb_requests.specs.ExportReply.{limited_line, sizes_reply};
@@ -152,8 +149,6 @@ fn place_printed<S: Sink>(
 fn text_of(alloc: Global, name: &Name, bundle: &Bundle) -> Result<Vec<u8>, PrintError>
     ensures text { IfOk result
         (λ bytes. IsBundleText bytes.items name.now (source_tree_of bundle.now)) }
-    ensures error { IfErr result (λ e. e ≡ print_errors.TooLarge
-        → source_limit < length (page_bytes name.now (source_tree_of bundle.now))) }
 {
     let units: Vec<u16> = name
         .as_bytes()
