@@ -5,7 +5,7 @@ use Rattle.std.specs.Option.{option_or}
 use Rattle.std.specs.Str.{bytes_eq}
 use Rattle.clap.specs.Words.{Row, Text, first_of}
 use Rattle.clap.specs.Walk.{texts}
-use Rattle.rb_arguments.specs.Rows.{IsFlagIn, alone, word_in, words_in}
+use Rattle.rb_arguments.specs.Rows.{IsFlagIn, IsTextIn, alone, word_in, words_in}
 use Rattle.rb_arguments.specs.Limits.{AreGiven}
 use Rattle.rb_arguments.specs.declared.asking.Asked.{Asked}
 use Rattle.rb_arguments.specs.declared.asking.Asked.TheVariants.{Compile, CompileAll, CompileJson, CompileAllJson}
@@ -39,129 +39,74 @@ root_in rows = option_or (first_of (codes "against") rows) (first_of (codes "roo
 -- the command of this name, with these rows, asks for this
 abbrev pub AsksFor : Text → List Row → Asked → Type 0
 AsksFor name rows (Compile input output is_forced is_quiet) =
-    (name ≡ codes "compile")
-    × IsFlagIn rows (codes "json") false
-    × (first_of (codes "to") rows ≡ None)
-    × (input.now ≡ word_in rows (codes "IN"))
-    × (output.now ≡ word_in rows (codes "OUT"))
-    × IsFlagIn rows (codes "force") is_forced
-    × IsFlagIn rows (codes "quiet") is_quiet
+    (name ≡ codes "compile") × IsFlagIn rows (codes "json") false × (first_of (codes "to") rows ≡ None)
+    × (input.now ≡ word_in rows (codes "IN")) × (output.now ≡ word_in rows (codes "OUT"))
+    × IsFlagIn rows (codes "force") is_forced × IsFlagIn rows (codes "quiet") is_quiet
 AsksFor name rows (CompileAll folder from files is_forced is_quiet) =
-    (name ≡ codes "compile")
-    × IsFlagIn rows (codes "json") false
-    × (first_of (codes "to") rows ≡ Some folder.now)
-    × (option_map (λ s. s.now) from ≡ first_of (codes "from") rows)
-    × (texts files.items ≡ texts_in rows)
-    × IsFlagIn rows (codes "force") is_forced
-    × IsFlagIn rows (codes "quiet") is_quiet
+    (name ≡ codes "compile") × IsFlagIn rows (codes "json") false × (first_of (codes "to") rows ≡ Some folder.now)
+    × IsTextIn rows (codes "from") from × (texts files.items ≡ texts_in rows)
+    × IsFlagIn rows (codes "force") is_forced × IsFlagIn rows (codes "quiet") is_quiet
 AsksFor name rows (CompileJson input output no_fallback is_forced is_quiet) =
-    (name ≡ codes "compile")
-    × IsFlagIn rows (codes "json") true
-    × (first_of (codes "to") rows ≡ None)
-    × (input.now ≡ word_in rows (codes "IN"))
-    × (output.now ≡ word_in rows (codes "OUT"))
-    × IsFlagIn rows (codes "no-fallback") no_fallback
-    × IsFlagIn rows (codes "force") is_forced
+    (name ≡ codes "compile") × IsFlagIn rows (codes "json") true × (first_of (codes "to") rows ≡ None)
+    × (input.now ≡ word_in rows (codes "IN")) × (output.now ≡ word_in rows (codes "OUT"))
+    × IsFlagIn rows (codes "no-fallback") no_fallback × IsFlagIn rows (codes "force") is_forced
     × IsFlagIn rows (codes "quiet") is_quiet
 AsksFor name rows (CompileAllJson folder from files no_fallback is_forced is_quiet) =
-    (name ≡ codes "compile")
-    × IsFlagIn rows (codes "json") true
-    × (first_of (codes "to") rows ≡ Some folder.now)
-    × (option_map (λ s. s.now) from ≡ first_of (codes "from") rows)
-    × (texts files.items ≡ texts_in rows)
-    × IsFlagIn rows (codes "no-fallback") no_fallback
-    × IsFlagIn rows (codes "force") is_forced
+    (name ≡ codes "compile") × IsFlagIn rows (codes "json") true × (first_of (codes "to") rows ≡ Some folder.now)
+    × IsTextIn rows (codes "from") from × (texts files.items ≡ texts_in rows)
+    × IsFlagIn rows (codes "no-fallback") no_fallback × IsFlagIn rows (codes "force") is_forced
     × IsFlagIn rows (codes "quiet") is_quiet
 AsksFor name rows (Check files is_json is_quiet) =
-    (name ≡ codes "check")
-    × (texts files.items ≡ words_in rows (codes "FILE"))
-    × IsFlagIn rows (codes "json") is_json
-    × IsFlagIn rows (codes "quiet") is_quiet
+    (name ≡ codes "check") × (texts files.items ≡ words_in rows (codes "FILE"))
+    × IsFlagIn rows (codes "json") is_json × IsFlagIn rows (codes "quiet") is_quiet
 AsksFor name rows (Get file path is_raw) =
-    (name ≡ codes "get")
-    × (file.now ≡ word_in rows (codes "FILE"))
-    × (path.now ≡ word_in rows (codes "PATH"))
+    (name ≡ codes "get") × (file.now ≡ word_in rows (codes "FILE")) × (path.now ≡ word_in rows (codes "PATH"))
     × IsFlagIn rows (codes "raw") is_raw
 AsksFor name rows (Json file path is_pretty) =
-    (name ≡ codes "json")
-    × (first_of (codes "inherit") rows ≡ None)
-    × (file.now ≡ word_in rows (codes "FILE"))
-    × (path.now ≡ word_in rows (codes "PATH"))
-    × IsFlagIn rows (codes "pretty") is_pretty
+    (name ≡ codes "json") × (first_of (codes "inherit") rows ≡ None) × (file.now ≡ word_in rows (codes "FILE"))
+    × (path.now ≡ word_in rows (codes "PATH")) × IsFlagIn rows (codes "pretty") is_pretty
 AsksFor name rows (Inherited asked) =
-    (name ≡ codes "json")
-    × (first_of (codes "inherit") rows ≡ Some asked.locale.now)
-    × (option_map (λ s. s.now) asked.parents ≡ first_of (codes "parents") rows)
-    × IsFlagIn rows (codes "cldr-parents") asked.is_cldr
-    × (asked.path.now ≡ word_in rows (codes "path"))
-    × IsFlagIn rows (codes "pretty") asked.is_pretty
+    (name ≡ codes "json") × (first_of (codes "inherit") rows ≡ Some asked.locale.now)
+    × IsTextIn rows (codes "parents") asked.parents × IsFlagIn rows (codes "cldr-parents") asked.is_cldr
+    × (asked.path.now ≡ word_in rows (codes "path")) × IsFlagIn rows (codes "pretty") asked.is_pretty
     × (texts asked.files.items ≡ files_in rows)
 AsksFor name rows (ToText file bundle) =
-    (name ≡ codes "text")
-    × (file.now ≡ word_in rows (codes "FILE"))
-    × (option_map (λ s. s.now) bundle ≡ first_of (codes "name") rows)
+    (name ≡ codes "text") × (file.now ≡ word_in rows (codes "FILE")) × IsTextIn rows (codes "name") bundle
 AsksFor name rows (Diff old new is_json is_stat) =
-    (name ≡ codes "diff")
-    × (old.now ≡ word_in rows (codes "OLD"))
-    × (new.now ≡ word_in rows (codes "NEW"))
-    × IsFlagIn rows (codes "json") is_json
-    × IsFlagIn rows (codes "stat") is_stat
+    (name ≡ codes "diff") × (old.now ≡ word_in rows (codes "OLD")) × (new.now ≡ word_in rows (codes "NEW"))
+    × IsFlagIn rows (codes "json") is_json × IsFlagIn rows (codes "stat") is_stat
 AsksFor name rows (Lint asked) =
-    (name ≡ codes "lint")
-    × (option_map (λ s. s.now) asked.root ≡ root_in rows)
-    × (option_map (λ s. s.now) asked.name ≡ first_of (codes "name") rows)
-    × (texts asked.allow.items ≡ words_in rows (codes "allow"))
-    × (texts asked.deny.items ≡ words_in rows (codes "deny"))
-    × (option_map (λ s. s.now) asked.format ≡ first_of (codes "format") rows)
-    × (option_map (λ s. s.now) asked.color ≡ first_of (codes "color") rows)
-    × IsFlagIn rows (codes "strict") asked.is_strict
-    × IsFlagIn rows (codes "all") asked.is_all
-    × (option_map (λ s. s.now) asked.config ≡ first_of (codes "config") rows)
-    × IsFlagIn rows (codes "no-config") asked.no_config
-    × IsFlagIn rows (codes "list") asked.is_list
+    (name ≡ codes "lint") × (option_map (λ s. s.now) asked.root ≡ root_in rows)
+    × IsTextIn rows (codes "name") asked.name × (texts asked.allow.items ≡ words_in rows (codes "allow"))
+    × (texts asked.deny.items ≡ words_in rows (codes "deny")) × IsTextIn rows (codes "format") asked.format
+    × IsTextIn rows (codes "color") asked.color × IsFlagIn rows (codes "strict") asked.is_strict
+    × IsFlagIn rows (codes "all") asked.is_all × IsTextIn rows (codes "config") asked.config
+    × IsFlagIn rows (codes "no-config") asked.no_config × IsFlagIn rows (codes "list") asked.is_list
     × (texts asked.texts.items ≡ words_in rows (codes "TEXT"))
 AsksFor name rows (Format asked) =
-    (name ≡ codes "fmt")
-    × IsFlagIn rows (codes "check") asked.is_check
-    × IsFlagIn rows (codes "diff") asked.is_diff
-    × IsFlagIn rows (codes "quiet") asked.is_quiet
-    × (option_map (λ s. s.now) asked.config ≡ first_of (codes "config") rows)
-    × IsFlagIn rows (codes "no-config") asked.no_config
-    × (texts asked.texts.items ≡ words_in rows (codes "TEXT"))
+    (name ≡ codes "fmt") × IsFlagIn rows (codes "check") asked.is_check × IsFlagIn rows (codes "diff") asked.is_diff
+    × IsFlagIn rows (codes "quiet") asked.is_quiet × IsTextIn rows (codes "config") asked.config
+    × IsFlagIn rows (codes "no-config") asked.no_config × (texts asked.texts.items ≡ words_in rows (codes "TEXT"))
 AsksFor name rows (Coverage asked) =
-    (name ≡ codes "coverage")
-    × (option_map (λ s. s.now) asked.parents ≡ first_of (codes "parents") rows)
-    × IsFlagIn rows (codes "cldr-parents") asked.is_cldr
-    × (option_map (λ s. s.now) asked.format ≡ first_of (codes "format") rows)
-    × (option_map (λ s. s.now) asked.config ≡ first_of (codes "config") rows)
-    × IsFlagIn rows (codes "no-config") asked.no_config
+    (name ≡ codes "coverage") × IsTextIn rows (codes "parents") asked.parents
+    × IsFlagIn rows (codes "cldr-parents") asked.is_cldr × IsTextIn rows (codes "format") asked.format
+    × IsTextIn rows (codes "config") asked.config × IsFlagIn rows (codes "no-config") asked.no_config
     × (texts asked.texts.items ≡ words_in rows (codes "TEXT"))
 AsksFor name rows (Init folder) =
-    (name ≡ codes "init")
-    × (option_map (λ s. s.now) folder ≡ first_of (codes "FOLDER") rows)
+    (name ≡ codes "init") × IsTextIn rows (codes "FOLDER") folder
 AsksFor name rows (Explain word) =
-    (name ≡ codes "explain")
-    × (option_map (λ s. s.now) word ≡ first_of (codes "WORD") rows)
+    (name ≡ codes "explain") × IsTextIn rows (codes "WORD") word
 AsksFor name rows (Lines op is_json app files) =
-    (name ≡ codes "lines")
-    × (option_map (λ s. s.now) op ≡ first_of (codes "op") rows)
-    × IsFlagIn rows (codes "json") is_json
-    × (app.now ≡ word_in rows (codes "APP"))
-    × (texts files.items ≡ words_in rows (codes "FILE"))
+    (name ≡ codes "lines") × IsTextIn rows (codes "op") op × IsFlagIn rows (codes "json") is_json
+    × (app.now ≡ word_in rows (codes "APP")) × (texts files.items ≡ words_in rows (codes "FILE"))
 AsksFor name rows (Look lookup) =
-    (name ≡ codes "look")
-    × (option_map (λ s. s.now) lookup.parents ≡ first_of (codes "parents") rows)
-    × IsFlagIn rows (codes "cldr-parents") lookup.is_cldr
-    × (lookup.locale.now ≡ word_in rows (codes "LOCALE"))
-    × (lookup.path.now ≡ word_in rows (codes "PATH"))
-    × IsFlagIn rows (codes "trace") lookup.is_traced
+    (name ≡ codes "look") × IsTextIn rows (codes "parents") lookup.parents
+    × IsFlagIn rows (codes "cldr-parents") lookup.is_cldr × (lookup.locale.now ≡ word_in rows (codes "LOCALE"))
+    × (lookup.path.now ≡ word_in rows (codes "PATH")) × IsFlagIn rows (codes "trace") lookup.is_traced
     × (texts lookup.files.items ≡ words_in rows (codes "FILE"))
 AsksFor name rows (Serve parents is_cldr bundles limits is_extended) =
-    (name ≡ codes "serve")
-    × (option_map (λ s. s.now) parents ≡ first_of (codes "parents") rows)
-    × IsFlagIn rows (codes "cldr-parents") is_cldr
-    × (texts bundles.items ≡ words_in rows (codes "bundles"))
-    × AreGiven rows limits
+    (name ≡ codes "serve") × IsTextIn rows (codes "parents") parents × IsFlagIn rows (codes "cldr-parents") is_cldr
+    × (texts bundles.items ≡ words_in rows (codes "bundles")) × AreGiven rows limits
     × IsFlagIn rows (codes "extended") is_extended
 
 -- ---- by the name and the rows of the command that a command line enters, if it enters one

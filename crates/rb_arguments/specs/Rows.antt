@@ -1,13 +1,18 @@
 -- Defines the values of a command's arguments, by the rows that clap returned: a row has the texts of one argument.
 use Rattle.std.specs.Prelude.{◌≡◌, ◌<◌, ◌^◌, ◌∷◌, [], ℕ, Bool, true, false, List, Option, Some, None, codes}
-use Rattle.std.specs.Prelude.{unwrap_or}
+use Rattle.std.specs.Prelude.{option_map, unwrap_or}
 use Rattle.std.specs.Option.{SomeIff}
 use Rattle.std.specs.Str.Parse.{IsNumeral, digits_value, without_leading_plus}
+use Rattle.std.specs.Borrow.{Bor}
 use Rattle.clap.specs.Words.{Row, Text, all_of, first_of, one_of}
 
 -- the word of an argument, empty if it is missing
 abbrev pub word_in : List Row → Text → Text
 word_in rows id = unwrap_or (first_of id rows) []
+
+-- the text of an argument, if it is given
+abbrev pub IsTextIn : List Row → Text → Option (Bor (List ℕ)) → Type 0
+IsTextIn rows id text = option_map (λ s. s.now) text ≡ first_of id rows
 
 -- the words of an argument, none if it is missing
 abbrev pub words_in : List Row → Text → List Text
