@@ -1,5 +1,5 @@
 -- Defines lists of names and keys in C, a rule of this project.
-use Rattle.std.specs.Prelude.{◌≡◌, ◌⊎◌, ◌<◌, ◌++◌, ◌∷◌, ℕ, List, [], Option, Some, None, length, slice_get}
+use Rattle.std.specs.Prelude.{◌≡◌, ◌++◌, ◌∷◌, ℕ, List, [], Option, Some, None, slice_get}
 use Rattle.std.specs.Map.{keys_of}
 use Rattle.rb_tree.specs.Resource.{Resource}
 use Rattle.rb_views.specs.Parts.{table_of}
@@ -10,6 +10,7 @@ use Rattle.rb_engine.specs.Kept.{Kept, state_of}
 use Rattle.rb_engine.specs.declared.request.Reply.{Reply}
 use Rattle.rb_engine.specs.declared.request.Reply.TheVariants.{Names}
 use Rattle.rb_engine.specs.declared.request.Request.TheVariants.{List as Listing}
+use Rattle.resb.specs.Looks.{IsCopied}
 use Rattle.resb.specs.Numbers.{look_number, reply_number}
 
 -- names, each with a zero byte after it
@@ -23,22 +24,16 @@ HasReply engine app reply = Step (state_of engine) (Requests (Listing app)) (Rep
 
 -- the number of a reply; the names of a list are copied, or their length written if there isn't room for them
 abbrev pub IsListed : Reply → ℕ → ℕ → ℕ → List ℕ → Type 0
-IsListed (Names names) n count room copy =
-    ((n ≡ 0) × (copy ≡ zero_ended names)) ⊎ ((n ≡ 5) × (count ≡ length (zero_ended names)) × (room < count))
+IsListed (Names names) n count room copy = IsCopied 99 (Some (zero_ended names)) n count room copy
 IsListed reply n count room copy = n ≡ reply_number reply
 
 abbrev pub Lists : Kept → List ℕ → ℕ → ℕ → ℕ → List ℕ → Type 0
 Lists engine app n count room copy = (reply : Reply) × HasReply engine app reply × IsListed reply n count room copy
 
--- a copy of a key, or its length if there isn't room for it
-abbrev pub CopiesEntry : Option (List ℕ) → ℕ → ℕ → ℕ → List ℕ → Type 0
-CopiesEntry None n count room copy = n ≡ 7
-CopiesEntry (Some key) n count room copy =
-    ((n ≡ 0) × (copy ≡ key)) ⊎ ((n ≡ 5) × (count ≡ length key) × (room < count))
-
+-- a copy of the key at an index, if the item is a table
 abbrev pub CopiesOf : Option (List (List ℕ × Resource)) → ℕ → ℕ → ℕ → ℕ → List ℕ → Type 0
 CopiesOf None index n count room copy = n ≡ 6
-CopiesOf (Some entries) index n count room copy = CopiesEntry (slice_get (keys_of entries) index) n count room copy
+CopiesOf (Some entries) index n count room copy = IsCopied 7 (slice_get (keys_of entries) index) n count room copy
 
 -- a copy of the key of an entry of the table that is found
 abbrev pub CopiesKey : Response → ℕ → ℕ → ℕ → ℕ → List ℕ → Type 0

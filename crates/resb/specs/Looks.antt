@@ -20,9 +20,8 @@ abbrev pub takes_more_in : Kept → ℕ → List ℕ → List ℕ → List ℕ �
 takes_more_in engine steps app locale path = takes_more steps (state_of engine).start ((state_of engine).lists app) (place_of app locale) path
 
 abbrev pub response_number : Response → ℕ
-response_number (Replies reply) = 0
-response_number (Finds hit valid) = 0
 response_number (Refuses fault) = look_number fault
+response_number response = 0
 
 -- the number of a kind in ICU's `UResType`
 abbrev pub kind_number : Kind → ℕ
@@ -36,19 +35,18 @@ kind_number kinds.Ints = 14
 
 -- the kind and the count of the item that is found, and the number of an int, else 0
 abbrev pub Describes : Response → ℕ → ℕ → ℕ → Type 0
-Describes (Replies reply) kind count number = Unit {0}
-Describes (Refuses fault) kind count number = Unit {0}
 Describes (Finds hit valid) kind count number =
     (kind ≡ kind_number (kind_of hit.tree)) × (count ≡ len_of hit.tree) × (number ≡ unwrap_or (uint_of hit.tree) 0)
+Describes response kind count number = Unit {0}
 
--- a copy of a text's units, or their count if there isn't room for them
-abbrev pub CopiesText : Option (List ℕ) → ℕ → ℕ → ℕ → List ℕ → Type 0
-CopiesText None n count room copy = n ≡ 6
-CopiesText (Some units) n count room copy =
+-- a copy of units or bytes, or their count if there isn't room for them; or the number of an error if there are none
+abbrev pub IsCopied : (missing : ℕ) → Option (List ℕ) → ℕ → ℕ → ℕ → List ℕ → Type 0
+IsCopied missing None n count room copy = n ≡ missing
+IsCopied missing (Some units) n count room copy =
     ((n ≡ 0) × (copy ≡ units)) ⊎ ((n ≡ 5) × (count ≡ length units) × (room < count))
 
 -- a copy of the string that is found
 abbrev pub Copies : Response → ℕ → ℕ → ℕ → List ℕ → Type 0
 Copies (Replies reply) n count room copy = Unit {0}
 Copies (Refuses fault) n count room copy = n ≡ look_number fault
-Copies (Finds hit valid) n count room copy = CopiesText (text_of hit.tree) n count room copy
+Copies (Finds hit valid) n count room copy = IsCopied 6 (text_of hit.tree) n count room copy

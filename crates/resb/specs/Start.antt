@@ -1,11 +1,13 @@
 -- Defines the engine that a C program opens with bundles of ICUDATA and explicit parents, or the first error, a rule of
 -- this project.
-use Rattle.std.specs.Prelude.{◌≡◌, ◌⊎◌, ℕ, List, [], Option, Some, None, map, option_map, take, slice_get}
+use Rattle.std.specs.Prelude.{◌≡◌, ◌⊎◌, ◌∷◌, ℕ, List, [], Option, Some, None, map, option_map, take, slice_get, codes}
 use Rattle.rb_tree.specs.SourceTree.{SourceTree}
 use Rattle.rb_parser.specs.Source.{IsGoodSource, IsRefusal}
 use Rattle.rb_locales.specs.Locale.{name}
 use Rattle.rb_parents.specs.Trail.{ParentsOf}
 use Rattle.rb_parents.specs.Explicit.{GivesParents, RefusesParents}
+use Rattle.rb_parents.specs.Words.{parents_word}
+use Rattle.rb_parents.specs.declared.fault.ParentsFault.{ParentsFault}
 use Rattle.rb_parents.specs.declared.fault.ParentsFault.TheVariants as parents
 use Rattle.rb_engine.specs.Kept.{Kept, state_of}
 use Rattle.rb_engine.specs.Start.{Entries, Loads}
@@ -13,7 +15,7 @@ use Rattle.rb_engine.specs.Start as engine
 use Rattle.rb_engine.specs.declared.request.Payload.{Payload}
 use Rattle.rb_engine.specs.declared.start.StartFault.TheVariants as entries
 use Rattle.resb.specs.Changes.{payload_of}
-use Rattle.resb.specs.Numbers.{text_number}
+use Rattle.resb.specs.Numbers.{code_number, text_number}
 use Rattle.resb.specs.declared.entry.Entry.{Entry}
 use Rattle.resb.specs.declared.start.StartError.{StartError}
 use Rattle.resb.specs.declared.start.StartError.TheVariants.{Locale, Entries as Entry_fault, Text, Parents, Memory}
@@ -45,17 +47,18 @@ IsFirstUnnamed given i = (e : Entry) × (slice_get given i ≡ Some e) × (name 
 abbrev pub IsEntryError : List Entry → StartError → Type 0
 IsEntryError given (Locale i) = IsFirstUnnamed given i
 IsEntryError given Memory = Unit {0}
-IsEntryError given (Entry_fault fault) = ⊥
-IsEntryError given (Text fault) = ⊥
-IsEntryError given (Parents fault) = ⊥
+IsEntryError given error = ⊥
+
+-- the first error of the parents that a good text gives
+abbrev pub IsParentsFault : List ℕ → ParentsFault → Type 0
+IsParentsFault text fault = (fault ≡ parents.Memory)
+    ⊎ ((bundle : List ℕ) × (source : SourceTree) × IsGoodSource text bundle source × RefusesParents source.tree fault)
 
 abbrev pub IsParentsError : List ℕ → StartError → Type 0
 IsParentsError text (Text fault) = IsRefusal text fault
-IsParentsError text (Parents fault) = (fault ≡ parents.Memory)
-    ⊎ ((bundle : List ℕ) × (source : SourceTree) × IsGoodSource text bundle source × RefusesParents source.tree fault)
+IsParentsError text (Parents fault) = IsParentsFault text fault
 IsParentsError text Memory = Unit {0}
-IsParentsError text (Locale i) = ⊥
-IsParentsError text (Entry_fault fault) = ⊥
+IsParentsError text error = ⊥
 
 -- the locales of all entries are names
 abbrev pub AreNamed : List Entry → Type 0
@@ -65,35 +68,23 @@ AreNamed given = (entries : Entries) × AreEntries given entries
 abbrev pub IsStartError : List Entry → List ℕ → StartError → Type 0
 IsStartError given text (Locale i) = IsFirstUnnamed given i
 IsStartError given text (Text fault) = AreNamed given × IsRefusal text fault
-IsStartError given text (Parents fault) = AreNamed given × IsParentsError text (Parents fault)
+IsStartError given text (Parents fault) = AreNamed given × IsParentsFault text fault
 IsStartError given text (Entry_fault fault) = ((m : ParentsOf) × HasParents text m)
     × ((entries : Entries) × AreEntries given entries × engine.IsRefused entries fault)
 IsStartError given text Memory = Unit {0}
 
-abbrev pub error_number : StartError → ℕ
-error_number (Locale i) = 13
-error_number (Entry_fault (entries.BadText i)) = 14
-error_number (Entry_fault (entries.BadFile i)) = 15
-error_number (Entry_fault (entries.Twice i)) = 19
-error_number (Entry_fault entries.Memory) = 1
-error_number (Text fault) = text_number fault.kind
-error_number (Parents parents.Shape) = 71
-error_number (Parents parents.BadLocale) = 72
-error_number (Parents parents.TwoParents) = 73
-error_number (Parents parents.Memory) = 1
-error_number Memory = 1
-
--- the index of an entry, or a line of the text
-abbrev pub error_place : StartError → ℕ
-error_place (Locale i) = i
-error_place (Entry_fault (entries.BadText i)) = i
-error_place (Entry_fault (entries.BadFile i)) = i
-error_place (Entry_fault (entries.Twice i)) = i
-error_place (Entry_fault entries.Memory) = 0
-error_place (Text fault) = fault.line
-error_place (Parents fault) = 0
-error_place Memory = 0
+-- the number of an error, and the index of its entry or its line in the text
+abbrev pub error_at : StartError → ℕ × ℕ
+error_at (Locale i) = (13, i)
+error_at (Entry_fault (entries.BadText i)) = (14, i)
+error_at (Entry_fault (entries.BadFile i)) = (15, i)
+error_at (Entry_fault (entries.Twice i)) = (19, i)
+error_at (Text fault) = (text_number fault.kind, fault.line)
+error_at (Parents fault) =
+    (code_number 71 (codes "Shape" ∷ codes "BadLocale" ∷ codes "TwoParents" ∷ []) (parents_word fault), 0)
+error_at error = (1, 0)
 
 -- the number and the place of the error
 abbrev pub IsRefused : List Entry → List ℕ → ℕ → ℕ → Type 0
-IsRefused given text n place = (error : StartError) × IsStartError given text error × (n ≡ error_number error) × (place ≡ error_place error)
+IsRefused given text n place = (error : StartError) × IsStartError given text error × (n ≡ (error_at error).0)
+    × (place ≡ (error_at error).1)

@@ -2,7 +2,7 @@
 ghost use Rattle.std.specs.Prelude.{◌≡◌, ◌≢◌, IfOk, IfErr};
 ghost use Rattle.rb_parents.specs.Family.{parent_of};
 ghost use Rattle.resb.specs.Start.{AreEntries, HasParents, IsStarted, IsStartError, IsParentsError};
-ghost use Rattle.resb.specs.Start.{IsEntryError, error_number, error_place};
+ghost use Rattle.resb.specs.Start.{IsEntryError, error_at};
 
 use crate::changes::payload_of;
 use crate::entry::Entry;
@@ -94,7 +94,7 @@ pub(crate) fn start(
 impl StartError {
     /// Returns the error's number.
     pub(crate) fn number(&self) -> u32
-        ensures number { result ≡ error_number self.now }
+        ensures number { result ≡ (error_at self.now).0 }
         ensures error { result ≢ 0 }
     {
         match self {
@@ -114,7 +114,7 @@ impl StartError {
 
     /// Returns the index of the entry with the error, or the line in the text of the parents.
     pub(crate) fn place(&self) -> u64
-        ensures { result ≡ error_place self.now }
+        ensures { result ≡ (error_at self.now).1 }
     {
         match self {
             StartError::Locale(index)
