@@ -1,17 +1,17 @@
 -- Lines under no limits are answered as the engine answers them.
 use Rattle.std.proofs.Common.{◌≡◌, ℕ, inl, inr, false, List, length, Option, Some, None, is_some, Result, Ok, Err, refl, sym, ◌∙◌, ap}
-use Rattle.std.proofs.Math.Bool.{and-false}
 use Rattle.std.proofs.lemmas.Bool.{false≢true}
 use Rattle.rb_packages.specs.Packages.{files_of}
 use Rattle.rb_packages.specs.Usage.{apps_of}
 use Rattle.rb_engine.specs.Ask.{Call, Requests, LooksUp}
-use Rattle.rb_engine.specs.Answer.{Response}
+use Rattle.rb_engine.specs.Answer.{Response, Replies, Finds}
 use Rattle.rb_engine.specs.Kept.{Kept, state_of}
 use Rattle.rb_engine.specs.Place.{place_of}
 use Rattle.rb_engine.specs.declared.handle.Change.{Change}
 use Rattle.rb_engine.specs.declared.handle.Change.TheVariants as change
 use Rattle.rb_engine.specs.declared.place.Place.{Place}
 use Rattle.rb_engine.specs.declared.request.Payload.{Payload}
+use Rattle.rb_engine.specs.declared.request.Reply.TheVariants.{Names}
 use Rattle.rb_engine.specs.declared.request.Request.TheVariants as request
 use Rattle.rb_requests.specs.Limits.{change_refusal, call_refusal}
 use Rattle.rb_requests.specs.Steps.{Outcome, Answers, IsAnswered, IsJudged}
@@ -21,7 +21,7 @@ use Rattle.rb_replies.specs.Replied.{reply_line}
 use Rattle.rb_requests.specs.Asked.{call_of}
 use Rattle.rb_requests.specs.Lines.{AnswersAsked, LineReply}
 use Rattle.rb_requests.specs.Served.{IsShort}
-use Rattle.rb_requests.specs.Within.{AnswersRead, LineReplyWithin, may_be_long, outcome_line}
+use Rattle.rb_requests.specs.Within.{AnswersRead, LineReplyWithin, outcome_line}
 use Rattle.rb_requests.proofs.Stepping.{at_most_over}
 
 abbrev pub no_limits : Limits
@@ -57,7 +57,9 @@ answered old new call incoming outcome h = elim h [
 ]
 
 plain_line : (response : Response) → outcome_line no_limits (Answers response) ≡ reply_line (Some response)
-plain_line response = rw (and-false (may_be_long response)) refl
+plain_line (Finds hit valid) = refl
+plain_line (Replies (Names names)) = refl
+plain_line other = refl
 
 read_seen : (old new : Kept) (call : Option Call) (text : List ℕ) → AnswersRead no_limits old call None text new
     → (response : Option Response) × AnswersAsked (state_of old) call response (state_of new) × (text ≡ reply_line response)

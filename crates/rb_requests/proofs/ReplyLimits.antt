@@ -1,19 +1,10 @@
 -- A line within the limit on replies, or above it.
-use Rattle.std.proofs.Common.{◌≡◌, ℕ, true, false, List, length, Option, Some, None, refl, arith, codes}
+use Rattle.std.proofs.Common.{◌≡◌, ℕ, List, length, refl, codes}
 use Rattle.rb_replies.specs.Within.{IsAbove}
 use Rattle.rb_requests.specs.ExportReply.{limited_line}
-use Rattle.rb_requests.specs.Limits.{is_over}
 use Rattle.rb_requests.specs.Within.{error_line}
 use Rattle.rb_requests.specs.declared.limits.Limits.{Limits}
-use Rattle.rb_requests.proofs.Stepping.{above_over, at_most_over}
-
-over : (most : Option ℕ) (n : ℕ) → IsAbove n most → is_over most n ≡ true
-over None n h = absurd h
-over (Some most) n h = above_over most n h
-
-within : (most : Option ℕ) (n : ℕ) → (IsAbove n most → ⊥) → is_over most n ≡ false
-within None n h = refl
-within (Some most) n h = at_most_over most n (omega (arith, h))
+use Rattle.rb_requests.proofs.Stepping.{over, within}
 
 pub limited_above : (limits : Limits) (text : List ℕ) → IsAbove (length text) limits.reply_bytes
     → limited_line limits text ≡ error_line (codes "ReplyTooLong")

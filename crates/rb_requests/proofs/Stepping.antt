@@ -1,15 +1,15 @@
 -- The request of a line, by its texts, and its answer.
-use Rattle.std.proofs.Common.{◌≡◌, ◌≤◌, ◌<◌, ℕ, inl, inr, Bool, true, false, ◌&&◌, List, length, Option, Some, None, option_map, refl, sym, ◌∙◌, ap, arith, nat_lt, codes}
+use Rattle.std.proofs.Common.{◌≡◌, ◌≤◌, ◌<◌, ℕ, inl, inr, Bool, true, false, List, length, Option, Some, None, option_map, refl, sym, ◌∙◌, ap, arith, nat_lt, codes}
 use Rattle.std.specs.Prelude.{OnOk, Result, Ok, Err}
 use Rattle.std.proofs.lemmas.Bool.{false≢true}
 use Rattle.std.proofs.lemmas.Bool.Decides.{nat_tests}
 use Rattle.serde_json.specs.Data.{Data}
 use Rattle.rb_engine.specs.Ask.{Call}
-use Rattle.rb_engine.specs.Answer.{Response, Replies, Finds}
+use Rattle.rb_engine.specs.Answer.{Response, Replies}
 use Rattle.rb_engine.specs.History.{is_memory}
 use Rattle.rb_engine.specs.Kept.{Kept}
 use Rattle.rb_engine.specs.declared.request.Reply.{Reply}
-use Rattle.rb_engine.specs.declared.request.Reply.TheVariants.{Names, Done}
+use Rattle.rb_engine.specs.declared.request.Reply.TheVariants.{Done}
 use Rattle.rb_requests.specs.declared.texts.Texts.{Texts}
 use Rattle.rb_requests.specs.Limits.{is_over}
 use Rattle.rb_requests.specs.Steps.{Outcome, Answers, Refuses, CallIsJudged, CallComesTo, may_starve}
@@ -17,7 +17,7 @@ use Rattle.rb_requests.specs.declared.limits.Limits.{Limits}
 use Rattle.rb_replies.specs.Replied.{reply_line}
 use Rattle.rb_replies.specs.Within.{limit_of, IsAbove}
 use Rattle.rb_requests.specs.Asked.{call_in}
-use Rattle.rb_requests.specs.Within.{AnswersRead, CallReply, outcome_line, may_be_long, error_line}
+use Rattle.rb_requests.specs.Within.{AnswersRead, CallReply, outcome_line, error_line}
 use Rattle.rb_requests.specs.declared.answer.Starved.{Starved}
 use Rattle.rb_requests.specs.declared.answer.Starved.TheVariants.{Before, After}
 use Rattle.rb_requests.specs.declared.ask.Line.{Line}
@@ -103,27 +103,21 @@ at_most_over most n h = grind (arith, nat_tests)
 pub above_over : (most n : ℕ) → most < n → nat_lt most n ≡ true
 above_over most n h = grind (arith, nat_tests)
 
-fits : (response : Response) (most : Option ℕ) (n : ℕ) → (IsAbove n (limit_of response most) → ⊥) → (may_be_long response && is_over most n) ≡ false
-fits (Finds hit valid) None n h = refl
-fits (Finds hit valid) (Some most) n h = at_most_over most n (omega (arith, h))
-fits (Replies (Names names)) None n h = refl
-fits (Replies (Names names)) (Some most) n h = at_most_over most n (omega (arith, h))
-fits other most n h = refl
+pub over : (most : Option ℕ) (n : ℕ) → IsAbove n most → is_over most n ≡ true
+over None n h = absurd h
+over (Some most) n h = above_over most n h
 
-exceeds : (response : Response) (most : Option ℕ) (n : ℕ) → IsAbove n (limit_of response most) → (may_be_long response && is_over most n) ≡ true
-exceeds (Finds hit valid) None n h = absurd h
-exceeds (Finds hit valid) (Some most) n h = above_over most n h
-exceeds (Replies (Names names)) None n h = absurd h
-exceeds (Replies (Names names)) (Some most) n h = above_over most n h
-exceeds other most n h = absurd h
+pub within : (most : Option ℕ) (n : ℕ) → (IsAbove n most → ⊥) → is_over most n ≡ false
+within None n h = refl
+within (Some most) n h = at_most_over most n (omega (arith, h))
 
 pub line_whole : (limits : Limits) (response : Response) → (IsAbove (length (reply_line (Some response))) (limit_of response limits.reply_bytes) → ⊥)
     → reply_line (Some response) ≡ outcome_line limits (Answers response)
-line_whole limits response short = rw (fits response limits.reply_bytes _ short) refl
+line_whole limits response short = rw (within (limit_of response limits.reply_bytes) _ short) refl
 
 pub line_long : (limits : Limits) (response : Response) → IsAbove (length (reply_line (Some response))) (limit_of response limits.reply_bytes)
     → error_line (codes "ReplyTooLong") ≡ outcome_line limits (Answers response)
-line_long limits response long = rw (exceeds response limits.reply_bytes _ long) refl
+line_long limits response long = rw (over (limit_of response limits.reply_bytes) _ long) refl
 
 -- the line is made, or memory ran out
 pub told_as : {E : Type 0} (r : Result (Unit {0}) E) (line text other : List ℕ) → text ≡ other → OnOk r (line ≡ text) → OnOk r (line ≡ other)

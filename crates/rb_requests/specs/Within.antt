@@ -1,6 +1,6 @@
 -- The reply to a line under limits, this project's own rule.
 use Rattle.std.specs.Prelude.{◌≡◌, ◌⊎◌, ◌^◌, ◌-◌, ◌++◌, ◌∷◌, [], ℕ, List, length, min, nat_lt, Bool, true, false}
-use Rattle.std.specs.Prelude.{◌&&◌, ◌||◌, if◌then◌else◌, codes, Result, Ok, Err}
+use Rattle.std.specs.Prelude.{◌||◌, if◌then◌else◌, codes, Result, Ok, Err}
 use Rattle.std.specs.Prelude.{Option, Some, None, is_some, option_and_then, unwrap_or}
 use Rattle.std.specs.Str.{bytes_eq}
 use Rattle.serde_json.specs.Data.{Data}
@@ -9,15 +9,15 @@ use Rattle.rb_packages.specs.App.{app_of}
 use Rattle.rb_packages.specs.Packages.{Files, files_of}
 use Rattle.rb_packages.specs.declared.app.AppFault.{AppFault}
 use Rattle.rb_engine.specs.Ask.{Call}
-use Rattle.rb_engine.specs.Answer.{Response, Replies, Finds}
+use Rattle.rb_engine.specs.Answer.{Response, Replies}
 use Rattle.rb_engine.specs.Kept.{Kept}
 use Rattle.rb_engine.specs.Place.{app_refusal}
 use Rattle.rb_engine.specs.Answer.{refusal}
-use Rattle.rb_engine.specs.declared.request.Reply.TheVariants.{Names}
 use Rattle.rb_requests.specs.Limits.{is_over, used, line_limit}
 use Rattle.rb_requests.specs.Steps.{Outcome, Answers, Refuses, CallIsJudged}
 use Rattle.rb_requests.specs.Words.{refusal_word}
 use Rattle.rb_replies.specs.Replied.{error, reply_line, usage_data}
+use Rattle.rb_replies.specs.Within.{limit_of}
 use Rattle.rb_requests.specs.Asked.{call_of, data_of, text_at}
 use Rattle.rb_requests.specs.declared.limits.Limits.{Limits}
 
@@ -59,14 +59,8 @@ asked_usage limits app = if is_limited limits then app else None
 
 -- ---- replies
 
--- a reply that may be long: an item, or names
-abbrev pub may_be_long : Response → Bool
-may_be_long (Finds hit valid) = true
-may_be_long (Replies (Names names)) = true
-may_be_long other = false
-
 abbrev pub is_too_long : Limits → Response → Bool
-is_too_long limits response = may_be_long response && is_over limits.reply_bytes (length (reply_line (Some response)))
+is_too_long limits response = is_over (limit_of response limits.reply_bytes) (length (reply_line (Some response)))
 
 abbrev pub outcome_line : Limits → Outcome → List ℕ
 outcome_line limits (Answers response) =
