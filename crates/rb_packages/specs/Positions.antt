@@ -1,5 +1,5 @@
 -- Defines the bundles of a package by their indices, in the order of installation, a rule of this project.
-use Rattle.std.specs.Prelude.{◌≡◌, ℕ, Bool, List, [], Option, Some, None, false, option_map, if◌then◌else◌}
+use Rattle.std.specs.Prelude.{◌≡◌, ℕ, Bool, List, [], Option, Some, false, option_map, unwrap_or, ◌&&◌}
 use Rattle.std.specs.List.{slice_get}
 use Rattle.std.specs.Map.{lookup}
 use Rattle.std.specs.Str.{bytes_eq}
@@ -20,26 +20,15 @@ name_at files i = option_map (λ e. e.0) (slice_get files i)
 abbrev pub tree_at : Files → ℕ → Option Resource
 tree_at files i = option_map (λ e. tree_of e.1) (slice_get files i)
 
--- true if there is a file with this name
-abbrev pub is_named : Option (List ℕ × List ℕ) → List ℕ → Bool
-is_named None name = false
-is_named (Some e) name = bytes_eq e.0 name
-
+-- true if there is a file with this name at an index
 abbrev pub has_name_at : Files → ℕ → List ℕ → Bool
-has_name_at files i name = is_named (slice_get files i) name
+has_name_at files i name = unwrap_or (option_map (λ e. bytes_eq e.0 name) (slice_get files i)) false
 
--- the files of the application at an index
-abbrev pub files_or_none : Option (List ℕ × Files) → Files
-files_or_none None = []
-files_or_none (Some e) = e.1
-
+-- the files of the application at an index, or none
 abbrev pub files_at_index : Stored → ℕ → Files
-files_at_index stored i = files_or_none (slice_get stored.owned i)
+files_at_index stored i = unwrap_or (option_map (λ e. e.1) (slice_get stored.owned i)) []
 
 -- true if there is an application with this name, and its file at the index has that one
-abbrev pub is_app_with : Option (List ℕ × Files) → List ℕ → ℕ → List ℕ → Bool
-is_app_with None app i name = false
-is_app_with (Some e) app i name = if bytes_eq e.0 app then has_name_at e.1 i name else false
-
 abbrev pub is_bundle_at : Stored → BundleHint → List ℕ → List ℕ → Bool
-is_bundle_at stored hint app name = is_app_with (slice_get stored.owned hint.app) app hint.bundle name
+is_bundle_at stored hint app name = unwrap_or
+    (option_map (λ e. bytes_eq e.0 app && has_name_at e.1 hint.bundle name) (slice_get stored.owned hint.app)) false

@@ -17,9 +17,6 @@ pack_word pack.Exists = codes "Exists"
 pack_word pack.Full = codes "Full"
 pack_word pack.Memory = codes "Memory"
 
-abbrev pub absent_word : List ℕ
-absent_word = codes "Absent"
-
 abbrev pub draft_word : DraftFault → List ℕ
 draft_word draft.Absent = codes "Absent"
 draft_word draft.Full = codes "Full"

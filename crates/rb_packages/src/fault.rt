@@ -1,5 +1,4 @@
-ghost use Rattle.std.specs.Prelude.{◌≡◌};
-ghost use Rattle.rb_packages.specs.Words.{absent_word};
+ghost use Rattle.std.specs.Prelude.{◌≡◌, codes};
 
 /// The reason why a bundle isn't added.
 #[derive(Clone, Copy, Debug, PartialEq, Eq)]
@@ -19,7 +18,7 @@ pub struct Absent;
 
 impl Absent {
     pub fn word(self) -> &'static str
-        ensures { result.now ≡ absent_word }
+        ensures { result.now ≡ codes "Absent" }
     {
         "Absent"
     }
