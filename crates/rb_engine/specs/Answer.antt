@@ -9,7 +9,7 @@ use Rattle.rb_fallback.specs.declared.fault.LookError.{LookError}
 use Rattle.rb_packages.specs.App.{app_of}
 use Rattle.rb_engine.specs.Place.{place_of, app_refusal}
 use Rattle.rb_packages.specs.Shelf.{Shelf, bundle_at, holds, is_full, replaced, removed}
-use Rattle.rb_engine.specs.Ask.{Content, spelled, denoted, unread, Ask, Installs, Replaces, Removes, Lists, Looks}
+use Rattle.rb_engine.specs.Ask.{Content, spelled, denoted, Ask, Installs, Replaces, Removes, Lists, Looks}
 use Rattle.rb_engine.specs.LookFaults.{look_fault_of}
 use Rattle.rb_packages.specs.declared.app.AppFault.{AppFault}
 use Rattle.rb_engine.specs.declared.place.Place.{Place}
@@ -39,20 +39,14 @@ abbrev pub added : Place → SourceTree → Shelf → Shelf
 added p source shelf = if holds p.name shelf || is_full shelf then shelf else shelf ++ (p.name, source) ∷ []
 
 abbrev pub installed : Result Place PlaceFault → Content → Shelf → Shelf
-installed (Err e) content shelf = shelf
-installed (Ok p) unread shelf = shelf
-installed (Ok p) (spelled None) shelf = shelf
-installed (Ok p) (denoted None) shelf = shelf
 installed (Ok p) (spelled (Some source)) shelf = added p source shelf
 installed (Ok p) (denoted (Some source)) shelf = added p source shelf
+installed r content shelf = shelf
 
 abbrev pub exchanged : Result Place PlaceFault → Content → Shelf → Shelf
-exchanged (Err e) content shelf = shelf
-exchanged (Ok p) unread shelf = shelf
-exchanged (Ok p) (spelled None) shelf = shelf
-exchanged (Ok p) (denoted None) shelf = shelf
 exchanged (Ok p) (spelled (Some source)) shelf = replaced p.name source shelf
 exchanged (Ok p) (denoted (Some source)) shelf = replaced p.name source shelf
+exchanged r content shelf = shelf
 
 abbrev pub taken_out : Result Place PlaceFault → Shelf → Shelf
 taken_out (Err e) shelf = shelf
@@ -62,8 +56,7 @@ abbrev pub bundles_after : Ask → Shelf → Shelf
 bundles_after (Installs app locale content) shelf = installed (place_of app locale) content shelf
 bundles_after (Replaces app locale content) shelf = exchanged (place_of app locale) content shelf
 bundles_after (Removes app locale) shelf = taken_out (place_of app locale) shelf
-bundles_after (Lists app) shelf = shelf
-bundles_after (Looks app locale path) shelf = shelf
+bundles_after ask shelf = shelf
 
 -- ---- the reply
 
@@ -77,19 +70,17 @@ add_reply p shelf = if holds p.name shelf then Exists else if is_full shelf then
 
 abbrev pub install_reply : Result Place PlaceFault → Content → Shelf → Reply
 install_reply (Err e) content shelf = refusal e
-install_reply (Ok p) unread shelf = BadText
-install_reply (Ok p) (spelled None) shelf = BadText
 install_reply (Ok p) (denoted None) shelf = BadFile
 install_reply (Ok p) (spelled (Some source)) shelf = add_reply p shelf
 install_reply (Ok p) (denoted (Some source)) shelf = add_reply p shelf
+install_reply (Ok p) content shelf = BadText
 
 abbrev pub replace_reply : Result Place PlaceFault → Content → Shelf → Reply
 replace_reply (Err e) content shelf = refusal e
-replace_reply (Ok p) unread shelf = BadText
-replace_reply (Ok p) (spelled None) shelf = BadText
 replace_reply (Ok p) (denoted None) shelf = BadFile
 replace_reply (Ok p) (spelled (Some source)) shelf = if holds p.name shelf then Done else Absent
 replace_reply (Ok p) (denoted (Some source)) shelf = if holds p.name shelf then Done else Absent
+replace_reply (Ok p) content shelf = BadText
 
 abbrev pub remove_reply : Result Place PlaceFault → Shelf → Reply
 remove_reply (Err e) shelf = refusal e

@@ -37,12 +37,9 @@ pub data Content : Type 0 where
 abbrev pub IsContent : Payload → Content → Type 0
 IsContent (Text bytes) (spelled (Some source)) = (name : List ℕ) × IsGoodSource bytes name source
 IsContent (Text bytes) (spelled None) = (name : List ℕ) (source : SourceTree) → IsGoodSource bytes name source → ⊥
-IsContent (Text bytes) (denoted source) = ⊥
-IsContent (Text bytes) unread = ⊥
 IsContent (File bytes) (denoted (Some source)) = Denotes bytes source
 IsContent (File bytes) (denoted None) = (source : SourceTree) → Denotes bytes source → ⊥
-IsContent (File bytes) (spelled source) = ⊥
-IsContent (File bytes) unread = ⊥
+IsContent payload other = ⊥
 
 -- a payload is read only if the request's names are valid
 abbrev pub IsRead : Result Place PlaceFault → Payload → Content → Type 0

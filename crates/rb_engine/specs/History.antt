@@ -4,8 +4,8 @@ use Rattle.std.specs.Prelude.{◌≡◌, ◌≢◌, ℕ, Bool, true, false, List
 use Rattle.std.specs.Str.{bytes_eq}
 use Rattle.rb_packages.specs.App.{app_of}
 use Rattle.rb_packages.specs.Shelf.{Shelf}
-use Rattle.rb_engine.specs.Ask.{Call, Requests, LooksUp, caller, Ask, Means}
-use Rattle.rb_engine.specs.Answer.{Start, Response, Replies, Finds, Refuses, answer_over, answer, bundles_after}
+use Rattle.rb_engine.specs.Ask.{Call, Requests, caller, Ask, Means}
+use Rattle.rb_engine.specs.Answer.{Start, Response, Replies, answer_over, answer, bundles_after}
 use Rattle.rb_engine.specs.Place.{place_of}
 use Rattle.rb_engine.specs.declared.request.Request.TheVariants as request
 use Rattle.rb_engine.specs.declared.request.Reply.{Reply}
@@ -31,16 +31,14 @@ is_memory_reply other = false
 
 abbrev pub is_memory : Response → Bool
 is_memory (Replies reply) = is_memory_reply reply
-is_memory (Finds hit valid) = false
-is_memory (Refuses e) = false
+is_memory other = false
 
 -- the calls that may run out of memory: changes with a payload, and lists, whose names are valid
 abbrev pub may_run_out_of_memory : Call → Bool
 may_run_out_of_memory (Requests (request.Install app locale payload)) = is_ok (place_of app locale)
 may_run_out_of_memory (Requests (request.Replace app locale payload)) = is_ok (place_of app locale)
-may_run_out_of_memory (Requests (request.Remove app locale)) = false
 may_run_out_of_memory (Requests (request.List app)) = is_ok (app_of app)
-may_run_out_of_memory (LooksUp app locale path) = false
+may_run_out_of_memory other = false
 
 -- out of memory: nothing changes
 pub record OutOfMemory (old : State) (call : Call) (response : Response) (new : State) : Type 0 where

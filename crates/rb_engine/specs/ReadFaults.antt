@@ -11,6 +11,5 @@ use Rattle.rb_engine.specs.declared.payload.ReadFault.TheVariants.{Refused, BadT
 abbrev pub IsFirstFault : Payload → ReadFault → Type 0
 IsFirstFault payload (Refused reply) = Unit {0}
 IsFirstFault (Text bytes) (BadText fault) = IsRefusal bytes fault
-IsFirstFault (Text bytes) (BadFile fault) = ⊥
-IsFirstFault (File bytes) (BadText fault) = ⊥
 IsFirstFault (File bytes) (BadFile fault) = first_fault bytes ≡ Some fault
+IsFirstFault payload fault = ⊥

@@ -41,9 +41,8 @@ payload_of (sources.File file) = File file
 abbrev pub HasNone : Payload → ReadFault → Type 0
 HasNone payload (fault.Refused r) = r ≡ reply.Memory
 HasNone (Text bytes) (fault.BadText e) = IsContent (Text bytes) (spelled None)
-HasNone (Text bytes) (fault.BadFile e) = ⊥
-HasNone (File bytes) (fault.BadText e) = ⊥
 HasNone (File bytes) (fault.BadFile e) = IsContent (File bytes) (denoted None)
+HasNone payload fault = ⊥
 
 -- the file of a payload's bundle, or the reason why there is none
 abbrev pub BundleOrFault : Payload → Result (List ℕ) ReadFault → Type 0

@@ -5,19 +5,15 @@ use Rattle.std.specs.Str.{bytes_eq}
 use Rattle.std.specs.Ordering.{nat_cmp}
 use Rattle.std.specs.Cmp.Lexicographic.{slice_cmp}
 use Rattle.std.specs.List.Sorted.{IsStrictlySortedBy}
-use Rattle.rb_tree.specs.Resource.{Resource, string, int, ints, binary, alias, array, table, Resources, no_trees}
+use Rattle.rb_tree.specs.Resource.{Resource, array, table, Resources, no_trees}
 use Rattle.rb_tree.specs.Resource.{tree_and, Members, no_entries, entry_and}
 
 -- the keys of a tree, with duplicates
 abbrev mutual
   pub all_keys : Resource → List (List ℕ)
-  all_keys (string us) = []
-  all_keys (int n) = []
-  all_keys (ints zs) = []
-  all_keys (binary bs) = []
-  all_keys (alias us) = []
   all_keys (array ts) = trees_keys ts
   all_keys (table es) = entries_keys es
+  all_keys leaf = []
 
   pub trees_keys : Resources → List (List ℕ)
   trees_keys no_trees = []

@@ -1,19 +1,15 @@
 -- Defines the length of the longest table in a tree (`uresdata.h`, URES_INDEX_MAX_TABLE_LENGTH).
 use Rattle.std.specs.Prelude.{ℕ, max, length}
-use Rattle.rb_tree.specs.Resource.{Resource, string, int, ints, binary, alias, array, table, Resources, no_trees}
+use Rattle.rb_tree.specs.Resource.{Resource, array, table, Resources, no_trees}
 use Rattle.rb_tree.specs.Resource.{tree_and, Members, no_entries, entry_and}
 use Rattle.rb_tree.specs.Keys.{pairs}
 
 abbrev mutual
   -- 0 if the tree has no table
   pub longest : Resource → ℕ
-  longest (string us) = 0
-  longest (int n) = 0
-  longest (ints zs) = 0
-  longest (binary bs) = 0
-  longest (alias us) = 0
   longest (array ts) = longest_of_trees ts
   longest (table es) = max (length (pairs es)) (longest_of_entries es)
+  longest leaf = 0
 
   pub longest_of_trees : Resources → ℕ
   longest_of_trees no_trees = 0
