@@ -1,6 +1,6 @@
 -- Defines the reply to what a line asks of a server with extended requests, and the state after it, a rule of this
 -- project.
-use Rattle.std.specs.Prelude.{◌≡◌, ◌⊎◌, ℕ, Bool, true, false, List, length, nat_lt, is_some, if◌then◌else◌, codes}
+use Rattle.std.specs.Prelude.{◌≡◌, ◌⊎◌, ℕ, Bool, false, List, is_some, if◌then◌else◌, codes}
 use Rattle.std.specs.Prelude.{Option, Some, None, Result, Ok, Err}
 use Rattle.rb_locales.specs.Locale.{name}
 use Rattle.rb_packages.specs.App.{app_of}
@@ -8,7 +8,7 @@ use Rattle.rb_packages.specs.Packages.{file_at}
 use Rattle.rb_replies.specs.Extended.{stored_data}
 use Rattle.rb_replies.specs.Replied.{reply_line}
 use Rattle.rb_engine.specs.Answer.{Replies}
-use Rattle.rb_engine.specs.Ask.{Call, Requests, LooksUp}
+use Rattle.rb_engine.specs.Ask.{Call, Requests}
 use Rattle.rb_engine.specs.Kept.{Kept}
 use Rattle.rb_engine.specs.Place.{place_of}
 use Rattle.rb_engine.specs.Source.{change_request}
@@ -65,11 +65,7 @@ CalledReply limits old (Requests (request.Install app locale payload)) text new 
     ChangeReply limits old change.Install app locale payload (outcome_line limits) text new
 CalledReply limits old (Requests (request.Replace app locale payload)) text new =
     ChangeReply limits old change.Replace app locale payload (outcome_line limits) text new
-CalledReply limits old (Requests (request.Remove app locale)) text new =
-    CallReply limits old (Requests (request.Remove app locale)) text new
-CalledReply limits old (Requests (request.List app)) text new =
-    CallReply limits old (Requests (request.List app)) text new
-CalledReply limits old (LooksUp app locale path) text new = CallReply limits old (LooksUp app locale path) text new
+CalledReply limits old call text new = CallReply limits old call text new
 
 -- a release makes all changes, or it is refused and changes nothing
 abbrev pub ReleaseReply : Limits → Kept → (app : List ℕ) → List ReleaseChange → List ℕ → Kept → Type 0

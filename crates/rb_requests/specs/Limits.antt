@@ -93,7 +93,6 @@ call_refusal limits kept (Requests (request.Install app locale payload)) incomin
     change_refusal limits kept change.Install (place_of app locale) payload incoming
 call_refusal limits kept (Requests (request.Replace app locale payload)) incoming =
     change_refusal limits kept change.Replace (place_of app locale) payload incoming
-call_refusal limits kept (Requests (request.Remove app locale)) incoming = None
-call_refusal limits kept (Requests (request.List app)) incoming = None
 call_refusal limits kept (LooksUp app locale path) incoming =
     steps_refusal limits.steps (state_of kept).start (list_of app kept.packages) app locale path
+call_refusal limits kept call incoming = None

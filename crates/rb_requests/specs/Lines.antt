@@ -24,9 +24,8 @@ feeds (b ∷ bs) = (if b == 10 then 1 else 0) + feeds bs
 -- a line that calls is answered as its call is; one that calls nothing is answered as such, and changes nothing
 abbrev pub AnswersAsked : State → Option Call → Option Response → State → Type 0
 AnswersAsked s None None new = new ≡ s
-AnswersAsked s None (Some response) new = ⊥
-AnswersAsked s (Some call) None new = ⊥
 AnswersAsked s (Some call) (Some response) new = Answered s call response new
+AnswersAsked s call response new = ⊥
 
 -- the text of the reply to a line, and the state after it
 abbrev pub LineReply : State → List ℕ → List ℕ → State → Type 0
@@ -38,10 +37,9 @@ LineReply s line text new = (response : Option Response) × AnswersAsked s (call
 abbrev pub RepliesBy : {S : Type 0} → (S → List ℕ → List ℕ → S → Type 0) → S → List (List ℕ) → List (List ℕ) → S
     → Type 0
 RepliesBy Reply s [] [] end = end ≡ s
-RepliesBy Reply s [] (reply ∷ more) end = ⊥
-RepliesBy Reply s (line ∷ rest) [] end = ⊥
 RepliesBy {S} Reply s (line ∷ rest) (reply ∷ more) end =
     (mid : S) × Reply s line reply mid × RepliesBy Reply mid rest more end
+RepliesBy Reply s lines replies end = ⊥
 
 -- `RepliesBy` where each line is answered as its call is
 abbrev pub RepliesByLine : State → List (List ℕ) → List (List ℕ) → State → Type 0

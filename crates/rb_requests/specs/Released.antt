@@ -40,10 +40,9 @@ HasEdit limits app draft (RemovesAt locale) edit =
 -- the edits of changes of an application's files, each taken after those that are `done` and those before it
 abbrev pub HaveEdits : Limits → (app : List ℕ) → Files → (done : Edits) → List ReleaseChange → Edits → Type 0
 HaveEdits limits app files done [] [] = Unit {0}
-HaveEdits limits app files done [] (e ∷ es) = ⊥
-HaveEdits limits app files done (c ∷ cs) [] = ⊥
 HaveEdits limits app files done (c ∷ cs) (e ∷ es) =
     HasEdit limits app (draft_of app files done) c e × HaveEdits limits app files (done ++ e ∷ []) cs es
+HaveEdits limits app files done cs es = ⊥
 
 -- ---- refusals
 

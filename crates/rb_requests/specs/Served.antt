@@ -1,7 +1,7 @@
 -- Defines the result of serving at the end of the input, and the state if it ends earlier, this project's own rule:
 -- each line is answered before the next is read.
 use Rattle.std.specs.Prelude.{◌≡◌, ◌≤◌, ◌<◌, ◌+◌, ◌++◌, ◌⊎◌, ℕ, List, [], ◌∷◌, length, All, ⊤, Option, Some, None}
-use Rattle.std.specs.Prelude.{Result, Ok, Err}
+use Rattle.std.specs.Prelude.{Result, Err}
 use Rattle.std.specs.List.{concat}
 use Rattle.std.specs.Io.KnownBytes.{Appends}
 use Rattle.rb_requests.specs.Device.{risen, risen_by}
@@ -157,12 +157,9 @@ AfterFault fault before after most = AfterFaultWithin LineReply line_limit fault
 -- ---- the counts of failed calls: that of the reader rises at `Read` alone, that of the writer at `Write` alone
 
 abbrev pub reads_failed : {T : Type 0} → ℕ → Result T ServeFault → ℕ
-reads_failed count (Ok x) = count
 reads_failed count (Err Read) = risen count
 reads_failed count other = count
 
 abbrev pub writes_failed : {T : Type 0} → ℕ → Result T ServeFault → ℕ
-writes_failed count (Ok x) = count
-writes_failed count (Err Read) = count
 writes_failed count (Err Write) = risen count
 writes_failed count other = count

@@ -7,7 +7,7 @@ use Rattle.rb_tree.specs.SourceTree.{SourceTree}
 use Rattle.rb_format.specs.File.{source_tree_of}
 use Rattle.rb_packages.specs.App.{app_of}
 use Rattle.rb_packages.specs.Packages.{Files, files_of, icudata_files}
-use Rattle.rb_engine.specs.Ask.{Call, Requests, LooksUp, caller}
+use Rattle.rb_engine.specs.Ask.{Call, Requests, caller}
 use Rattle.rb_engine.specs.Answer.{Response, Replies}
 use Rattle.rb_engine.specs.History.{Answered, is_memory}
 use Rattle.rb_engine.specs.Kept.{Kept, state_of}
@@ -46,9 +46,7 @@ CallBrings limits (Requests (request.Install app locale payload)) incoming =
     BringsAt limits (place_of app locale) payload incoming
 CallBrings limits (Requests (request.Replace app locale payload)) incoming =
     BringsAt limits (place_of app locale) payload incoming
-CallBrings limits (Requests (request.Remove app locale)) incoming = incoming ≡ None
-CallBrings limits (Requests (request.List app)) incoming = incoming ≡ None
-CallBrings limits (LooksUp app locale path) incoming = incoming ≡ None
+CallBrings limits call incoming = incoming ≡ None
 
 -- ---- the files of the caller's bundles after a call
 
@@ -66,8 +64,7 @@ files_done (Requests (request.Install app locale payload)) incoming files =
 files_done (Requests (request.Replace app locale payload)) incoming files =
     put_file change.Replace (place_of app locale) incoming files
 files_done (Requests (request.Remove app locale)) incoming files = taken_out (place_of app locale) files
-files_done (Requests (request.List app)) incoming files = files
-files_done (LooksUp app locale path) incoming files = files
+files_done call incoming files = files
 
 -- a change that is done changes the files; nothing else does
 abbrev pub files_then : Call → Option (List ℕ) → Response → Files → Files
@@ -85,9 +82,8 @@ is_read limits (Ok p) payload = not (is_over limits.bundle_bytes (payload_len pa
 abbrev pub may_starve : Limits → Call → Bool
 may_starve limits (Requests (request.Install app locale payload)) = is_read limits (place_of app locale) payload
 may_starve limits (Requests (request.Replace app locale payload)) = is_read limits (place_of app locale) payload
-may_starve limits (Requests (request.Remove app locale)) = false
 may_starve limits (Requests (request.List app)) = is_ok (app_of app)
-may_starve limits (LooksUp app locale path) = false
+may_starve limits call = false
 
 -- out of memory: nothing changes
 pub record Starves (limits : Limits) (old : Kept) (call : Call) (outcome : Outcome) (new : Kept) : Type 0 where
