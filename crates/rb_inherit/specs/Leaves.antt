@@ -3,10 +3,7 @@ use Rattle.rb_tree.specs.declared.kind.Kind.{Kind}
 use Rattle.rb_tree.specs.declared.kind.Kind.TheVariants as Kinds
 
 abbrev pub IsLeaf : Kind → Type 0
-IsLeaf Kinds.String = Unit {0}
-IsLeaf Kinds.Int = Unit {0}
-IsLeaf Kinds.Ints = Unit {0}
-IsLeaf Kinds.Binary = Unit {0}
 IsLeaf Kinds.Alias = ⊥
 IsLeaf Kinds.Array = ⊥
 IsLeaf Kinds.Table = ⊥
+IsLeaf other = Unit {0}

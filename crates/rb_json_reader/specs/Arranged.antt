@@ -1,21 +1,17 @@
 -- Defines which trees differ only in the order of their tables' entries. That keys are unique is a rule of this project.
 use Rattle.std.specs.Prelude.{◌≡◌, ℕ, List, [], ◌∷◌}
 use Rattle.std.specs.Map.{keys_of}
-use Rattle.rb_tree.specs.Resource.{Resource, string, int, ints, binary, alias, array, table, Resources, no_trees}
+use Rattle.rb_tree.specs.Resource.{Resource, array, table, Resources, no_trees}
 use Rattle.rb_tree.specs.Resource.{tree_and, Members, no_entries, entry_and}
 use Rattle.rb_tree.specs.Table.{IsTableOf, NoRepeat}
 
 -- the second tree is the first with the entries of each table ascending; none of its tables has a key twice
 abbrev mutual
   pub Arranges : Resource → Resource → Type 0
-  Arranges (string us) t = t ≡ string us
-  Arranges (int n) t = t ≡ int n
-  Arranges (ints zs) t = t ≡ ints zs
-  Arranges (binary bs) t = t ≡ binary bs
-  Arranges (alias us) t = t ≡ alias us
   Arranges (array us) t = (ts : Resources) × (t ≡ array ts) × ItemsArrange us ts
   Arranges (table es) t =
       (ps : List (List ℕ × Resource)) × EntriesArrange es ps × NoRepeat (keys_of ps) × IsTableOf ps t
+  Arranges leaf t = t ≡ leaf
 
   pub ItemsArrange : Resources → Resources → Type 0
   ItemsArrange no_trees ts = ts ≡ no_trees
