@@ -3,7 +3,6 @@ use Rattle.std.specs.Prelude.{ℕ}
 use Rattle.rb_console.specs.Status.{start_status, refused_status, unread_status}
 use Rattle.rb_console.specs.declared.error.CommandError.{CommandError}
 use Rattle.rb_console.specs.declared.error.CommandError.TheVariants.{NotStarted, Refused, TextRefused, Unread}
-use Rattle.rb_console.specs.declared.error.CommandError.TheVariants.{Unwritten, BadOutput}
 
 -- a file that can't be written, or must not be, is 2
 abbrev pub command_status : CommandError → ℕ
@@ -11,5 +10,4 @@ command_status (NotStarted error) = start_status error
 command_status (Refused place word) = refused_status
 command_status (TextRefused file fault) = refused_status
 command_status (Unread file line kind) = unread_status kind
-command_status (Unwritten file kind) = 2
-command_status (BadOutput reason file) = 2
+command_status other = 2

@@ -6,16 +6,14 @@ use Rattle.std.specs.Prelude.{ℕ, ◌==◌, if◌then◌else◌, Result, Ok, Er
 use Rattle.std.specs.declared.io.ErrorKind.{ErrorKind}
 use Rattle.std.specs.declared.io.ErrorKind.TheVariants.{OutOfMemory}
 use Rattle.rb_console.specs.declared.error.StartError.{StartError}
-use Rattle.rb_console.specs.declared.error.StartError.TheVariants.{BadArgument, Unreadable, Refused, NoRandomState}
+use Rattle.rb_console.specs.declared.error.StartError.TheVariants.{Refused}
 use Rattle.rb_console.specs.declared.error.StartError.TheVariants.{Memory}
 
 -- a command that doesn't start
 abbrev pub start_status : StartError → ℕ
-start_status (BadArgument argument) = 2
-start_status (Unreadable file kind) = 2
 start_status (Refused file word) = 1
-start_status NoRandomState = 2
 start_status Memory = 1
+start_status other = 2
 
 -- a file that can't be read
 abbrev pub unread_status : ErrorKind → ℕ

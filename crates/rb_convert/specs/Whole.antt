@@ -1,9 +1,9 @@
 -- Defines the item of one tree that is printed whole at a path, a rule of this project: an alias at the path's end is
 -- printed itself, and a path through an alias leads nowhere.
-use Rattle.std.specs.Prelude.{ℕ, List, [], ◌∷◌, length, nat_lt, if◌then◌else◌, Option, Some, None, Result, Ok, Err}
+use Rattle.std.specs.Prelude.{ℕ, List, [], length, nat_lt, if◌then◌else◌, Option, Some, None, Result, Ok, Err}
 use Rattle.rb_tree.specs.Resource.{Resource, alias}
 use Rattle.rb_tree.specs.Path.{is_path, segments}
-use Rattle.rb_tree.specs.Walk.{Walked, ends, links, gone, walk}
+use Rattle.rb_tree.specs.Walk.{Walked, ends, links, walk}
 use Rattle.rb_json.specs.Printed.{is_within, laid_out}
 use Rattle.rb_json.specs.Value.{value_of}
 use Rattle.rb_json.specs.declared.layout.Layout.{Layout}
@@ -14,8 +14,7 @@ use Rattle.rb_fallback.specs.Limits.{path_limit}
 abbrev pub reached : Walked → Option Resource
 reached (ends t) = Some t
 reached (links us walked []) = Some (alias us)
-reached (links us walked (s ∷ rest)) = None
-reached gone = None
+reached other = None
 
 -- an item that is within the limits of a bundle's tree
 abbrev pub light : Option Resource → Result Resource ValueError

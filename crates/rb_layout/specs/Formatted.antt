@@ -9,7 +9,7 @@ use Rattle.rb_grammar.specs.Form.{marks}
 use Rattle.rb_tree.specs.SourceTree.{SourceTree}
 use Rattle.rb_parser.specs.Source.{IsGoodSource, IsRefusal}
 use Rattle.rb_layout.specs.declared.fault.FormatFault.{FormatFault}
-use Rattle.rb_layout.specs.declared.fault.FormatFault.TheVariants.{Refused, TooLarge, Differs, Memory}
+use Rattle.rb_layout.specs.declared.fault.FormatFault.TheVariants.{Refused, Memory}
 
 -- Both texts have tokens, and these are equal apart from the bytes and the lines in which they are.
 pub record SpellSame (old new : List ℕ) : Type 0 where
@@ -37,13 +37,9 @@ fault_of fault = fault_by_kind fault.kind fault
 -- an error that says nothing of the text itself
 abbrev pub IsOwnFault : FormatFault → Type 0
 IsOwnFault (Refused fault) = ⊥
-IsOwnFault TooLarge = Unit {0}
-IsOwnFault Differs = Unit {0}
-IsOwnFault Memory = Unit {0}
+IsOwnFault other = Unit {0}
 
 -- The text is refused only for an error that its parser reports.
 abbrev pub IsFaultOf : List ℕ → FormatFault → Type 0
 IsFaultOf text (Refused fault) = IsRefusal text fault
-IsFaultOf text TooLarge = Unit {0}
-IsFaultOf text Differs = Unit {0}
-IsFaultOf text Memory = Unit {0}
+IsFaultOf text other = Unit {0}

@@ -21,21 +21,17 @@ style_past (Some s) past = s.past
 
 abbrev pub past_of : Part → ℕ
 past_of (Quoted s) = s.past
-past_of (Hash at) = at + 1
 past_of (Argument a) = style_past a.style a.name.past
 past_of (Branch s) = s.past
-past_of (End at) = at + 1
-past_of (Stray at) = at + 1
+past_of other = first_of other + 1
 
 -- The spans of a part don't end before they begin.
 abbrev pub IsOrdered : Part → Type 0
 IsOrdered (Quoted s) = s.first ≤ s.past
-IsOrdered (Hash at) = Unit {0}
 IsOrdered (Argument a) =
     (a.name.first ≤ a.name.past) × IfSome a.style (λ s. (a.name.past ≤ s.first) × (s.first ≤ s.past))
 IsOrdered (Branch s) = s.first ≤ s.past
-IsOrdered (End at) = Unit {0}
-IsOrdered (Stray at) = Unit {0}
+IsOrdered other = Unit {0}
 
 -- A part begins at one offset or later, and ends at another one or before it.
 abbrev pub IsBetween : ℕ → ℕ → Part → Type 0
