@@ -1,13 +1,15 @@
 #!/usr/bin/env bash
-# Refuses each allocation in turn. The program programs/memory.rt.in starts an engine, makes requests of each kind, and loads, installs
-# and lists bundles; after a call that is answered out of memory it compares the whole state, and calls once more. Served lines are tried
-# over the built program (refused_allocations.py).
+# Refuses each allocation in turn. The program programs/memory.rt.in starts an engine, makes the tables that save time (open locales,
+# kept items, hints), makes requests of each kind and a release, and loads, installs and lists bundles; after a call that is answered
+# out of memory it compares the whole state, and calls once more. Served lines are tried over the built program
+# (refused_allocations.py).
 # The program programs/acceptance.rt.in accepts a file of each kind that is expensive to check, which Python writes: out of memory the
 # file is returned, and within three times what its acceptance takes with memory.
 #
 # The toolchain refuses one allocation of a run, by its number. So each run first allocates and frees some blocks, fewer each time, down
 # to a run in which no allocation of the calls is refused, and allocates after them until the number is reached. A last run of the first
-# program also makes lookups, replacements and removals, after which as many allocations remain: these calls make none.
+# program also makes lookups of each kind (by names, within steps, from an open locale, from what is kept), reads ahead, replaces and
+# removes, after which as many allocations remain: these calls make none.
 #
 # usage: memory.sh      (the variable RT names the command `rt`, if it is another)
 set -eu
@@ -108,7 +110,7 @@ refuse_files() {
 }
 
 # each FEWEST leaves about 30 blocks more than the calls allocate
-refuse memory 900 :88 88q rb_engine rb_packages rb_validator rb_format rb_locales rb_parents rb_views rb_tree
+refuse memory 930 :88 88q rb_engine rb_fallback rb_packages rb_validator rb_format rb_locales rb_parents rb_views rb_tree
 [ "$(left 88q)" = "$(left 88)" ] || fails 'lookups, replacements or removals take memory'
 echo 'ok: lookups, replacements and removals take none'
 refuse_files 220
