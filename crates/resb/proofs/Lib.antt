@@ -1,2 +1,3 @@
+pub mod FoundItems
 pub mod Named
 pub mod ZeroEnded

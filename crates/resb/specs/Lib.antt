@@ -1,5 +1,8 @@
+pub mod BundleForms
 pub mod Changes
+pub mod Copied
 pub mod Exports
+pub mod ItemTexts
 pub mod Lists
 pub mod Looks
 pub mod OpenLocales

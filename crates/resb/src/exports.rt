@@ -5,13 +5,11 @@ ghost use Rattle.resb.specs.Exports.{Exports};
 
 use crate::held::take;
 use crate::lists::copy_bytes;
-use crate::numbers::{CLOSED, app_number};
+use crate::numbers::{BAD_LOCALE, CLOSED, app_number};
 use rb_engine::{App, Engine};
 use rb_handle::Handle;
 use rb_locales::Name;
 use std::alloc::Global;
-
-const BAD_LOCALE: u32 = 13;
 
 /// The application has no bundle with the name.
 const ABSENT: u32 = 17;

@@ -1,6 +1,7 @@
 //! The engine for C programs: a static library, which `tools/library` builds.
 #![tactic(auto)]
 
+mod bundle_forms;
 mod changes;
 mod check;
 mod compile;
@@ -8,6 +9,8 @@ mod entry;
 mod exports;
 mod found;
 mod held;
+mod item_texts;
+mod json_source;
 mod lists;
 mod looks;
 mod names;

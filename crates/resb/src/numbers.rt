@@ -5,6 +5,7 @@ ghost use Rattle.resb.specs.Numbers.{look_number, reply_number};
 
 use rb_engine::{AppFault, LookFault, Reply};
 use rb_format::FileFault;
+use rb_json_reader::JsonFaultKind;
 use rb_lexer::SourceKind;
 
 pub(crate) const MEMORY: u32 = 1;
@@ -29,6 +30,15 @@ pub(crate) const OTHER_KIND: u32 = 6;
 
 /// The engine has changed since the locale was opened.
 pub(crate) const STALE: u32 = 8;
+
+/// The locale isn't a name.
+pub(crate) const BAD_LOCALE: u32 = 13;
+
+/// The tree is too large.
+pub(crate) const TREE_TOO_LARGE: u32 = 20;
+
+/// The text of the bundle would be too long to be read again.
+pub(crate) const TEXT_TOO_LARGE: u32 = 44;
 
 /// The lookup takes more steps than the caller allows.
 pub(crate) const TOO_MANY_STEPS: u32 = 30;
@@ -131,5 +141,27 @@ pub(crate) fn app_number(fault: AppFault) -> u32
     match fault {
         AppFault::BadApp => 11,
         AppFault::Reserved => 12,
+    }
+}
+
+pub(crate) fn json_number(kind: JsonFaultKind) -> u32
+    ensures error { result ≢ 0 }
+{
+    match kind {
+        JsonFaultKind::Memory => MEMORY,
+        JsonFaultKind::TooLong => 81,
+        JsonFaultKind::NotUtf8 => 82,
+        JsonFaultKind::NotJson => 83,
+        JsonFaultKind::TrailingText => 84,
+        JsonFaultKind::NotTable => 85,
+        JsonFaultKind::UnknownValue => 86,
+        JsonFaultKind::BadTag => 87,
+        JsonFaultKind::BadKey => 88,
+        JsonFaultKind::DuplicateKey => 89,
+        JsonFaultKind::BadNumber => 90,
+        JsonFaultKind::BadBinary => 91,
+        JsonFaultKind::BadUnits => 92,
+        JsonFaultKind::TooDeep => 93,
+        JsonFaultKind::TooLarge => 94,
     }
 }

@@ -25,7 +25,7 @@ pub(crate) fn take_bundle(alloc: Global, handle: &mut BundleHandle) -> Option<Bo
 }
 
 /// Checks a file, or returns the number of its first error.
-fn checked(alloc: Global, file: Vec<u8>) -> Result<Box<Bundle>, u32>
+pub(crate) fn checked(alloc: Global, file: Vec<u8>) -> Result<Box<Bundle>, u32>
     ensures bundle { IfOk result (λ b. b.value ≡ file.items) }
     ensures denotes { IfOk result (λ b. Denotes file.items (source_tree_of b.value)) }
     ensures refused { IfErr result (IsFileError file.items) }
