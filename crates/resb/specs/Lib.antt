@@ -2,6 +2,7 @@ pub mod BundleForms
 pub mod Changes
 pub mod Copied
 pub mod Exports
+pub mod Icu
 pub mod ItemTexts
 pub mod Lists
 pub mod Looks
@@ -11,6 +12,7 @@ pub mod Numbers
 pub mod Open
 pub mod Origins
 pub mod Prepared
+pub mod Releases
 pub mod Start
 pub mod Texts
 pub mod Usage

@@ -5,10 +5,12 @@ mod bundle_forms;
 mod changes;
 mod check;
 mod compile;
+mod edit;
 mod entry;
 mod exports;
 mod found;
 mod held;
+mod icu;
 mod item_texts;
 mod json_source;
 mod lists;
@@ -19,7 +21,11 @@ mod open;
 mod open_locales;
 mod origins;
 mod prepared;
+mod releases;
 mod start;
 mod text;
 mod usage;
 mod version;
+
+#[test]
+fn nothing() {}

@@ -39,6 +39,7 @@ fn request_name(error: u32) -> &'static Name
         17 => b"Absent\0\0\0\0\0\0\0\0\0\0\0\0",
         18 => b"Full\0\0\0\0\0\0\0\0\0\0\0\0\0\0",
         19 => b"Twice\0\0\0\0\0\0\0\0\0\0\0\0\0",
+        20 => b"TreeTooLarge\0\0\0\0\0\0",
         21 => b"BadPath\0\0\0\0\0\0\0\0\0\0\0",
         22 => b"PathTooLong\0\0\0\0\0\0\0",
         23 => b"Chain\0\0\0\0\0\0\0\0\0\0\0\0\0",
@@ -105,6 +106,30 @@ fn parents_name(error: u32) -> &'static Name
         71 => b"ParentsShape\0\0\0\0\0\0",
         72 => b"ParentsBadLocale\0\0",
         73 => b"ParentsTwoParents\0",
+        75 => b"IcuAlias\0\0\0\0\0\0\0\0\0\0",
+        76 => b"IcuParent\0\0\0\0\0\0\0\0\0",
+        _ => UNNAMED,
+    }
+}
+
+fn json_name(error: u32) -> &'static Name
+    ensures { IsZeroEnded result.now }
+{
+    match error {
+        81 => b"JsonTooLong\0\0\0\0\0\0\0",
+        82 => b"JsonNotUtf8\0\0\0\0\0\0\0",
+        83 => b"JsonNotJson\0\0\0\0\0\0\0",
+        84 => b"JsonTrailingText\0\0",
+        85 => b"JsonNotTable\0\0\0\0\0\0",
+        86 => b"JsonUnknownValue\0\0",
+        87 => b"JsonBadTag\0\0\0\0\0\0\0\0",
+        88 => b"JsonBadKey\0\0\0\0\0\0\0\0",
+        89 => b"JsonDuplicateKey\0\0",
+        90 => b"JsonBadNumber\0\0\0\0\0",
+        91 => b"JsonBadBinary\0\0\0\0\0",
+        92 => b"JsonBadUnits\0\0\0\0\0\0",
+        93 => b"JsonTooDeep\0\0\0\0\0\0\0",
+        94 => b"JsonTooLarge\0\0\0\0\0\0",
         _ => UNNAMED,
     }
 }
@@ -117,7 +142,8 @@ fn name(error: u32) -> &'static Name
         10..=30 => request_name(error),
         31..=50 => text_name(error),
         51..=70 => file_name(error),
-        _ => parents_name(error),
+        71..=80 => parents_name(error),
+        _ => json_name(error),
     }
 }
 

@@ -1,9 +1,10 @@
 //! The numbers of errors, which `resb.h` names.
-ghost use Rattle.std.specs.Prelude.{◌≡◌, ◌≢◌};
+ghost use Rattle.std.specs.Prelude.{◌≡◌, ◌≢◌, Some};
 ghost use Rattle.resb.specs.Numbers.{app_number, file_number, text_number};
 ghost use Rattle.resb.specs.Numbers.{look_number, reply_number};
+ghost use Rattle.resb.specs.Releases.{draft_number};
 
-use rb_engine::{AppFault, LookFault, Reply};
+use rb_engine::{AppFault, DraftFault, LookFault, Reply};
 use rb_format::FileFault;
 use rb_json_reader::JsonFaultKind;
 use rb_lexer::SourceKind;
@@ -39,6 +40,10 @@ pub(crate) const TREE_TOO_LARGE: u32 = 20;
 
 /// The text of the bundle would be too long to be read again.
 pub(crate) const TEXT_TOO_LARGE: u32 = 44;
+
+/// The root has a key that leads libicu to another bundle.
+pub(crate) const ICU_ALIAS: u32 = 75;
+pub(crate) const ICU_PARENT: u32 = 76;
 
 /// The lookup takes more steps than the caller allows.
 pub(crate) const TOO_MANY_STEPS: u32 = 30;
@@ -163,5 +168,16 @@ pub(crate) fn json_number(kind: JsonFaultKind) -> u32
         JsonFaultKind::BadUnits => 92,
         JsonFaultKind::TooDeep => 93,
         JsonFaultKind::TooLarge => 94,
+    }
+}
+
+pub(crate) fn draft_number(fault: DraftFault) -> u32
+    ensures number { result ≡ draft_number (Some fault) }
+    ensures error { result ≢ 0 }
+{
+    match fault {
+        DraftFault::Absent => 17,
+        DraftFault::Full => 18,
+        DraftFault::Memory => MEMORY,
     }
 }

@@ -1,0 +1,82 @@
+-- Defines the changes of an application's bundles that a C program makes together, a rule of this project. They are taken
+-- one after another by a draft (rb_packages), which stores the names and lengths that there would be.
+use Rattle.std.specs.Prelude.{◌≡◌, ℕ, List, [], ◌∷◌, ◌++◌, Option, Some, None, Result, Ok, Err, length, map, take, slice_get}
+use Rattle.std.specs.Map.{remove_entry}
+use Rattle.std.specs.Str.{bytes_eq}
+use Rattle.indexmap.specs.IndexMap.{insert_entry}
+use Rattle.rb_locales.specs.Locale.{name}
+use Rattle.rb_packages.specs.App.{app_of}
+use Rattle.rb_packages.specs.Packages.{Files, files_of, OthersStay}
+use Rattle.rb_packages.specs.Release.{Drafted, Sizes, edited, sizes_of, put_fault, removal_fault}
+use Rattle.rb_packages.specs.declared.app.AppFault.{AppFault}
+use Rattle.rb_packages.specs.declared.fault.DraftFault.{DraftFault}
+use Rattle.rb_packages.specs.declared.fault.DraftFault.TheVariants as draft
+use Rattle.rb_engine.specs.Kept.{Kept}
+use Rattle.rb_engine.specs.Version.{next_version}
+use Rattle.resb.specs.Numbers.{app_number}
+use Rattle.resb.specs.declared.edit.Edit.{Edit}
+
+-- the name of a locale, if it is one, and a new file, or none if the old one is removed
+abbrev pub Change : Type 0
+Change = Option (List ℕ) × Option (List ℕ)
+
+abbrev pub change_of : Edit → Change
+change_of edit = (name edit.locale.now, edit.bundle.file)
+
+-- the number of the reason why a draft doesn't take a change, or 0
+abbrev pub draft_number : Option DraftFault → ℕ
+draft_number None = 0
+draft_number (Some draft.Memory) = 1
+draft_number (Some draft.Absent) = 17
+draft_number (Some draft.Full) = 18
+
+abbrev pub change_number : Drafted → Option (List ℕ) → Option (List ℕ) → ℕ
+change_number drafted None file = 13
+change_number drafted (Some n) None = draft_number (removal_fault n drafted)
+change_number drafted (Some n) (Some file) = draft_number (put_fault n drafted)
+
+abbrev pub sizes_after : List ℕ → Option (List ℕ) → Sizes → Sizes
+sizes_after n None sizes = remove_entry (bytes_eq n) sizes
+sizes_after n (Some file) sizes = insert_entry bytes_eq sizes n (length file)
+
+-- the draft with one more change
+abbrev pub with_change : Option (List ℕ) → Option (List ℕ) → Drafted → Drafted
+with_change None file drafted = drafted
+with_change (Some n) file drafted = record {
+  app = drafted.app;
+  edits = drafted.edits ++ (n, file) ∷ [];
+  sizes = sizes_after n file drafted.sizes;
+}
+
+-- a draft takes changes, one after another, and is another then
+abbrev pub Takes : Drafted → List Change → Drafted → Type 0
+Takes first [] last = last ≡ first
+Takes first (c ∷ cs) last = (change_number first c.0 c.1 ≡ 0) × Takes (with_change c.0 c.1 first) cs last
+
+-- a draft of an application without changes
+abbrev pub begun : (app : List ℕ) → Files → Drafted
+begun app files = record { app = app; edits = []; sizes = sizes_of files }
+
+-- all changes are made, and nothing else
+pub record IsReleased (old : Kept) (app : List ℕ) (changes : List Change) (new : Kept) : Type 0 where
+  pub own : List ℕ
+  pub is : app_of app ≡ Ok own
+  pub last : Drafted
+  pub takes : Takes (begun own (files_of own old.packages)) changes last
+  pub files : files_of own new.packages ≡ edited last.edits (files_of own old.packages)
+  pub others : OthersStay own old.packages new.packages
+  pub parents : new.parents ≡ old.parents
+  pub version : new.version ≡ next_version old.version
+
+-- the first change that is refused, after those before it, and its number
+pub record IsFirstRefused (files : Files) (app : List ℕ) (changes : List Change) (n place : ℕ) : Type 0 where
+  pub change : Change
+  pub at : slice_get changes place ≡ Some change
+  pub before : Drafted
+  pub takes : Takes (begun app files) (take place changes) before
+  pub number : n ≡ change_number before change.0 change.1
+
+-- the application's name is checked first
+abbrev pub IsUnreleased : Kept → Result (List ℕ) AppFault → List Change → ℕ → ℕ → Type 0
+IsUnreleased engine (Err fault) changes n place = n ≡ app_number fault
+IsUnreleased engine (Ok app) changes n place = IsFirstRefused (files_of app engine.packages) app changes n place
