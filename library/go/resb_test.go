@@ -248,3 +248,87 @@ func BenchmarkText(b *testing.B) {
 		}
 	}
 }
+
+func prepared(t *testing.T, text string) *resb.Bundle {
+	t.Helper()
+	bundle, err := resb.Prepare([]byte(text), true)
+	if err != nil {
+		t.Fatal(err)
+	}
+	return bundle
+}
+
+func TestBundle(t *testing.T) {
+	bundle := prepared(t, `x{a{"b"} n:int{-1}}`)
+	text, err := bundle.Text("de-at")
+	if err != nil || text != "de_AT {\n    a { \"b\" }\n    n:int { 268435455 }\n}\n" {
+		t.Errorf("%q, %v", text, err)
+	}
+	json, err := bundle.JSON()
+	if err != nil || string(json) != `{"a":"b","n":-1}` {
+		t.Errorf("%s, %v", json, err)
+	}
+	again, err := resb.PrepareJSON(json)
+	if err != nil {
+		t.Fatal(err)
+	}
+	one, err := bundle.File()
+	two, errToo := again.File()
+	if err != nil || errToo != nil || !bytes.Equal(one, two) || resb.CheckForICU(one) != nil {
+		t.Error(err, errToo, one, two)
+	}
+	bundle.Discard()
+	again.Discard()
+	if _, err := bundle.JSON(); !errors.Is(err, resb.ErrNotOpen) {
+		t.Error(err)
+	}
+	var fault *resb.Error
+	if _, err := resb.PrepareJSON([]byte("{\n\"a\": 1.5}")); !errors.As(err, &fault) || err.Error() != "JsonBadNumber, line 2" {
+		t.Error(err)
+	}
+	if _, err := resb.Prepare([]byte("de{\na:int{09}}"), true); !errors.As(err, &fault) || err.Error() != "TextBadInt, line 2" {
+		t.Error(err)
+	}
+	alias := prepared(t, `de{"%%ALIAS"{"de"}}`)
+	file, err := alias.File()
+	if err != nil || resb.Check(file) != nil || fmt.Sprint(resb.CheckForICU(file)) != "IcuAlias" {
+		t.Error(err)
+	}
+}
+
+func TestRelease(t *testing.T) {
+	b := opened(t)
+	if err := b.Release("shop", []resb.Edit{{"root", prepared(t, `x{open{"Open"} menu{quit{"Quit"}}}`)}, {"de", prepared(t, german)}}); err != nil {
+		t.Fatal(err)
+	}
+	item, err := b.ItemJSON("shop", "de_AT", "open", 1000)
+	if err != nil || string(item) != `{"actual":"root","type":"string","valid":"de","value":"Open"}` {
+		t.Errorf("%s, %v", item, err)
+	}
+	tree, err := b.TreeJSON("shop", "de_AT", "menu", 1000)
+	if err != nil || string(tree) != `{"close":"Zu","open":"Auf","quit":"Quit"}` {
+		t.Errorf("%s, %v", tree, err)
+	}
+	if _, err := b.TreeJSON("shop", "de_AT", "menu", 1); !errors.Is(err, resb.ErrTooManySteps) {
+		t.Error(err)
+	}
+	var fault *resb.EditError
+	err = b.Release("shop", []resb.Edit{{"root", nil}, {"fr", nil}})
+	if !errors.As(err, &fault) || fault.Index != 1 || !errors.Is(err, resb.ErrAbsent) || err.Error() != "edit 1: Absent" {
+		t.Error(err)
+	}
+	used := prepared(t, "x{}")
+	used.Discard()
+	if err := b.Release("shop", []resb.Edit{{"root", used}}); !errors.As(err, &fault) || fault.Index != 0 || !errors.Is(err, resb.ErrNotOpen) {
+		t.Error(err)
+	}
+	if got, err := b.List("shop"); err != nil || !reflect.DeepEqual(got, []string{"de", "root"}) {
+		t.Error(got, err)
+	}
+	if err := b.Release("shop", []resb.Edit{{"root", nil}}); err != nil {
+		t.Error(err)
+	}
+	if got, err := b.List("shop"); err != nil || !reflect.DeepEqual(got, []string{"de"}) {
+		t.Error(got, err)
+	}
+}

@@ -1,5 +1,7 @@
 -- Defines what a lookup answers in C (kinds: `UResType` of ICU's `ures.h`), a rule of this project.
 use Rattle.std.specs.Prelude.{◌≡◌, ◌⊎◌, ◌<◌, ℕ, Bool, List, Option, Some, None, length, unwrap_or}
+use Rattle.std.specs.Prelude.{encode_utf8_all}
+use Rattle.std.specs.Char.Utf16.{utf16_lossy_chars}
 use Rattle.rb_tree.specs.Parts.{kind_of, len_of}
 use Rattle.rb_tree.specs.declared.kind.Kind.{Kind}
 use Rattle.rb_tree.specs.declared.kind.Kind.TheVariants as kinds
@@ -9,6 +11,7 @@ use Rattle.rb_engine.specs.Answer.{Response, Replies, Finds, Refuses, answer_ove
 use Rattle.rb_engine.specs.Kept.{Kept, state_of}
 use Rattle.rb_engine.specs.Place.{place_of}
 use Rattle.rb_engine.specs.Steps.{takes_more}
+use Rattle.resb.specs.Copied.{CopiesBytes}
 use Rattle.resb.specs.Numbers.{look_number}
 
 -- the answer of the engine's theorem: it reads the application's own bundles, and those of ICUDATA
@@ -50,3 +53,14 @@ abbrev pub Copies : Response → ℕ → ℕ → ℕ → List ℕ → Type 0
 Copies (Replies reply) n count room copy = Unit {0}
 Copies (Refuses fault) n count room copy = n ≡ look_number fault
 Copies (Finds hit valid) n count room copy = IsCopied 6 (text_of hit.tree) n count room copy
+
+-- a copy of a text as UTF-8, with U+FFFD for a surrogate without its other half
+abbrev pub CopiesCharacters : Option (List ℕ) → ℕ → ℕ → ℕ → List ℕ → Type 0
+CopiesCharacters None n count room copy = n ≡ 6
+CopiesCharacters (Some units) n count room copy = CopiesBytes (encode_utf8_all (utf16_lossy_chars units)) n count room copy
+
+-- a copy of the string that is found, as UTF-8
+abbrev pub CopiesUtf8 : Response → ℕ → ℕ → ℕ → List ℕ → Type 0
+CopiesUtf8 (Replies reply) n count room copy = Unit {0}
+CopiesUtf8 (Refuses fault) n count room copy = n ≡ look_number fault
+CopiesUtf8 (Finds hit valid) n count room copy = CopiesCharacters (text_of hit.tree) n count room copy

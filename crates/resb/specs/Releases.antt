@@ -1,6 +1,6 @@
 -- Defines the changes of an application's bundles that a C program makes together, a rule of this project. They are taken
 -- one after another by a draft (rb_packages), which stores the names and lengths that there would be.
-use Rattle.std.specs.Prelude.{◌≡◌, ℕ, List, [], ◌∷◌, ◌++◌, Option, Some, None, Result, Ok, Err, length, map, take, slice_get}
+use Rattle.std.specs.Prelude.{◌≡◌, ℕ, List, [], ◌∷◌, ◌++◌, Option, Some, None, Result, Ok, Err, length, map, take, slice_get, All}
 use Rattle.std.specs.Map.{remove_entry}
 use Rattle.std.specs.Str.{bytes_eq}
 use Rattle.indexmap.specs.IndexMap.{insert_entry}
@@ -68,15 +68,21 @@ pub record IsReleased (old : Kept) (app : List ℕ) (changes : List Change) (new
   pub parents : new.parents ≡ old.parents
   pub version : new.version ≡ next_version old.version
 
--- the first change that is refused, after those before it, and its number
-pub record IsFirstRefused (files : Files) (app : List ℕ) (changes : List Change) (n place : ℕ) : Type 0 where
+-- a draft refuses one of the changes after those before it, with this number
+pub record IsFirstRefused (first : Drafted) (changes : List Change) (n place : ℕ) : Type 0 where
   pub change : Change
   pub at : slice_get changes place ≡ Some change
   pub before : Drafted
-  pub takes : Takes (begun app files) (take place changes) before
+  pub takes : Takes first (take place changes) before
   pub number : n ≡ change_number before change.0 change.1
 
 -- the application's name is checked first
 abbrev pub IsUnreleased : Kept → Result (List ℕ) AppFault → List Change → ℕ → ℕ → Type 0
 IsUnreleased engine (Err fault) changes n place = n ≡ app_number fault
-IsUnreleased engine (Ok app) changes n place = IsFirstRefused (files_of app engine.packages) app changes n place
+IsUnreleased engine (Ok app) changes n place = IsFirstRefused (begun app (files_of app engine.packages)) changes n place
+
+abbrev pub locales_of : List Edit → List (List ℕ)
+locales_of edits = map (λ e. e.locale.now) edits
+
+abbrev pub HaveNoBundles : List Edit → Type 0
+HaveNoBundles edits = All (λ e. e.bundle.file ≡ None) edits

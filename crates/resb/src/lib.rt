@@ -25,6 +25,7 @@ mod releases;
 mod start;
 mod text;
 mod usage;
+mod utf8;
 mod version;
 
 #[test]

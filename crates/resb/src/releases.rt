@@ -1,11 +1,13 @@
 //! Changes of one application's bundles, all of which are made or none.
-ghost use Rattle.std.specs.Prelude.{◌≡◌, ◌≢◌, ◌<◌, ◌+◌, None, IfNone, IfOk, IfErr, IfSome, OnOk, OnErr};
-ghost use Rattle.std.specs.Prelude.{All, length, map, slice_get, take};
+ghost use Rattle.std.specs.Prelude.{◌≡◌, ◌≢◌, None, Some, IfNone, IfSome, map, option_map};
+ghost use Rattle.rb_locales.specs.Locale.{name as name_of};
 ghost use Rattle.rb_packages.specs.App.{app_of};
-ghost use Rattle.rb_packages.specs.Release.{put_fault};
+ghost use Rattle.rb_packages.specs.Release.{put_fault, removal_fault};
+ghost use Rattle.rb_handle.specs.Handle.{boxed};
 ghost use Rattle.rb_handle.specs.Stored.{engine_of};
-ghost use Rattle.resb.specs.Releases.{IsReleased, IsUnreleased, Takes, change_number, change_of};
-ghost use Rattle.resb.specs.Releases.{draft_number, with_change};
+ghost use Rattle.resb.specs.Releases.{HaveNoBundles, IsFirstRefused, IsReleased, IsUnreleased};
+ghost use Rattle.resb.specs.Releases.{Takes, change_number, change_of, draft_number, locales_of};
+ghost use Rattle.resb.specs.Releases.{with_change};
 
 use crate::edit::Edit;
 use crate::held::take;
@@ -14,38 +16,78 @@ use crate::prepared::take_bundle;
 use rb_engine::{App, Draft, Engine};
 use rb_handle::Handle;
 use rb_locales::Name;
+use rb_validator::Bundle;
 use std::alloc::Global;
 use std::sync::Arc;
 
-/// Takes the bundle out of an edit, and adds the change to a draft.
-fn draft_edit(alloc: Global, draft: &mut Draft, edit: &mut Edit<'_>) -> u32
-    ensures number { result ≢ 0 → result ≢ 1
-        → result ≡ change_number draft.old (change_of edit.old).0 (change_of edit.old).1 }
-    ensures taken { result ≡ 0
-        → change_number draft.old (change_of edit.old).0 (change_of edit.old).1 ≡ 0 }
-    ensures draft { result ≡ 0
-        → draft.new ≡ with_change (change_of edit.old).0 (change_of edit.old).1 draft.old }
-    ensures bundle { edit.new.bundle.file ≡ None }
-    ensures locale { edit.new.locale.now ≡ edit.old.locale.now }
+fn draft_put(draft: &mut Draft, name: Name, bundle: Bundle) -> u32
+    ensures taken { result ≡ 0 → draft_number (put_fault name draft.old) ≡ 0 }
+    ensures draft { result ≡ 0 → draft.new ≡ with_change (Some name) (Some bundle) draft.old }
+    ensures refused { result ≢ 0 → result ≢ 1 → result ≡ draft_number (put_fault name draft.old) }
+    ensures app { draft.new.app ≡ draft.old.app }
 {
-    let bundle = take_bundle(alloc, &mut edit.bundle);
-    let Ok(name) = Name::read(edit.locale) else {
-        return BAD_LOCALE;
-    };
-    let done = match bundle {
-        Some(bundle) => draft.put(name, Box::into_inner(bundle)),
-        None => draft.remove(name),
-    };
-    match done {
+    match draft.put(name, bundle) {
         Ok(()) => 0,
         Err(fault) => draft_number(fault),
     }
 }
 
+fn draft_removal(draft: &mut Draft, name: Name) -> u32
+    ensures taken { result ≡ 0 → draft_number (removal_fault name draft.old) ≡ 0 }
+    ensures draft { result ≡ 0 → draft.new ≡ with_change (Some name) None draft.old }
+    ensures refused { result ≢ 0 → result ≢ 1
+        → result ≡ draft_number (removal_fault name draft.old) }
+    ensures app { draft.new.app ≡ draft.old.app }
+{
+    match draft.remove(name) {
+        Ok(()) => 0,
+        Err(fault) => draft_number(fault),
+    }
+}
+
+/// Adds a change to a draft.
+fn draft_change(draft: &mut Draft, locale: &[u8], bundle: Option<Box<Bundle>>) -> u32
+    ensures taken { result ≡ 0
+        → change_number draft.old (name_of locale.now) (option_map boxed bundle) ≡ 0 }
+    ensures draft { result ≡ 0
+        → draft.new ≡ with_change (name_of locale.now) (option_map boxed bundle) draft.old }
+    ensures refused { result ≢ 0 → result ≢ 1
+        → result ≡ change_number draft.old (name_of locale.now) (option_map boxed bundle) }
+    ensures app { draft.new.app ≡ draft.old.app }
+{
+    let Ok(name) = Name::read(locale) else {
+        return BAD_LOCALE;
+    };
+    match bundle {
+        Some(bundle) => draft_put(draft, name, Box::into_inner(bundle)),
+        None => draft_removal(draft, name),
+    }
+}
+
+/// Takes the bundle out of an edit, and adds the change to a draft.
+fn draft_edit(alloc: Global, draft: &mut Draft, edit: &mut Edit<'_>) -> u32
+    ensures taken { result ≡ 0
+        → change_number draft.old (change_of edit.old).0 (change_of edit.old).1 ≡ 0 }
+    ensures draft { result ≡ 0
+        → draft.new ≡ with_change (change_of edit.old).0 (change_of edit.old).1 draft.old }
+    ensures refused { result ≢ 0 → result ≢ 1
+        → result ≡ change_number draft.old (change_of edit.old).0 (change_of edit.old).1 }
+    ensures app { draft.new.app ≡ draft.old.app }
+    ensures bundle { edit.new.bundle.file ≡ None }
+    ensures locale { edit.new.locale.now ≡ edit.old.locale.now }
+{
+    let bundle = take_bundle(alloc, &mut edit.bundle);
+    draft_change(draft, edit.locale, bundle)
+}
+
 /// Adds changes to a draft, up to the first that is refused, whose index it writes.
 fn draft_all(alloc: Global, draft: &mut Draft, edits: &mut [Edit<'_>], place: &mut usize) -> u32
     ensures taken { result ≡ 0 → Takes draft.old (map change_of edits.old) draft.new }
-    ensures bundles { result ≡ 0 → All (λ e. e.bundle.file ≡ None) edits.new }
+    ensures refused { result ≢ 0 → result ≢ 1
+        → IsFirstRefused draft.old (map change_of edits.old) result place.new }
+    ensures app { draft.new.app ≡ draft.old.app }
+    ensures bundles { result ≡ 0 → HaveNoBundles edits.new }
+    ensures locales { locales_of edits.new ≡ locales_of edits.old }
 {
     for i in 0..edits.len() {
         let number = draft_edit(alloc, draft, &mut edits[i]);
@@ -63,7 +105,15 @@ fn release_in(
     app: &[u8],
     edits: &mut [Edit<'_>],
     place: &mut usize,
-) -> u32 {
+) -> u32
+    ensures released { result ≡ 0
+        → IsReleased engine.old app.now (map change_of edits.old) engine.new }
+    ensures refused { result ≢ 0 → result ≢ 1
+        → IsUnreleased engine.old (app_of app.now) (map change_of edits.old) result place.new }
+    ensures unchanged { result ≢ 0 → engine.new ≡ engine.old }
+    ensures bundles { result ≡ 0 → HaveNoBundles edits.new }
+    ensures locales { locales_of edits.new ≡ locales_of edits.old }
+{
     let app = match App::read(app) {
         Ok(app) => app,
         Err(fault) => return app_number(fault),
@@ -81,13 +131,22 @@ fn release_in(
     }
 }
 
+/// Makes changes if no other handle has the engine.
 fn release_alone(
     engine: &mut Arc<Engine>,
     alloc: Global,
     app: &[u8],
     edits: &mut [Edit<'_>],
     place: &mut usize,
-) -> u32 {
+) -> u32
+    ensures released { result ≡ 0
+        → IsReleased engine.old.value app.now (map change_of edits.old) engine.new.value }
+    ensures refused { result ≢ 0 → result ≢ 1 → result ≢ 4 → IsUnreleased engine.old.value
+        (app_of app.now) (map change_of edits.old) result place.new }
+    ensures unchanged { result ≢ 0 → engine.new.value ≡ engine.old.value }
+    ensures bundles { result ≡ 0 → HaveNoBundles edits.new }
+    ensures locales { locales_of edits.new ≡ locales_of edits.old }
+{
     match Arc::get_mut(engine) {
         Some(engine) => release_in(engine, alloc, app, edits, place),
         None => SHARED,
@@ -103,7 +162,17 @@ pub extern "C" fn resb_release(
     app: &[u8],
     edits: &mut [Edit<'_>],
     place: &mut usize,
-) -> u32 {
+) -> u32
+    ensures there { IfSome (engine_of handle.old) (λ _. engine_of handle.new ≢ None) }
+    ensures released { result ≡ 0 → IfSome (engine_of handle.old) (λ old. IfSome
+        (engine_of handle.new) (IsReleased old app.now (map change_of edits.old))) }
+    ensures refused { result ≢ 0 → result ≢ 1 → result ≢ 4 → IfSome (engine_of handle.old)
+        (λ e. IsUnreleased e (app_of app.now) (map change_of edits.old) result place.new) }
+    ensures unchanged { result ≢ 0 → engine_of handle.new ≡ engine_of handle.old }
+    ensures bundles { result ≡ 0 → HaveNoBundles edits.new }
+    ensures locales { locales_of edits.new ≡ locales_of edits.old }
+    ensures closed { IfNone (engine_of handle.old) (result ≡ 2) }
+{
     *place = 0;
     let Some(mut engine) = take(alloc, handle) else {
         return CLOSED;

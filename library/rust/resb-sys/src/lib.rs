@@ -22,6 +22,7 @@ pub const RESB_EXISTS: u32 = 16;
 pub const RESB_ABSENT: u32 = 17;
 pub const RESB_FULL: u32 = 18;
 pub const RESB_TWICE: u32 = 19;
+pub const RESB_TREE_TOO_LARGE: u32 = 20;
 pub const RESB_BAD_PATH: u32 = 21;
 pub const RESB_PATH_TOO_LONG: u32 = 22;
 pub const RESB_CHAIN: u32 = 23;
@@ -64,6 +65,22 @@ pub const RESB_FILE_TOO_DEEP: u32 = 65;
 pub const RESB_PARENTS_SHAPE: u32 = 71;
 pub const RESB_PARENTS_BAD_LOCALE: u32 = 72;
 pub const RESB_PARENTS_TWO_PARENTS: u32 = 73;
+pub const RESB_ICU_ALIAS: u32 = 75;
+pub const RESB_ICU_PARENT: u32 = 76;
+pub const RESB_JSON_TOO_LONG: u32 = 81;
+pub const RESB_JSON_NOT_UTF8: u32 = 82;
+pub const RESB_JSON_NOT_JSON: u32 = 83;
+pub const RESB_JSON_TRAILING_TEXT: u32 = 84;
+pub const RESB_JSON_NOT_TABLE: u32 = 85;
+pub const RESB_JSON_UNKNOWN_VALUE: u32 = 86;
+pub const RESB_JSON_BAD_TAG: u32 = 87;
+pub const RESB_JSON_BAD_KEY: u32 = 88;
+pub const RESB_JSON_DUPLICATE_KEY: u32 = 89;
+pub const RESB_JSON_BAD_NUMBER: u32 = 90;
+pub const RESB_JSON_BAD_BINARY: u32 = 91;
+pub const RESB_JSON_BAD_UNITS: u32 = 92;
+pub const RESB_JSON_TOO_DEEP: u32 = 93;
+pub const RESB_JSON_TOO_LARGE: u32 = 94;
 
 pub const RESB_STRING: u32 = 0;
 pub const RESB_BINARY: u32 = 1;
@@ -89,6 +106,19 @@ pub struct resb_entry {
 }
 
 #[repr(C)]
+pub struct resb_bundle {
+    pub bundle: *mut c_void,
+    pub is_prepared: bool,
+}
+
+#[repr(C)]
+pub struct resb_edit {
+    pub locale: *const u8,
+    pub locale_len: usize,
+    pub bundle: resb_bundle,
+}
+
+#[repr(C)]
 pub struct resb_found {
     pub at: *const c_void,
     pub count: usize,
@@ -109,6 +139,7 @@ pub struct resb_locale {
 extern "C" {
     pub fn resb_get_error_name(error: u32, name: *mut *const c_char);
     pub fn resb_check(file: *const u8, len: usize) -> u32;
+    pub fn resb_check_for_icu(file: *const u8, len: usize) -> u32;
     pub fn resb_compile(
         text: *const u8,
         len: usize,
@@ -157,6 +188,48 @@ extern "C" {
         locale: *const u8,
         locale_len: usize,
     ) -> u32;
+    pub fn resb_prepare(
+        bytes: *const u8,
+        len: usize,
+        is_text: bool,
+        bundle: *mut resb_bundle,
+        line: *mut u64,
+    ) -> u32;
+    pub fn resb_prepare_json(
+        json: *const u8,
+        len: usize,
+        bundle: *mut resb_bundle,
+        line: *mut u64,
+    ) -> u32;
+    pub fn resb_bundle_file(
+        bundle: *mut resb_bundle,
+        out: *mut u8,
+        capacity: usize,
+        len: *mut usize,
+    ) -> u32;
+    pub fn resb_bundle_text(
+        bundle: *mut resb_bundle,
+        locale: *const u8,
+        locale_len: usize,
+        out: *mut u8,
+        capacity: usize,
+        len: *mut usize,
+    ) -> u32;
+    pub fn resb_bundle_json(
+        bundle: *mut resb_bundle,
+        out: *mut u8,
+        capacity: usize,
+        len: *mut usize,
+    ) -> u32;
+    pub fn resb_discard(bundle: *mut resb_bundle);
+    pub fn resb_release(
+        engine: *mut resb,
+        app: *const u8,
+        app_len: usize,
+        edits: *mut resb_edit,
+        count: usize,
+        place: *mut usize,
+    ) -> u32;
     pub fn resb_list(
         engine: *mut resb,
         app: *const u8,
@@ -193,6 +266,32 @@ extern "C" {
         path_len: usize,
         steps: u64,
         found: *mut resb_found,
+    ) -> u32;
+    pub fn resb_item_json(
+        engine: *mut resb,
+        app: *const u8,
+        app_len: usize,
+        locale: *const u8,
+        locale_len: usize,
+        path: *const u8,
+        path_len: usize,
+        steps: u64,
+        out: *mut u8,
+        capacity: usize,
+        len: *mut usize,
+    ) -> u32;
+    pub fn resb_tree_json(
+        engine: *mut resb,
+        app: *const u8,
+        app_len: usize,
+        locale: *const u8,
+        locale_len: usize,
+        path: *const u8,
+        path_len: usize,
+        steps: u64,
+        out: *mut u8,
+        capacity: usize,
+        len: *mut usize,
     ) -> u32;
     pub fn resb_open_locale(
         engine: *mut resb,

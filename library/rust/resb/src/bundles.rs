@@ -1,3 +1,4 @@
+use crate::bundle::{discarded, Bundle};
 use crate::error::{result_of, Error, Place};
 use crate::{sys, written};
 use std::cell::UnsafeCell;
@@ -14,14 +15,14 @@ pub enum Content<'a> {
 }
 
 impl<'a> Content<'a> {
-    fn bytes(self) -> &'a [u8] {
+    pub(crate) fn bytes(self) -> &'a [u8] {
         match self {
             Content::Text(text) => text.as_bytes(),
             Content::File(file) => file,
         }
     }
 
-    fn is_text(self) -> bool {
+    pub(crate) fn is_text(self) -> bool {
         matches!(self, Content::Text(_))
     }
 }
@@ -197,6 +198,35 @@ impl Bundles {
         result_of(unsafe { sys::resb_remove(self.0.get(), a, an, l, ln) })
     }
 
+    /// Makes changes of an application in their order, all or none: the bundle that is to have a
+    /// locale, or none to remove the one that has it. Returns the errors of `resb_release`, with the
+    /// index of the change, after which nothing has changed.
+    pub fn release(
+        &mut self,
+        app: &str,
+        changes: Vec<(&str, Option<Bundle>)>,
+    ) -> Result<(), Error> {
+        let edit = |(locale, bundle): (&str, Option<Bundle>)| sys::resb_edit {
+            locale: locale.as_ptr(),
+            locale_len: locale.len(),
+            bundle: bundle.map_or_else(discarded, Bundle::into_handle),
+        };
+        let mut edits: Vec<_> = changes.into_iter().map(edit).collect();
+        let mut at = 0;
+        let (a, an, first, count) = (app.as_ptr(), app.len(), edits.as_mut_ptr(), edits.len());
+        // SAFETY: the pointers have the lengths of what they point to.
+        let number = unsafe { sys::resb_release(self.0.get(), a, an, first, count, &mut at) };
+        for edit in &mut edits {
+            // SAFETY: the handle is in use by this call alone.
+            unsafe { sys::resb_discard(&mut edit.bundle) }
+        }
+        let place = match number {
+            sys::RESB_BAD_LOCALE | sys::RESB_ABSENT | sys::RESB_FULL => Place::Edit(at),
+            _ => Place::Unknown,
+        };
+        result_of(number).map_err(|error| Error { place, ..error })
+    }
+
     /// Lists the locales of an application's bundles in the order of their installation.
     /// RESB_BAD_APP, RESB_RESERVED.
     pub fn list(&self, app: &str) -> Result<Vec<String>, Error> {
@@ -259,6 +289,42 @@ impl Bundles {
         self.found(|found| unsafe {
             sys::resb_look_within(self.0.get(), a, an, l, ln, p, pn, steps, found)
         })
+    }
+
+    /// Looks up like [`Bundles::look_within`], and returns the item as the reply of `resb serve`
+    /// (docs/SERVER.md).
+    pub fn item_json(
+        &self,
+        app: &str,
+        locale: &str,
+        path: &str,
+        steps: u64,
+    ) -> Result<String, Error> {
+        let (a, an, l, ln) = (app.as_ptr(), app.len(), locale.as_ptr(), locale.len());
+        let (p, pn, handle) = (path.as_ptr(), path.len(), self.0.get());
+        // SAFETY: the pointers have the lengths of what they point to.
+        let json = written(256, |out, capacity, len| unsafe {
+            sys::resb_item_json(handle, a, an, l, ln, p, pn, steps, out, capacity, len)
+        })?;
+        Ok(String::from_utf8_lossy(&json).into_owned())
+    }
+
+    /// Looks up like [`Bundles::look_within`], and returns the item with everything that it inherits
+    /// as one JSON value. RESB_TREE_TOO_LARGE, and the errors of that.
+    pub fn tree_json(
+        &self,
+        app: &str,
+        locale: &str,
+        path: &str,
+        steps: u64,
+    ) -> Result<String, Error> {
+        let (a, an, l, ln) = (app.as_ptr(), app.len(), locale.as_ptr(), locale.len());
+        let (p, pn, handle) = (path.as_ptr(), path.len(), self.0.get());
+        // SAFETY: the pointers have the lengths of what they point to.
+        let json = written(1024, |out, capacity, len| unsafe {
+            sys::resb_tree_json(handle, a, an, l, ln, p, pn, steps, out, capacity, len)
+        })?;
+        Ok(String::from_utf8_lossy(&json).into_owned())
     }
 
     /// Opens a locale of an application for [`Bundles::look_at`]. Returns the errors of

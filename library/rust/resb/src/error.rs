@@ -10,6 +10,8 @@ pub enum Place {
     Line(u64),
     /// The index of a bundle of ICUDATA.
     Bundle(u64),
+    /// The index of a change of a release.
+    Edit(usize),
 }
 
 /// An error: its number in `resb.h`, such as [`sys::RESB_MISSING`], and its place.
@@ -38,6 +40,7 @@ impl fmt::Display for Error {
             Place::Unknown => write!(out, "{}", self.name()),
             Place::Line(line) => write!(out, "{}, line {}", self.name(), line),
             Place::Bundle(index) => write!(out, "{}, bundle {} of ICUDATA", self.name(), index),
+            Place::Edit(index) => write!(out, "{}, edit {}", self.name(), index),
         }
     }
 }

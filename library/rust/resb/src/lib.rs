@@ -20,9 +20,11 @@
 //! # Ok::<(), resb::Error>(())
 //! ```
 
+mod bundle;
 mod bundles;
 mod error;
 
+pub use bundle::Bundle;
 pub use bundles::{Bundles, Content, Item, Locale};
 pub use error::{Error, Place};
 pub use resb_sys as sys;
@@ -31,6 +33,13 @@ pub use resb_sys as sys;
 pub fn check(file: &[u8]) -> Result<(), Error> {
     // SAFETY: the pointer has the length of its slice.
     error::result_of(unsafe { sys::resb_check(file.as_ptr(), file.len()) })
+}
+
+/// Checks a file like [`check`], and that `ures_open` of libicu opens no other bundle because of its
+/// root: RESB_ICU_ALIAS, RESB_ICU_PARENT.
+pub fn check_for_icu(file: &[u8]) -> Result<(), Error> {
+    // SAFETY: the pointer has the length of its slice.
+    error::result_of(unsafe { sys::resb_check_for_icu(file.as_ptr(), file.len()) })
 }
 
 /// Compiles a bundle text to a `.res` file, or returns the first error with its line.

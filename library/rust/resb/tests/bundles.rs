@@ -1,4 +1,4 @@
-use resb::{check, compile, sys, Bundles, Content, Error, Item, Place};
+use resb::{check, check_for_icu, compile, sys, Bundle, Bundles, Content, Error, Item, Place};
 
 const GERMAN: &str = "de{greeting{\"Grüß\"} low:int{-1} v:intvector{1,-2} b:bin{00ff} e:bin{\"\"} \
                       list{\"a\",\"bc\"} menu{open{\"Auf\"} close{\"Zu\"}}}";
@@ -129,4 +129,60 @@ fn looks_up_on_several_threads() {
     let threads: Vec<_> = shares.into_iter().map(looks).collect();
     assert!(threads.into_iter().all(|thread| thread.join().unwrap()));
     assert_eq!(bundles.remove("shop", "de"), Ok(()));
+}
+
+fn prepared(text: &str) -> Bundle {
+    Bundle::prepare(Content::Text(text)).unwrap()
+}
+
+#[test]
+fn prepares_bundles() {
+    let bundle = prepared("x{a{\"b\"} n:int{-1}}");
+    assert_eq!(
+        bundle.text("de-at").unwrap(),
+        "de_AT {\n    a { \"b\" }\n    n:int { 268435455 }\n}\n"
+    );
+    assert_eq!(bundle.json().unwrap(), "{\"a\":\"b\",\"n\":-1}");
+    let again = Bundle::from_json("{\"n\":-1,\"a\":\"b\"}").unwrap();
+    let file = again.file().unwrap();
+    assert_eq!(
+        (bundle.file().unwrap(), check_for_icu(&file)),
+        (file, Ok(()))
+    );
+    let refused = Bundle::from_json("{\n\"a\": 1.5}").err().unwrap();
+    assert_eq!(refused.to_string(), "JsonBadNumber, line 2");
+    let refused = Bundle::prepare(Content::Text("de{\na:int{09}}")).err();
+    assert_eq!(refused.unwrap().to_string(), "TextBadInt, line 2");
+    let alias = compile("de{\"%%ALIAS\"{\"de\"}}").unwrap();
+    assert_eq!(check(&alias), Ok(()));
+    assert_eq!(check_for_icu(&alias), Err(error(sys::RESB_ICU_ALIAS)));
+}
+
+#[test]
+fn releases_bundles() {
+    let mut bundles = opened();
+    let root = prepared("x{open{\"Open\"} menu{quit{\"Quit\"}}}");
+    bundles
+        .release(
+            "shop",
+            vec![("root", Some(root)), ("de", Some(prepared(GERMAN)))],
+        )
+        .unwrap();
+    assert_eq!(
+        bundles.item_json("shop", "de_AT", "open", 1000).unwrap(),
+        "{\"actual\":\"root\",\"type\":\"string\",\"valid\":\"de\",\"value\":\"Open\"}"
+    );
+    assert_eq!(
+        bundles.tree_json("shop", "de_AT", "menu", 1000).unwrap(),
+        "{\"close\":\"Zu\",\"open\":\"Auf\",\"quit\":\"Quit\"}"
+    );
+    assert_eq!(
+        bundles.tree_json("shop", "de_AT", "menu", 1),
+        Err(error(sys::RESB_TOO_MANY_STEPS))
+    );
+    let refused = bundles.release("shop", vec![("root", None), ("fr", None)]);
+    assert_eq!(refused.unwrap_err().to_string(), "Absent, edit 1");
+    assert_eq!(bundles.list("shop").unwrap(), ["de", "root"]);
+    bundles.release("shop", vec![("root", None)]).unwrap();
+    assert_eq!(bundles.list("shop").unwrap(), ["de"]);
 }
