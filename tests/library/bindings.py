@@ -56,6 +56,37 @@ class Test(unittest.TestCase):
         with self.assertRaises(IndexError):
             self.look("list")[2]
 
+    def test_prepared(self):
+        prepared = resb.prepare('x{a{"b"} n:int{-1}}')
+        self.assertEqual(prepared.text("de-at"), 'de_AT {\n    a { "b" }\n    n:int { 268435455 }\n}\n')
+        self.assertEqual(prepared.json(), '{"a":"b","n":-1}')
+        self.assertEqual(resb.prepare_json('{"n":-1,"a":"b"}').file(), prepared.file())
+        self.assertEqual(resb.prepare(prepared.file()).json(), prepared.json())
+        self.assertEqual(code(prepared.text, "-"), "BadLocale")
+        self.assertEqual(code(resb.prepare, "de{\na:int{09}}"), "TextBadInt, line 2")
+        self.assertEqual(code(resb.prepare_json, '{\n"a": 1.5}'), "JsonBadNumber, line 2")
+        self.assertEqual(code(resb.prepare, b"x"), "FileHeader")
+        with self.assertRaises(TypeError):
+            copy.copy(prepared)
+        alias = resb.compile('de{"%%ALIAS"{"de"}}')
+        resb.check(alias)
+        self.assertEqual(code(resb.check_for_icu, alias), "IcuAlias")
+        resb.check_for_icu(prepared.file())
+
+    def test_releases(self):
+        root = resb.prepare('x{open{"Open"} menu{quit{"Quit"}}}')
+        self.bundles.release("shop", {"root": root, "de": resb.prepare(TEXT)})
+        self.assertEqual(code(root.file), "NotOpen")
+        self.assertEqual(self.bundles.item_json("shop", "de_AT", "open"), '{"actual":"root","type":"string","valid":"de","value":"Open"}')
+        self.assertEqual(self.bundles.tree_json("shop", "de_AT", "menu"), '{"close":"Zu","open":"Auf","quit":"Quit"}')
+        self.assertEqual(code(self.bundles.tree_json, "shop", "de_AT", "menu", 1), "TooManySteps")
+        self.assertEqual(code(self.bundles.release, "shop", {"root": None, "fr": None}), "Absent, bundle fr")
+        self.assertEqual(code(self.bundles.release, "shop", {"fr": root}), "NotOpen, bundle fr")
+        self.assertEqual(code(self.bundles.release, "sh op", {"fr": None}), "BadApp")
+        self.assertEqual(self.bundles.list("shop"), ["de", "root"])
+        self.bundles.release("shop", {"root": None})
+        self.assertEqual(self.bundles.list("shop"), ["de"])
+
     def test_lone_surrogates(self):
         self.bundles.install("shop", "xx", 'xx{a{"\\ud800"}}')
         self.assertEqual(self.look("a", "xx"), "\ud800")
@@ -97,10 +128,10 @@ class Test(unittest.TestCase):
         self.assertEqual((bundles.look("shop", "fr", "month"), bundles.apps()), ("Februar", 1))
 
     def test_errors_of_the_start(self):
-        self.assertEqual(code(resb.Bundles, {"root": "root{}", "de": "de{"}), "BadText, bundle de of ICUDATA")
-        self.assertEqual(code(resb.Bundles, {"root": b"x"}), "BadFile, bundle root of ICUDATA")
-        self.assertEqual(code(resb.Bundles, {"de_AT": "de{}", "DE-at": "de{}"}), "Twice, bundle DE-at of ICUDATA")
-        self.assertEqual(code(resb.Bundles, {"-": "de{}"}), "BadLocale, bundle - of ICUDATA")
+        self.assertEqual(code(resb.Bundles, {"root": "root{}", "de": "de{"}), "BadText, bundle de")
+        self.assertEqual(code(resb.Bundles, {"root": b"x"}), "BadFile, bundle root")
+        self.assertEqual(code(resb.Bundles, {"de_AT": "de{}", "DE-at": "de{}"}), "Twice, bundle DE-at")
+        self.assertEqual(code(resb.Bundles, {"-": "de{}"}), "BadLocale, bundle -")
         self.assertEqual(code(resb.Bundles, {}, "x{\nparentLocales{"), "TextUnexpected, line 2")
         self.assertEqual(code(resb.Bundles, {}, "x{}"), "ParentsShape")
         self.assertEqual(code(resb.Bundles, {}, 'x{parentLocales{root{"-"}}}'), "ParentsBadLocale")
@@ -117,7 +148,7 @@ class Test(unittest.TestCase):
     def test_errors_leave_their_process(self):
         error = resb.Error(14, locale="de")
         for other in (pickle.loads(pickle.dumps(error)), copy.copy(error), copy.deepcopy(error)):
-            self.assertEqual((str(other), other.number, other.locale), ("BadText, bundle de of ICUDATA", 14, "de"))
+            self.assertEqual((str(other), other.number, other.locale), ("BadText, bundle de", 14, "de"))
         with multiprocessing.Pool(1) as pool, self.assertRaises(resb.Error) as raised:
             pool.map_async(fails, [1]).get(60)
         self.assertEqual((str(raised.exception), raised.exception.line), ("TextBadInt, line 2", 2))

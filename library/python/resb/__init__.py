@@ -27,13 +27,27 @@ if TYPE_CHECKING:
 
     Bundle = Union[str, BytesLike]
 
-__all__ = ["Array", "Bundles", "Error", "Table", "Value", "check", "compile"]
+__all__ = [
+    "Array",
+    "Bundles",
+    "Error",
+    "Prepared",
+    "Table",
+    "Value",
+    "check",
+    "check_for_icu",
+    "compile",
+    "prepare",
+    "prepare_json",
+]
 __version__ = "1.1.0"
 
 Value = Union[str, bytes, int, "list[int]", "Array", "Table"]
 
 _NOT_OPEN, _SHARED, _NO_ROOM, _OTHER_KIND, _BAD_PATH, _MISSING = 2, 4, 5, 6, 21, 26
 _OF_ICUDATA = 13, 14, 15, 19
+_OF_EDITS = 13, 17, 18
+_NO_LIMIT = 2**64 - 1
 _STRING, _BINARY, _TABLE, _INT, _INT_VECTOR = 0, 1, 2, 7, 14
 _UNITS = 512  # a longer string takes a second call
 _decode = codecs.utf_16_le_decode
@@ -42,7 +56,7 @@ _sizes = [ctypes.c_size_t(size) for size in range(1100)]  # the longest path has
 
 class Error(Exception):
     """An error with its code, such as "BadPath", and the line of an error in a text, or the locale of a bundle
-    of ICUDATA."""
+    of ICUDATA or of a release."""
 
     def __init__(self, number: int, line: int = 0, locale: str = "") -> None:
         super().__init__(number, line, locale)
@@ -54,7 +68,7 @@ class Error(Exception):
         self.locale = locale
 
     def __str__(self) -> str:
-        place = f", line {self.line}" if self.line else f", bundle {self.locale} of ICUDATA" if self.locale else ""
+        place = f", line {self.line}" if self.line else f", bundle {self.locale}" if self.locale else ""
         return self.code + place
 
 
@@ -67,6 +81,65 @@ def check(file: BytesLike) -> None:
     """Checks whether bytes are a valid .res file; raises Error with its first error."""
     with _library.bytes_of(file) as (at, length):
         _must(_library.check(at, length))
+
+
+def check_for_icu(file: BytesLike) -> None:
+    """Checks a file like `check`, and that ures_open of libicu opens no other bundle because of its root."""
+    with _library.bytes_of(file) as (at, length):
+        _must(_library.check_for_icu(at, length))
+
+
+def prepare(bundle: Bundle) -> Prepared:
+    """Reads and checks a text as str, or a .res file; raises Error with the code and the line of its first error."""
+    prepared, line = Prepared(), ctypes.c_uint64()
+    with _library.bytes_of(bundle) as (at, length):
+        error = _library.prepare(at, length, isinstance(bundle, str), prepared._handle, line)
+    if error:
+        raise Error(error, line.value)
+    return prepared
+
+
+def prepare_json(json: Bundle) -> Prepared:
+    """Reads and checks JSON in the form of docs/JSON.md; raises Error with the code and the line of an error."""
+    prepared, line = Prepared(), ctypes.c_uint64()
+    with _library.bytes_of(json) as (at, length):
+        error = _library.prepare_json(at, length, prepared._handle, line)
+    if error:
+        raise Error(error, line.value)
+    return prepared
+
+
+class Prepared:
+    """A bundle that was read and checked, and belongs to no application yet. A release takes it: later calls raise Error with the
+    code "NotOpen"."""
+
+    def __init__(self) -> None:
+        self._handle = _library.Prepared(None, False)
+
+    def __del__(self, _discard: Callable[..., int] = _library.discard) -> None:
+        _discard(self._handle)
+
+    def __reduce_ex__(self, _: object) -> NoReturn:
+        raise TypeError("a prepared bundle can't be copied or pickled")
+
+    def file(self) -> bytes:
+        """Returns the .res file."""
+        error, file = _written(1024, lambda *out: _library.bundle_file(self._handle, *out))
+        _must(error)
+        return file
+
+    def text(self, locale: str) -> str:
+        """Returns the bundle as a text under the name of a locale."""
+        l = locale.encode()
+        error, text = _written(1024, lambda *out: _library.bundle_text(self._handle, l, len(l), *out))
+        _must(error)
+        return text.decode()
+
+    def json(self) -> str:
+        """Returns the bundle as JSON in the form of docs/JSON.md."""
+        error, json = _written(1024, lambda *out: _library.bundle_json(self._handle, *out))
+        _must(error)
+        return json.decode()
 
 
 def compile(text: Bundle) -> bytes:
@@ -261,6 +334,24 @@ class Bundles:
         with self._alone():
             _must(_library.remove(self._engine, a, len(a), l, len(l)))
 
+    def release(self, app: str, edits: Mapping[str, Optional[Prepared]]) -> None:
+        """Makes changes of an application in their order: all, or none if it raises Error. An edit has the bundle that is to have a
+        locale, or None to remove the one that has it. Takes the bundles, also if it raises Error."""
+        a, count, place = app.encode(), len(edits), ctypes.c_size_t()
+        locales, moved = [*edits], (_library.Edit * max(1, len(edits)))()
+        with self._alone():
+            for edit, (locale, prepared) in zip(moved, edits.items()):
+                edit.locale, edit.locale_len = locale.encode(), len(locale.encode())
+                if prepared is not None:
+                    if not prepared._handle.is_prepared:
+                        raise Error(_NOT_OPEN, locale=locale)
+                    edit.bundle, prepared._handle = prepared._handle, _library.Prepared(None, False)
+            error = _library.release(self._engine, a, len(a), moved, count, place)
+            for edit in moved:
+                _library.discard(edit.bundle)
+        if error:
+            raise Error(error, locale=locales[place.value] if error in _OF_EDITS else "")
+
     def list(self, app: str) -> builtins.list[str]:
         """Lists the locales of an application's bundles in the order of their installation."""
         a = app.encode()
@@ -283,6 +374,20 @@ class Bundles:
     def look_within(self, app: str, locale: str, path: str, steps: int) -> Value:
         """Looks up like `look`, or raises Error with the code "TooManySteps" if the lookup takes more than this many steps."""
         return self._found(_library.look_within, app, locale, path, steps)
+
+    def item_json(self, app: str, locale: str, path: str, steps: int = _NO_LIMIT) -> str:
+        """Looks up like `look_within`, and returns the item as the reply of `resb serve` (docs/SERVER.md)."""
+        return self._json(_library.item_json, app, locale, path, steps)
+
+    def tree_json(self, app: str, locale: str, path: str, steps: int = _NO_LIMIT) -> str:
+        """Looks up like `look_within`, and returns the item with everything that it inherits as one JSON value."""
+        return self._json(_library.tree_json, app, locale, path, steps)
+
+    def _json(self, call: Callable[..., int], app: str, locale: str, path: str, steps: int) -> str:
+        a, l, p = app.encode(), locale.encode(), path.encode()
+        error, json = _written(1024, lambda *out: self._ask(call, a, len(a), l, len(l), p, len(p), steps, *out))
+        _must(error)
+        return json.decode()
 
     def look(self, app: str, locale: str, path: str) -> Value:
         """Looks up an item: a str, bytes, int (28 bits, with a sign), list of ints, Array or Table."""

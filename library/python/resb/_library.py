@@ -36,6 +36,14 @@ class Entry(ctypes.Structure):
     ]
 
 
+class Prepared(ctypes.Structure):
+    _fields_ = [("bundle", ctypes.c_void_p), ("is_prepared", ctypes.c_bool)]
+
+
+class Edit(ctypes.Structure):
+    _fields_ = [("locale", ctypes.c_char_p), ("locale_len", ctypes.c_size_t), ("bundle", Prepared)]
+
+
 class _Buffer(ctypes.Structure):
     """The Py_buffer of Python's C interface."""
 
@@ -87,21 +95,32 @@ _name = ctypes.c_char_p, ctypes.c_size_t
 _content = ctypes.c_void_p, ctypes.c_size_t
 _out = ctypes.c_char_p, ctypes.c_size_t, ctypes.POINTER(ctypes.c_size_t)
 _handle, _number, _found = ctypes.POINTER(Handle), ctypes.POINTER(ctypes.c_uint64), ctypes.POINTER(Found)
+_bundle = ctypes.POINTER(Prepared)
 
 check = _declare(_free, "check", *_content)
+check_for_icu = _declare(_free, "check_for_icu", *_content)
 compile = _declare(_free, "compile", *_content, *_out, _number)
+prepare = _declare(_free, "prepare", *_content, ctypes.c_bool, _bundle, _number)
+prepare_json = _declare(_free, "prepare_json", *_content, _bundle, _number)
 open_with = _declare(_free, "open_with", _handle, *_name, ctypes.POINTER(Entry), ctypes.c_size_t, *_name, _number)
 install = _declare(_free, "install", _handle, *_name, *_name, *_content, ctypes.c_bool)
 replace = _declare(_free, "replace", _handle, *_name, *_name, *_content, ctypes.c_bool)
 get_error_name = _declare(_held, "get_error_name", ctypes.c_uint32, ctypes.POINTER(ctypes.c_char_p), result=None)
+bundle_file = _declare(_held, "bundle_file", _bundle, *_out)
+bundle_text = _declare(_held, "bundle_text", _bundle, *_name, *_out)
+bundle_json = _declare(_held, "bundle_json", _bundle, *_out)
+discard = _declare(_held, "discard", _bundle, result=None)
 share = _declare(_held, "share", _handle, _handle)
 close = _declare(_held, "close", _handle, result=None)
 remove = _declare(_held, "remove", _handle, *_name, *_name)
+release = _declare(_held, "release", _handle, *_name, ctypes.POINTER(Edit), ctypes.c_size_t, ctypes.POINTER(ctypes.c_size_t))
 list_locales = _declare(_held, "list", _handle, *_name, *_out)
 usage = _declare(_held, "usage", _handle, *_name, _number, _number)
 apps = _declare(_held, "apps", _handle, _number)
 look = _declare(_held, "look", _handle, *_name, *_name, *_name, _found)
 look_within = _declare(_held, "look_within", _handle, *_name, *_name, *_name, ctypes.c_uint64, _found)
+item_json = _declare(_held, "item_json", _handle, *_name, *_name, *_name, ctypes.c_uint64, *_out)
+tree_json = _declare(_held, "tree_json", _handle, *_name, *_name, *_name, ctypes.c_uint64, *_out)
 key = _declare(_held, "key", _handle, *_name, *_name, *_name, ctypes.c_size_t, *_out)
 # Without declared types this function takes half as long to convert its arguments. Each must have its C type: a plain int
 # would leave half of a size_t undefined.
