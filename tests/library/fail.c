@@ -78,6 +78,26 @@ static void history(void) {
     EXPECT(resb_look_origin(&e, S("shop"), S("de_AT"), S("greeting"), &f, &origin) == seen && left == before);
     EXPECT(seen || (strcmp(origin.actual, de ? "de" : "root") == 0 && strcmp(origin.valid, origin.actual) == 0));
     EXPECT(resb_text(&e, S("shop"), S("de_AT"), S("greeting"), units, 8, &len) == seen && (seen || (len == 5 && units[1] == (de ? 'a' : 'e'))));
+    uint32_t error = resb_item_json(&e, S("shop"), S("de_AT"), S("greeting"), 99, names, sizeof names, &len);
+    EXPECT(error == RESB_MEMORY ? worked(error) == 0 : error == (seen ? seen : RESB_OK));
+    error = resb_tree_json(&e, S("shop"), S("de_AT"), S(""), 999, names, sizeof names, &len);
+    EXPECT(error == RESB_MEMORY ? worked(error) == 0 : error == (seen ? seen : RESB_OK));
+    error = resb_text_utf8(&e, S("shop"), S("de_AT"), S("greeting"), names, sizeof names, &len);
+    EXPECT(error == RESB_MEMORY ? worked(error) == 0 : error == (seen ? seen : RESB_OK));
+    if (worked(resb_prepare_json(S("{\"a\":\"b\"}"), &bundle, &line))) {
+        worked(resb_bundle_text(&bundle, S("de"), names, sizeof names, &len));
+        worked(resb_bundle_json(&bundle, names, sizeof names, &len));
+        size_t place;
+        resb_edit edits[] = {{S("en"), bundle}, {S("en"), RESB_DISCARDED}};
+        uint64_t size, count, before_count;
+        EXPECT(resb_usage(&e, S("shop"), &size, &before_count) == RESB_OK);
+        bool made = worked(resb_release(&e, S("shop"), edits, 1, &place));
+        EXPECT(resb_usage(&e, S("shop"), &size, &count) == RESB_OK && count == before_count + made && place == 0);
+        resb_discard(&edits[0].bundle);
+        if (made)
+            worked(resb_release(&e, S("shop"), edits + 1, 1, &place));
+    }
+    worked(resb_check_for_icu(out, written));
     if (worked(resb_share(&e, &other)))
         EXPECT(resb_look(&other, S("shop"), S("de_AT"), S("greeting"), &f) == seen);
     else

@@ -69,6 +69,51 @@ static void *start(void *a) {
     return a;
 }
 
+static void *write_text(void *a) {
+    resb_bundle bundle = RESB_DISCARDED;
+    size_t len;
+    result = resb_prepare(text, text_len, true, &bundle, &line);
+    result = result ? result : resb_bundle_text(&bundle, S("de"), (char *)out, FILE_ROOM, &len);
+    resb_discard(&bundle);
+    return a;
+}
+
+static void *read_json(void *a) {
+    resb_bundle bundle = RESB_DISCARDED, again = RESB_DISCARDED;
+    size_t len;
+    result = resb_prepare(text, text_len, true, &bundle, &line);
+    result = result ? result : resb_bundle_json(&bundle, (char *)out, FILE_ROOM, &len);
+    result = result ? result : resb_prepare_json(out, len, &again, &line);
+    resb_discard(&bundle);
+    resb_discard(&again);
+    return a;
+}
+
+static void *release(void *a) {
+    resb_edit edit = {S("de"), RESB_DISCARDED};
+    size_t place;
+    result = resb_prepare(text, text_len, true, &edit.bundle, &line);
+    result = result ? result : resb_release(&e, S("a"), &edit, 1, &place);
+    return a;
+}
+
+static void *write_item(void *a) {
+    size_t len;
+    result = resb_item_json(&e, S("a"), S("de_DE_POSIX"), S(path), UINT64_MAX, (char *)out, FILE_ROOM, &len);
+    return a;
+}
+
+static void *write_tree(void *a) {
+    size_t len;
+    result = resb_tree_json(&e, S("a"), S("de_DE_POSIX"), S(""), UINT64_MAX, (char *)out, FILE_ROOM, &len);
+    return a;
+}
+
+static void *check_for_icu(void *a) {
+    result = resb_check_for_icu(out, written);
+    return a;
+}
+
 static void *look_within(void *a) {
     result = resb_look_within(&e, S("a"), S("de_DE_POSIX"), S(path), 1000, &f);
     return a;
@@ -144,6 +189,7 @@ int main(void) {
         text[text_len++] = '}';
     measure("compile", compile);
     measure("check", check);
+    measure("check for libicu", check_for_icu);
     measure("prepare a text", prepare_text);
     measure("prepare a file", prepare_file);
     measure("install", install);
@@ -157,6 +203,11 @@ int main(void) {
     measure("text", copy);
     measure("look_origin", look_origin);
     measure("export", export);
+    measure("release", release);
+    measure("write an item", write_item);
+    measure("write a tree", write_tree);
+    measure("write a text", write_text);
+    measure("write and read JSON", read_json);
     resb_close(&e);
     free(text);
     free(out);
