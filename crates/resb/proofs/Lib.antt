@@ -1,3 +1,5 @@
+pub mod Copies
 pub mod FoundItems
 pub mod Named
+pub mod Releasing
 pub mod ZeroEnded

@@ -27,6 +27,3 @@ mod text;
 mod usage;
 mod utf8;
 mod version;
-
-#[test]
-fn nothing() {}

@@ -1,0 +1,111 @@
+-- The edits of a release, one after another.
+use Rattle.std.proofs.Common.{◌≡◌, ◌<◌, ◌≤◌, ◌+◌, ◌≢◌, ℕ, zero, suc, List, [], ◌∷◌, ◌++◌, Option, Some, None, length, take, get_or, refl, sym, ◌∙◌, ap, subst, arith}
+use Rattle.std.specs.Prelude.{map, slice_get}
+use Rattle.std.proofs.Math.ListN.{set, length-set}
+use Rattle.std.proofs.Math.Seq.{take-suc}
+use Rattle.std.proofs.lemmas.List.{get_or-set_same, get_or-set_other, length-map, take_all}
+use borrow.Author.Count.{below_more}
+use Rattle.std.proofs.lemmas.Option.{slice_get-get_or}
+use Rattle.rb_packages.specs.Release.{Drafted}
+use Rattle.resb.specs.Releases.{Change, HaveNoBundles, Takes, IsFirstRefused, change_number, change_of, locales_of, with_change}
+use Rattle.resb.specs.declared.edit.Edit.{Edit}
+
+-- a draft takes one change more
+takes_more : (first mid : Drafted) (cs : List Change) (c : Change) → Takes first cs mid → change_number mid c.0 c.1 ≡ 0
+    → Takes first (cs ++ c ∷ []) (with_change c.0 c.1 mid)
+takes_more first mid [] c e n =
+    (subst (λ (d : Drafted). change_number d c.0 c.1 ≡ 0) e n, ap (λ (d : Drafted). with_change c.0 c.1 d) e)
+takes_more first mid (x ∷ cs) c e n = (e.0, takes_more (with_change x.0 x.1 first) mid cs c e.1 n)
+
+get_or_map : {X Y : Type 0} (f : X → Y) (xs : List X) (i : ℕ) (x : X) (y : Y) → i < length xs → get_or (map f xs) i y ≡ f (get_or xs i x)
+get_or_map f [] i x y h = absurd (omega arith)
+get_or_map f (z ∷ xs) zero x y h = refl
+get_or_map f (z ∷ xs) (suc i) x y h = get_or_map f xs i x y (omega arith)
+
+map_set : {X Y : Type 0} (f : X → Y) (xs : List X) (i : ℕ) (new x : X) → i < length xs → f new ≡ f (get_or xs i x) → map f (set xs i new) ≡ map f xs
+map_set f [] i new x h e = absurd (omega arith)
+map_set f (z ∷ xs) zero new x h e = ap (λ (y : _). y ∷ map f xs) e
+map_set f (z ∷ xs) (suc i) new x h e = ap (λ (ys : _). f z ∷ ys) (map_set f xs i new x (omega arith) e)
+
+-- the first edits were added to a draft
+pub record SoFar (first : Drafted) (before : List Edit) (i : ℕ) (draft : Drafted) (edits : List Edit) : Type 0 where
+  pub app : draft.app ≡ first.app
+  pub count : length edits ≡ length before
+  pub takes : Takes first (take i (map change_of before)) draft
+  pub rest : (k : ℕ) → i ≤ k → (d : Edit) → get_or edits k d ≡ get_or before k d
+  pub none : (k : ℕ) → k < i → (d : Edit) → (get_or edits k d).bundle.file ≡ None
+  pub locales : locales_of edits ≡ locales_of before
+
+pub begin : (first : Drafted) (before : List Edit) → SoFar first before 0 first before
+begin first before = record {
+  app = refl;
+  count = refl;
+  takes = refl;
+  rest = λ k later d. refl;
+  none = λ k early d. absurd (omega arith);
+  locales = refl;
+}
+
+-- the change of the next edit
+next_change : (first : Drafted) (before : List Edit) (i : ℕ) (draft : Drafted) (edits : List Edit) (old : Edit) → SoFar first before i draft edits
+    → i < length edits → old ≡ get_or edits i old → get_or (map change_of before) i (change_of old) ≡ change_of old
+next_change first before i draft edits old so h is =
+    let inside : i < length before = rw (← so.count) h in
+    get_or_map change_of before i old (change_of old) inside ∙ ap change_of (sym (so.rest i (omega arith) old) ∙ sym is)
+
+changes_more : (first : Drafted) (before : List Edit) (i : ℕ) (draft : Drafted) (edits : List Edit) (old : Edit) → SoFar first before i draft edits
+    → i < length edits → old ≡ get_or edits i old
+    → take (i + 1) (map change_of before) ≡ take i (map change_of before) ++ change_of old ∷ []
+changes_more first before i draft edits old so h is =
+    let cs = map change_of before in
+    let up : i + 1 ≡ suc i = omega arith in
+    let inside : i < length cs = rw (length-map, ← so.count) h in
+    ap (λ (n : ℕ). take n cs) up ∙ take-suc cs i (change_of old) inside
+    ∙ ap (λ (c : Change). take i cs ++ c ∷ []) (next_change first before i draft edits old so h is)
+
+pub same_locales : (first : Drafted) (before : List Edit) (i : ℕ) (draft : Drafted) (edits : List Edit) (old new : Edit)
+    → SoFar first before i draft edits → i < length edits → old ≡ get_or edits i old → new.locale.now ≡ old.locale.now
+    → locales_of (set edits i new) ≡ locales_of before
+same_locales first before i draft edits old new so h is locale =
+    map_set (λ (e : Edit). e.locale.now) edits i new old h (locale ∙ ap (λ (e : Edit). e.locale.now) is) ∙ so.locales
+
+pub one_more : (first : Drafted) (before : List Edit) (i : ℕ) (draft next : Drafted) (edits : List Edit) (old new : Edit)
+    → SoFar first before i draft edits → i < length edits → old ≡ get_or edits i old
+    → change_number draft (change_of old).0 (change_of old).1 ≡ 0 → next ≡ with_change (change_of old).0 (change_of old).1 draft
+    → next.app ≡ draft.app → new.bundle.file ≡ None → new.locale.now ≡ old.locale.now → SoFar first before (i + 1) next (set edits i new)
+one_more first before i draft next edits old new so h is taken made app none locale = record {
+  app = app ∙ so.app;
+  count = length-set edits i new ∙ so.count;
+  takes = subst (λ (cs : List Change). Takes first cs next) (sym (changes_more first before i draft edits old so h is))
+      (subst (λ (d : Drafted). Takes first (take i (map change_of before) ++ change_of old ∷ []) d) (sym made)
+      (takes_more first draft (take i (map change_of before)) (change_of old) so.takes taken));
+  rest = λ k later d. get_or-set_other edits i k new d (λ e. absurd (omega arith)) ∙ so.rest k (omega arith) d;
+  none = below_more (λ (k : ℕ). (d : Edit) → (get_or (set edits i new) k d).bundle.file ≡ None) i
+      (λ k low d. subst (λ (e : Edit). e.bundle.file ≡ None) (sym (get_or-set_other edits i k new d (λ e. absurd (omega arith)))) (so.none k low d))
+      (λ d. subst (λ (e : Edit). e.bundle.file ≡ None) (sym (get_or-set_same edits i new d h)) none);
+  locales = same_locales first before i draft edits old new so h is locale;
+}
+
+-- the next edit is refused
+pub refuses : (first : Drafted) (before : List Edit) (i : ℕ) (draft : Drafted) (edits : List Edit) (old : Edit) (n : ℕ) → SoFar first before i draft edits
+    → i < length edits → old ≡ get_or edits i old → n ≡ change_number draft (change_of old).0 (change_of old).1
+    → IsFirstRefused first (map change_of before) n i
+refuses first before i draft edits old n so h is number = record {
+  change = change_of old;
+  at = slice_get-get_or (map change_of before) i (change_of old) (rw (length-map, ← so.count) h)
+      ∙ ap (λ (c : Change). Some c) (next_change first before i draft edits old so h is);
+  before = draft;
+  takes = so.takes;
+  number = number;
+}
+
+-- all edits were added
+pub takes_all : (first : Drafted) (before : List Edit) (i : ℕ) (draft : Drafted) (edits : List Edit) → SoFar first before i draft edits
+    → i ≡ length edits → Takes first (map change_of before) draft
+takes_all first before i draft edits so all =
+    subst (λ (cs : List Change). Takes first cs draft) (take_all i (map change_of before) (rw (length-map, ← so.count, ← all) (omega arith))) so.takes
+
+-- and none has a bundle
+pub no_bundles : (first : Drafted) (before : List Edit) (i : ℕ) (draft : Drafted) (edits : List Edit) → SoFar first before i draft edits
+    → i ≡ length edits → HaveNoBundles edits
+no_bundles first before i draft edits so all k d h = so.none k (omega arith) d
