@@ -47,53 +47,53 @@ begin first before = record {
 }
 
 -- the change of the next edit
-next_change : (first : Drafted) (before : List Edit) (i : ℕ) (draft : Drafted) (edits : List Edit) (old : Edit) → SoFar first before i draft edits
-    → i < length edits → old ≡ get_or edits i old → get_or (map change_of before) i (change_of old) ≡ change_of old
-next_change first before i draft edits old so h is =
+next_change : (first : Drafted) (before : List Edit) (i : ℕ) (draft : Drafted) (edits : List Edit) (d old : Edit) → SoFar first before i draft edits
+    → i < length edits → old ≡ get_or edits i d → get_or (map change_of before) i (change_of old) ≡ change_of old
+next_change first before i draft edits d old so h is =
     let inside : i < length before = rw (← so.count) h in
-    get_or_map change_of before i old (change_of old) inside ∙ ap change_of (sym (so.rest i (omega arith) old) ∙ sym is)
+    get_or_map change_of before i d (change_of old) inside ∙ ap change_of (sym (so.rest i (omega arith) d) ∙ sym is)
 
-changes_more : (first : Drafted) (before : List Edit) (i : ℕ) (draft : Drafted) (edits : List Edit) (old : Edit) → SoFar first before i draft edits
-    → i < length edits → old ≡ get_or edits i old
+changes_more : (first : Drafted) (before : List Edit) (i : ℕ) (draft : Drafted) (edits : List Edit) (d old : Edit) → SoFar first before i draft edits
+    → i < length edits → old ≡ get_or edits i d
     → take (i + 1) (map change_of before) ≡ take i (map change_of before) ++ change_of old ∷ []
-changes_more first before i draft edits old so h is =
+changes_more first before i draft edits d old so h is =
     let cs = map change_of before in
     let up : i + 1 ≡ suc i = omega arith in
     let inside : i < length cs = rw (length-map, ← so.count) h in
     ap (λ (n : ℕ). take n cs) up ∙ take-suc cs i (change_of old) inside
-    ∙ ap (λ (c : Change). take i cs ++ c ∷ []) (next_change first before i draft edits old so h is)
+    ∙ ap (λ (c : Change). take i cs ++ c ∷ []) (next_change first before i draft edits d old so h is)
 
-pub same_locales : (first : Drafted) (before : List Edit) (i : ℕ) (draft : Drafted) (edits : List Edit) (old new : Edit)
-    → SoFar first before i draft edits → i < length edits → old ≡ get_or edits i old → new.locale.now ≡ old.locale.now
+pub same_locales : (first : Drafted) (before : List Edit) (i : ℕ) (draft : Drafted) (edits : List Edit) (d old new : Edit)
+    → SoFar first before i draft edits → i < length edits → old ≡ get_or edits i d → new.locale.now ≡ old.locale.now
     → locales_of (set edits i new) ≡ locales_of before
-same_locales first before i draft edits old new so h is locale =
-    map_set (λ (e : Edit). e.locale.now) edits i new old h (locale ∙ ap (λ (e : Edit). e.locale.now) is) ∙ so.locales
+same_locales first before i draft edits d old new so h is locale =
+    map_set (λ (e : Edit). e.locale.now) edits i new d h (locale ∙ ap (λ (e : Edit). e.locale.now) is) ∙ so.locales
 
-pub one_more : (first : Drafted) (before : List Edit) (i : ℕ) (draft next : Drafted) (edits : List Edit) (old new : Edit)
-    → SoFar first before i draft edits → i < length edits → old ≡ get_or edits i old
+pub one_more : (first : Drafted) (before : List Edit) (i : ℕ) (draft next : Drafted) (edits : List Edit) (d old new : Edit)
+    → SoFar first before i draft edits → i < length edits → old ≡ get_or edits i d
     → change_number draft (change_of old).0 (change_of old).1 ≡ 0 → next ≡ with_change (change_of old).0 (change_of old).1 draft
     → next.app ≡ draft.app → new.bundle.file ≡ None → new.locale.now ≡ old.locale.now → SoFar first before (i + 1) next (set edits i new)
-one_more first before i draft next edits old new so h is taken made app none locale = record {
+one_more first before i draft next edits d old new so h is taken made app none locale = record {
   app = app ∙ so.app;
   count = length-set edits i new ∙ so.count;
-  takes = subst (λ (cs : List Change). Takes first cs next) (sym (changes_more first before i draft edits old so h is))
+  takes = subst (λ (cs : List Change). Takes first cs next) (sym (changes_more first before i draft edits d old so h is))
       (subst (λ (d : Drafted). Takes first (take i (map change_of before) ++ change_of old ∷ []) d) (sym made)
       (takes_more first draft (take i (map change_of before)) (change_of old) so.takes taken));
-  rest = λ k later d. get_or-set_other edits i k new d (λ e. absurd (omega arith)) ∙ so.rest k (omega arith) d;
-  none = below_more (λ (k : ℕ). (d : Edit) → (get_or (set edits i new) k d).bundle.file ≡ None) i
-      (λ k low d. subst (λ (e : Edit). e.bundle.file ≡ None) (sym (get_or-set_other edits i k new d (λ e. absurd (omega arith)))) (so.none k low d))
-      (λ d. subst (λ (e : Edit). e.bundle.file ≡ None) (sym (get_or-set_same edits i new d h)) none);
-  locales = same_locales first before i draft edits old new so h is locale;
+  rest = λ k later x. get_or-set_other edits i k new x (λ e. absurd (omega arith)) ∙ so.rest k (omega arith) x;
+  none = below_more (λ (k : ℕ). (x : Edit) → (get_or (set edits i new) k x).bundle.file ≡ None) i
+      (λ k low x. subst (λ (e : Edit). e.bundle.file ≡ None) (sym (get_or-set_other edits i k new x (λ e. absurd (omega arith)))) (so.none k low x))
+      (λ x. subst (λ (e : Edit). e.bundle.file ≡ None) (sym (get_or-set_same edits i new x h)) none);
+  locales = same_locales first before i draft edits d old new so h is locale;
 }
 
 -- the next edit is refused
-pub refuses : (first : Drafted) (before : List Edit) (i : ℕ) (draft : Drafted) (edits : List Edit) (old : Edit) (n : ℕ) → SoFar first before i draft edits
-    → i < length edits → old ≡ get_or edits i old → n ≡ change_number draft (change_of old).0 (change_of old).1
+pub refuses : (first : Drafted) (before : List Edit) (i : ℕ) (draft : Drafted) (edits : List Edit) (d old : Edit) (n : ℕ) → SoFar first before i draft edits
+    → i < length edits → old ≡ get_or edits i d → n ≡ change_number draft (change_of old).0 (change_of old).1
     → IsFirstRefused first (map change_of before) n i
-refuses first before i draft edits old n so h is number = record {
+refuses first before i draft edits d old n so h is number = record {
   change = change_of old;
   at = slice_get-get_or (map change_of before) i (change_of old) (rw (length-map, ← so.count) h)
-      ∙ ap (λ (c : Change). Some c) (next_change first before i draft edits old so h is);
+      ∙ ap (λ (c : Change). Some c) (next_change first before i draft edits d old so h is);
   before = draft;
   takes = so.takes;
   number = number;
