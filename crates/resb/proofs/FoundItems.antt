@@ -1,12 +1,10 @@
 -- The place at which a lookup that finds an item searches, and the tree of the item there.
-use Rattle.std.proofs.Common.{◌≡◌, ℕ, Bool, true, false, inl, inr, List, Option, Some, None, Result, Ok, Err, refl, sym, ◌∙◌, ap, subst}
+use Rattle.std.proofs.Common.{◌≡◌, ℕ, Bool, true, false, List, Option, Some, None, Result, Ok, Err, refl, sym, subst}
 use Rattle.rb_tree.specs.Path.{IsPath, is_path, segments}
 use Rattle.rb_tree.proofs.Paths.{path_test}
 use Rattle.rb_parents.specs.Family.{parent_in}
-use Rattle.rb_parents.specs.Trail.{Bundles, ParentsOf}
 use Rattle.rb_fallback.specs.Search.{Hit, look_up, first_stop}
 use Rattle.rb_fallback.specs.declared.fault.LookError.{LookError}
-use Rattle.rb_inherit.specs.Lookups.{IsTreeOf}
 use Rattle.rb_locales.specs.Locale.{name}
 use Rattle.rb_packages.specs.App.{app_of}
 use Rattle.rb_packages.specs.Packages.{Files, files_of, icudata_files, icudata_of, list_of, shelf_of}

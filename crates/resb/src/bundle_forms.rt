@@ -62,13 +62,7 @@ fn text_of(alloc: Global, name: &Name, bundle: &Bundle) -> Result<Vec<u8>, Print
     print_bundle(alloc, &UnitList::from_vec(units), bundle)
 }
 
-fn copy_text(
-    alloc: Global,
-    bundle: &Bundle,
-    locale: &[u8],
-    out: &mut [u8],
-    len: &mut usize,
-) -> u32
+fn copy_text(alloc: Global, bundle: &Bundle, locale: &[u8], out: &mut [u8], len: &mut usize) -> u32
     ensures text { result ≢ 1 → CopiesTextOf (name_of locale.now) (source_tree_of bundle.now)
         result len.new (length out.old) (take len.new out.new) }
     ensures unchanged { result ≢ 0 → out.new ≡ out.old }

@@ -43,6 +43,7 @@ pub(crate) const TEXT_TOO_LARGE: u32 = 44;
 
 /// The root has a key that leads libicu to another bundle.
 pub(crate) const ICU_ALIAS: u32 = 75;
+
 pub(crate) const ICU_PARENT: u32 = 76;
 
 /// The lookup takes more steps than the caller allows.

@@ -1,5 +1,5 @@
 use Rattle.std.proofs.Common.{◌<◌, arith, get_or, length, refl}
-use Rattle.resb.proofs.Releasing.{no_bundles, one_more, refuses, same_locales, takes_all}
+use Rattle.resb.proofs.Releasing.{one_more, refuses, same_locales}
 use Rattle.resb.proofs.releases.draft_all.Goals as goal
 
 pub loop-i-preserved : goal.loop-i-preserved
