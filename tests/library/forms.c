@@ -3,7 +3,7 @@
 #include "common.h"
 
 static const char root[] = "root{menu{open{\"Open\"} shut:alias{\"/LOCALE/menu/close\"} close{\"Close\"}} bad:alias{\"/LOCALE/none\"}}";
-static const char de[] = "de{menu{close{\"Zu\"} open{\"\\u00d6ffnen\"}} n:int{-1} b:bin{00ff10} v:intvector{1,-2} l{\"a\",{\"b\"}}}";
+static const char de[] = "de{menu{close{\"Zu\"} open{\"\\u00d6ffnen\"}} n:int{-1} b:bin{00ff10} v:intvector{1,-2} l{\"a\",{\"b\",\"c\"}}}";
 static char out[4096];
 static size_t len;
 static uint64_t line;
@@ -51,7 +51,7 @@ static void writes_trees(resb *e) {
     gives(resb_tree_json, e, "de_AT", "menu", "{\"close\":\"Zu\",\"open\":\"\xc3\x96" "ffnen\",\"shut\":\"Zu\"}");
     gives(resb_tree_json, e, "fr", "", "{\"bad\":{\":error\":\"Missing\"},\"menu\":{\"close\":\"Close\",\"open\":\"Open\",\"shut\":\"Close\"}}");
     gives(resb_tree_json, e, "de", "b", "{\":bin\":\"00ff10\"}");
-    gives(resb_tree_json, e, "de", "l", "[\"a\",[\"b\"]]");
+    gives(resb_tree_json, e, "de", "l", "[\"a\",[\"b\",\"c\"]]");
     gives(resb_tree_json, e, "de", "n", "-1");
     /* enough steps for the lookup, but not for the tree */
     uint64_t steps = 0;
@@ -105,7 +105,7 @@ static void writes_bundles(void) {
     EXPECT(resb_prepare(S("x{a{\"x\"} b:int{5} c:alias{\"/LOCALE/a\"} d{\"p\",\"q\"} e:bin{\"00ff\"} f:intvector{-1,2}}"), true, &bundle, &line) == RESB_OK);
     has_forms(&bundle, "de-at",
               "de_AT {\n    a { \"x\" }\n    b:int { 5 }\n    c:alias { \"/LOCALE/a\" }\n    d {\n        \"p\", \"q\",\n    }\n"
-              "    e:bin { 00ff }\n    f:intvector { -1, 2 }\n}\n",
+              "    e:bin { \"00ff\" }\n    f:intvector { -1, 2 }\n}\n",
               "{\"a\":\"x\",\"b\":5,\"c\":{\":alias\":\"/LOCALE/a\"},\"d\":[\"p\",\"q\"],\"e\":{\":bin\":\"00ff\"},\"f\":{\":intvector\":[-1,2]}}");
     resb_discard(&bundle);
 }
