@@ -143,6 +143,7 @@ pub(crate) fn reply_number(reply: &Reply) -> u32
 pub(crate) fn app_number(fault: AppFault) -> u32
     ensures number { result ≡ app_number fault }
     ensures error { result ≢ 0 }
+    ensures unshared { result ≢ 4 }
 {
     match fault {
         AppFault::BadApp => 11,
@@ -175,6 +176,7 @@ pub(crate) fn json_number(kind: JsonFaultKind) -> u32
 pub(crate) fn draft_number(fault: DraftFault) -> u32
     ensures number { result ≡ draft_number (Some fault) }
     ensures error { result ≢ 0 }
+    ensures unshared { result ≢ 4 }
 {
     match fault {
         DraftFault::Absent => 17,

@@ -25,6 +25,7 @@ fn draft_put(draft: &mut Draft, name: Name, bundle: Bundle) -> u32
     ensures draft { result ≡ 0 → draft.new ≡ with_change (Some name) (Some bundle) draft.old }
     ensures refused { result ≢ 0 → result ≢ 1 → result ≡ draft_number (put_fault name draft.old) }
     ensures app { draft.new.app ≡ draft.old.app }
+    ensures unshared { result ≢ 4 }
 {
     match draft.put(name, bundle) {
         Ok(()) => 0,
@@ -38,6 +39,7 @@ fn draft_removal(draft: &mut Draft, name: Name) -> u32
     ensures refused { result ≢ 0 → result ≢ 1
         → result ≡ draft_number (removal_fault name draft.old) }
     ensures app { draft.new.app ≡ draft.old.app }
+    ensures unshared { result ≢ 4 }
 {
     match draft.remove(name) {
         Ok(()) => 0,
@@ -54,6 +56,7 @@ fn draft_change(draft: &mut Draft, locale: &[u8], bundle: Option<Box<Bundle>>) -
     ensures refused { result ≢ 0 → result ≢ 1
         → result ≡ change_number draft.old (name_of locale.now) (option_map boxed bundle) }
     ensures app { draft.new.app ≡ draft.old.app }
+    ensures unshared { result ≢ 4 }
 {
     let Ok(name) = Name::read(locale) else {
         return BAD_LOCALE;
@@ -73,6 +76,7 @@ fn draft_edit(alloc: Global, draft: &mut Draft, edit: &mut Edit<'_>) -> u32
     ensures refused { result ≢ 0 → result ≢ 1
         → result ≡ change_number draft.old (change_of edit.old).0 (change_of edit.old).1 }
     ensures app { draft.new.app ≡ draft.old.app }
+    ensures unshared { result ≢ 4 }
     ensures bundle { edit.new.bundle.file ≡ None }
     ensures locale { edit.new.locale.now ≡ edit.old.locale.now }
 {
@@ -86,6 +90,7 @@ fn draft_all(alloc: Global, draft: &mut Draft, edits: &mut [Edit<'_>], place: &m
     ensures refused { result ≢ 0 → result ≢ 1
         → IsFirstRefused draft.old (map change_of edits.old) result place.new }
     ensures app { draft.new.app ≡ draft.old.app }
+    ensures unshared { result ≢ 4 }
     ensures bundles { result ≡ 0 → HaveNoBundles edits.new }
     ensures locales { locales_of edits.new ≡ locales_of edits.old }
 {
@@ -111,6 +116,7 @@ fn release_in(
     ensures refused { result ≢ 0 → result ≢ 1
         → IsUnreleased engine.old (app_of app.now) (map change_of edits.old) result place.new }
     ensures unchanged { result ≢ 0 → engine.new ≡ engine.old }
+    ensures unshared { result ≢ 4 }
     ensures bundles { result ≡ 0 → HaveNoBundles edits.new }
     ensures locales { locales_of edits.new ≡ locales_of edits.old }
 {
@@ -144,6 +150,7 @@ fn release_alone(
     ensures refused { result ≢ 0 → result ≢ 1 → result ≢ 4 → IsUnreleased engine.old.value
         (app_of app.now) (map change_of edits.old) result place.new }
     ensures unchanged { result ≢ 0 → engine.new.value ≡ engine.old.value }
+    ensures kept { result ≡ 4 → edits.new ≡ edits.old }
     ensures bundles { result ≡ 0 → HaveNoBundles edits.new }
     ensures locales { locales_of edits.new ≡ locales_of edits.old }
 {
@@ -169,6 +176,8 @@ pub extern "C" fn resb_release(
     ensures refused { result ≢ 0 → result ≢ 1 → result ≢ 4 → IfSome (engine_of handle.old)
         (λ e. IsUnreleased e (app_of app.now) (map change_of edits.old) result place.new) }
     ensures unchanged { result ≢ 0 → engine_of handle.new ≡ engine_of handle.old }
+    ensures kept { result ≡ 4 → edits.new ≡ edits.old }
+    ensures untouched { IfNone (engine_of handle.old) (edits.new ≡ edits.old) }
     ensures bundles { result ≡ 0 → HaveNoBundles edits.new }
     ensures locales { locales_of edits.new ≡ locales_of edits.old }
     ensures closed { IfNone (engine_of handle.old) (result ≡ 2) }
