@@ -139,6 +139,34 @@ static void refuses_json(void) {
     }
 }
 
+/* Damages JSON. What is still accepted gives JSON that is read as the same file. */
+static void reads_damaged_json(int copies) {
+    static const char json[] = "{\"a\":\"x\\u00fc\",\"b\":-5,\"c\":{\":alias\":\"/LOCALE/a\"},\"d\":[\"p\",{\"q\":[]}],\"e\":{\":bin\":\"00ff\"},"
+                               "\"f\":{\":intvector\":[-1,2]},\"g\":{\":units\":[55296,65]},\"::h\":{}}";
+    static uint8_t one[4096], two[4096];
+    uint64_t random = 11;
+    int accepted = 0;
+    for (int i = 0; i < copies; i++) {
+        char damaged[sizeof json];
+        size_t one_len, two_len;
+        memcpy(damaged, json, sizeof json);
+        for (int k = 0; k < i % 4; k++)
+            damaged[next_random(&random) % (sizeof json - 1)] ^= (char)(1 << next_random(&random) % 8);
+        resb_bundle bundle = RESB_DISCARDED, again = RESB_DISCARDED;
+        uint32_t error = resb_prepare_json(damaged, sizeof json - 1 - (i % 7 == 6) * next_random(&random) % 99, &bundle, &line);
+        EXPECT(error == RESB_OK || (error >= RESB_JSON_TOO_LONG && error <= RESB_JSON_TOO_LARGE && line > 0 && !bundle.is_prepared));
+        if (error)
+            continue;
+        accepted++;
+        EXPECT(resb_bundle_json(&bundle, out, sizeof out, &len) == RESB_OK && resb_prepare_json(out, len, &again, &line) == RESB_OK);
+        EXPECT(resb_bundle_file(&bundle, one, sizeof one, &one_len) == RESB_OK && resb_bundle_file(&again, two, sizeof two, &two_len) == RESB_OK);
+        EXPECT(one_len == two_len && memcmp(one, two, one_len) == 0);
+        resb_discard(&bundle);
+        resb_discard(&again);
+    }
+    EXPECT(accepted > copies / 10);
+}
+
 /* Prepares a bundle with one number for an edit. */
 static resb_edit edit_of(const char *locale, int number) {
     resb_edit edit = {S(locale), RESB_DISCARDED};
@@ -263,6 +291,7 @@ int main(int argc, char **argv) {
         limits_trees(&e);
     writes_bundles();
     refuses_json();
+    reads_damaged_json(quick ? 100 : 30000);
     releases(&e);
     if (!quick)
         fills(&e);
