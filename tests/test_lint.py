@@ -1,5 +1,8 @@
 """`resb lint`: each warning and the nearest text without it, the texts of lint/texts.jsonl, docs/LINT.md, and the four formats.
 
+A line of lint/warnings.jsonl has a "rule", a "text" that has this warning, and the "nearest" text that has none. In place of the text it may have
+"entries": the text is the one in German of lint/entries.json with these entries in place of its own, beside the root's; so is "nearest" then.
+
 A line of lint/texts.jsonl has "text" (or "hex", its bytes), "name" (that of the file, without .txt), "root" if it is linted against that text, and
 "options". What is expected: "warnings", the line and the rule of each in order; "among", some of them; "messages", those of the warnings; "error",
 the line, the column and the message of the error.
@@ -9,31 +12,9 @@ import re
 import urllib.parse
 
 import pytest
-from support.program import TOP
+from support.program import TOP, rows
 
-ENGLISH = {
-    "menu": 'menu { open { "Open" } close { "Close" } }',
-    "hello": 'hello { "Hello {name}" }',
-    "until": 'until { "Until {day, date}" }',
-    "days": 'days { "Mon", "Tue", "Wed" }',
-    "hi": 'hi { "<b>Hello</b>" }',
-    "size": 'size { "%d of %d" }',
-    "name": 'name { "Name: " }',
-    "limit": 'limit { "up to 8" }',
-    "page": 'page { "http://example.org" }',
-}
-GERMAN = {
-    "menu": 'menu { open { "Öffnen" } close { "Schließen" } }',
-    "hello": 'hello { "Hallo {name}" }',
-    "until": 'until { "Bis {day, date}" }',
-    "days": 'days { "Mo", "Di", "Mi" }',
-    "hi": 'hi { "<b>Hallo</b>" }',
-    "size": 'size { "%d von %d" }',
-    "name": 'name { "Name: " }',
-    "limit": 'limit { "bis 8" }',
-    "page": 'page { "http://example.org" }',
-}
-ROOT = "root {\n" + "".join(f"  {entry}\n" for entry in ENGLISH.values()) + "}\n"
+ENTRIES = json.loads((TOP / "tests" / "lint" / "entries.json").read_text(encoding="utf-8"))
 # The warnings that are off unless they are denied.
 OPTIONAL = {"other-numbers", "other-punctuation", "same-text"}
 # The settings that a warning needs.
@@ -45,134 +26,15 @@ def bundle(*entries, name="de"):
     return name + " {\n" + "".join(f"  {entry}\n" for entry in entries) + "}\n"
 
 
-def message(pattern, name="de"):
-    return bundle('a { "' + pattern + '" }', name=name)
+def texts_of(row):
+    """Returns the text that has a warning, and the nearest one."""
+    if "entries" not in row:
+        return row["text"], row["nearest"]
+    return tuple(bundle(*{**ENTRIES["de"], **row[name]}.values()) for name in ("entries", "nearest"))
 
 
-def beside(**others):
-    """Returns a text with the root's entries in German, except some others."""
-    return bundle(*{**GERMAN, **others}.values())
-
-
-# The warning, a text that has it, and the nearest one without it.
-ALONE = [
-    ("open-quote", bundle('a { "un }', 'b { "x" }'), bundle('a { "un" }', 'b { "x" }')),
-    ("open-quote", bundle('a { "un }', 'b { deux" }'), bundle('a { "un', '    deux" }')),
-    ("mixed-quotes", bundle('a { "un" deux }'), bundle('a { "un deux" }')),
-    ("mixed-quotes", bundle('a { un "deux" }'), bundle('a { "un" "deux" }')),
-    ("joined-strings", bundle('a { "un", "deux" "trois" }'), bundle('a { "un", "deux", "trois" }')),
-    ("joined-strings", bundle('a { "un", "deux"', '      "trois" }'), bundle('a { "un deux"', '      "trois" }')),
-    ("joined-strings", bundle("a:intvector { 1, 2 3 }"), bundle("a:intvector { 1, 2, 3 }")),
-    ("joined-strings", bundle("a {", '  "un",', '  "deux"', '  "trois"', "}"), bundle("a {", '  "un",', '  "deux"', '    "trois"', "}")),
-    ("joined-strings", bundle('a { "un", "deux"', '      "trois" }'), bundle('a { "un", "deux" // deux', '      "trois" }')),
-    ("mixed-quotes", bundle('a { "un", deux trois }'), bundle('a { "un", deux }')),
-    ("unknown-escape", bundle('a { "C:\\quit" }'), bundle('a { "C:\\\\quit" }')),
-    ("doubled-backslash", bundle('a { "\\\\u00E9" }'), bundle('a { "\\u00E9" }')),
-    ("doubled-backslash", bundle('a { "\\\\u00E9" }'), bundle('a { "\\\\u00E" }')),
-    ("doubled-backslash", bundle('a { "' + "gr\\\\u00FCn" * 12 + '" }'), bundle('a { "' + "\\\\u00FC > x; " * 12 + '" }')),
-    ("bundle-name", 'fr { a { "x" } }\n', 'de { a { "x" } }\n'),
-    ("open-direction", bundle('a { "x \u202ey" }'), bundle('a { "x \u202ey\u202c" }')),
-    ("open-direction", bundle('a { "x \u2067y" }'), bundle('a { "x \\u202Ey" }')),
-    ("suspicious-key", bundle('a { "x" }; b { "y" }'), bundle('a { "x" } b { "y" }')),
-    ("suspicious-key", bundle('a b { "x" }'), bundle('"a b" { "x" }')),
-    ("suspicious-key", bundle('a= { "x" }'), bundle('"a=" { "x" }')),
-    ("suspicious-key", bundle("`a` { \"x\" }"), bundle('"`a`" { "x" }')),
-    ("suspicious-key", bundle('a\0b { "x" }'), bundle('ab { "x" }')),
-    ("conflict-marker", 'de {\n<<<<<<< HEAD\n  a { "x" }\n}\n', bundle('a { "x" }')),
-    ("conflict-marker", 'de {\n  a {\n    "x",\n=======\n  }\n}\n', 'de {\n  a {\n    "x",\n======\n  }\n}\n'),
-    ("entry-in-array", bundle('a { "x", b { "y" } }'), bundle('a { x { "x" } b { "y" } }')),
-    ("entry-in-array", bundle('a { "x", b { "y" } }'), bundle('a { "x", { "y" } }')),
-    ("forbidden-word", bundle('a { "Bitte klicken" }'), bundle('a { "Bitte wählen" }')),
-    ("forbidden-word", bundle('a { "ans Klicken" } b { "(klicken)" }'), bundle('a { "anklicken, klickend, klickenß" }')),
-    ("forbidden-word", bundle('a { "Hände weg!" }'), bundle('a { "Hände wegen" }')),
-    ("too-long", bundle("// resb-lint: max 5", 'a { "zu lang" }'), bundle("// resb-lint: max 5", 'a { "genau" }')),
-    ("too-long", bundle("// resb-lint: max 5", 'a { b { "x" } c { "x", "zu lang" } }'), bundle("// resb-lint: max 5", 'a { "😀😀😀😀😀" }', 'b { "zu lang" }')),
-    ("too-long", "// resb-lint: max 5\n" + bundle('a { "zu lang" }'), "// resb-lint: max 5\n" + bundle('a { "genau" }')),
-    ("unknown-allowed", bundle("// resb-lint: max x", 'a { "x" }'), bundle("// resb-lint: max 1", 'a { "x" }')),
-    ("other-quotes", bundle("a { 'x' }"), bundle('a { "x" }')),
-    ("other-quotes", bundle("a { „x“ }"), bundle('a { "„x“" }')),
-    ("other-quotes", bundle("a { 'x' }"), bundle("a { it's }")),
-    ("unknown-allowed", bundle("// resb-lint: allow joined", 'a { "x" }'), bundle("// resb-lint: allow joined-strings", 'a { "x" }')),
-    ("unquoted-address", bundle("a { http://x.org }"), bundle('a { "http://x.org" }')),
-    ("misspelled-key", bundle('%%parent { "root" }'), bundle('%%Parent { "root" }')),
-    ("misspelled-key", bundle('%%Alias { "root" }'), bundle('x { %%Alias { "root" } }')),
-    ("bad-parent", bundle('%%Parent { "de root" }'), bundle('%%Parent { "" }')),
-    ("bad-parent", bundle('%%Parent { "de" }'), bundle('%%Parent { "root" }')),
-    ("alias-to-nothing", bundle('a { "x" } b:alias { "root/aa" }', name="root"), bundle('a { "x" } b:alias { "root/a" }', name="root")),
-    ("alias-to-nothing", bundle('a { "x" } b:alias { "root/a/0" }', name="root"), bundle('a { "x" } b:alias { "/LOCALE/aa" }', name="root")),
-    ("replacement-character", bundle('a { "Gr\ufffdn" }'), bundle('a { "Gr\\uFFFDn" }')),
-    ("mojibake", bundle('a { "GrÃ¼n" }'), bundle('a { "Grün" }')),
-    ("mojibake", bundle('a { "Ã–ffnen" }'), bundle('a { "NÃO – SÃO" }')),
-    ("mixed-scripts", bundle('a { "cервер" }'), bundle('a { "сервер" }')),
-    ("mixed-scripts", bundle('a { "c\u0435rver" }'), bundle('a { "URL-адрес и Wi-Fi" }')),
-    ("missing-close-brace", bundle('a { "x"', 'b { "y" }'), bundle('a { "x" }', 'b { "y" }')),
-    ("missing-open-brace", bundle('b "x" }', 'c { "y" }'), bundle('b { "x" }', 'c { "y" }')),
-    ("missing-open-brace", bundle("a", '  b { "x" }', "}"), bundle("a {", '  b { "x" }', "}")),
-    ("bad-message", message("{0 of {1}"), message("{0} of {1}")),
-    ("bad-message", message("{n, plurl, other {x}}"), message("{n, plural, =1 {y} other {x}}")),
-    ("bad-message", message("{n, plurl, other {x}}"), message("{surname} {given-informal}")),
-    ("stray-brace", message("0} of {1}"), message("{0} of {1}")),
-    ("stray-brace", message("0} of {1}"), message("0'}' of {1}")),
-    ("quoted-argument", message("d'{0}"), message("d''{0}")),
-    ("quoted-argument", message("'{name}'"), message("'{'name'}'")),
-    ("missing-other", message("{n, plural, one {x}}"), message("{n, plural, one {x} other {y}}")),
-    (
-        "repeated-selector",
-        message("{g, select, m {x} m {y} other {z}}"),
-        message("{g, select, m {x} f {y} other {z}}"),
-    ),
-    ("unknown-selector", message("{n, plural, one {x} twos {y} other {z}}"), message("{n, plural, one {x} =2 {y} other {z}}")),
-    ("unused-category", message("{n, plural, zero {x} one {y} other {z}}"), message("{n, plural, =0 {x} one {y} other {z}}")),
-    (
-        "missing-category",
-        message("{n, plural, one {x} few {y} other {z}}", name="ru"),
-        message("{n, plural, one {x} few {y} many {w} other {z}}", name="ru"),
-    ),
-    ("bad-pattern", message("{d, date, DD.MM.YYYY}"), message("{d, date, dd.MM.y}")),
-    ("bad-pattern", message("{d, date, dd.mm.y}"), message("{d, date, HH:mm dd.MM.y}")),
-    ("bad-pattern", message("{d, time, HH:MM}"), message("{d, time, HH:mm}")),
-    ("bad-pattern", message("{d, date, TT.MM.y}"), message("{d, date, dd. 'TT' MMM y}")),
-    ("bad-pattern", message("{d, date, YYYY}"), message("{d, date, w YYYY}")),
-    ("bad-pattern", message("{n, number, #.##0,00}"), message("{n, number, #,##0.00}")),
-    ("bad-pattern", message("{n, number, #.##0}"), message("{n, number, #.00#}")),
-    (
-        "one-branch-argument",
-        message("{g, select, f {{name} came} other {came}}"),
-        message("{g, select, f {{name} came} other {{name} came}}"),
-    ),
-]
-
-# Entries of GERMAN that are those of the root, in other words.
-OWN_WORDS = {"name": 'name { "Ihr Name: " }', "page": 'page { "Seite http://example.org" }'}
-# Texts beside ROOT, in the same form.
-BESIDE = [
-    ("missing-key", beside(menu='menu { close { "Schließen" } }'), beside()),
-    ("unused-key", beside(menu='menu { open { "Öffnen" } close { "Schließen" } opne { "Öffnen" } }'), beside()),
-    ("other-type", beside(menu='menu { "Menü" }'), beside()),
-    ("alias-to-nothing", beside(hi='hi:alias { "/LOCALE/ho" }'), beside(hi='hi:alias { "/LOCALE/menu" }')),
-    ("other-length", beside(days='days { "Mo", "Di" }'), beside()),
-    ("empty-text", beside(hi='hi { "" }'), beside()),
-    ("broken-message", beside(hello='hello { "Hallo {{name}}" }'), beside()),
-    ("broken-message", beside(hello='hello { "[{{name}}]" }'), beside(hello='hello { "[{name}]" }')),
-    ("broken-message", beside(hello='hello { "Hallo {user-name}" }'), beside()),
-    ("other-placeholders", beside(size='size { "%s von %d" }'), beside()),
-    ("other-placeholders", beside(size='size { "%d" }'), beside()),
-    ("other-placeholders", beside(hello='hello { "Hallo ${name}" }'), beside(limit='limit { "8 % so" }')),
-    ("other-placeholders", beside(limit='limit { "bis 8 ${x.y}" }'), beside(limit='limit { "bis 8 ${...}" }')),
-    ("other-tags", beside(hi='hi { "<b>Hallo<b>" }'), beside()),
-    ("other-tags", beside(hi='hi { "<b>Hallo &lt;</b>" }'), beside(hi='hi { "<b >Hallo <Du></b>" }')),
-    ("other-addresses", beside(page='page { "http://exmaple.org" }'), beside(page='page { "(http://example.org), so." }')),
-    ("other-addresses", beside(page='page { "http://example.org/de" }'), beside()),
-    ("other-blanks", beside(name='name { "Name:" }'), beside()),
-    ("other-blanks", beside(name='name { " Name: " }'), beside()),
-    ("other-punctuation", beside(name='name { "Name " }'), beside()),
-    ("other-punctuation", beside(name='name { "Name. " }'), beside(name='name { "名前： " }')),
-    ("other-numbers", beside(limit='limit { "bis 9" }'), beside()),
-    ("same-text", beside(hi='hi { "<b>Hello</b>" }', **OWN_WORDS), beside(**OWN_WORDS)),
-    ("other-arguments", beside(hello='hello { "Hallo" }'), beside()),
-    ("other-arguments", beside(hello='hello { "Hallo {name} {nmae}" }'), beside()),
-    ("other-arguments", beside(until='until { "Bis {day, number}" }'), beside(until='until { "Bis {day}" }')),
-]
+WARNINGS = [(row["rule"], *texts_of(row), "entries" in row) for row in rows("lint/warnings.jsonl")]
+ROOT = bundle(*ENTRIES["root"].values(), name="root")
 
 
 def lint(resb, path, *options, stdin=b""):
@@ -188,10 +50,10 @@ def name_of(text):
     return re.search(r"^\w+", text, re.M)[0].replace("fr", "de") + ".txt"
 
 
-@pytest.mark.parametrize("at", range(len(ALONE + BESIDE)))
+@pytest.mark.parametrize("at", range(len(WARNINGS)))
 def test_each_warning_and_the_nearest_text(resb, at):
-    rule, text, nearest = (ALONE + BESIDE)[at]
-    options = ("--against", resb.put("root.txt", ROOT)) if at >= len(ALONE) else ()
+    rule, text, nearest, is_beside = WARNINGS[at]
+    options = ("--against", resb.put("root.txt", ROOT)) if is_beside else ()
     options += ("--deny", rule) if rule in OPTIONAL else ()
     if rule in SETTINGS:
         resb.put("resb.toml", SETTINGS[rule])
@@ -236,10 +98,10 @@ def test_the_page_has_each_warning(resb):
     page = (TOP / "docs" / "LINT.md").read_text(encoding="utf-8")
     rows = [(found[1], re.split(r"(?<!\\)\|", found[0])[1:-1]) for found in re.finditer(r"^\| `([a-z-]+)`: .*$", page, re.M)]
     rules = set(rules_of_program(resb))
-    assert rules == {rule for rule, _ in rows} == {case[0] for case in ALONE + BESIDE}
+    assert rules == {rule for rule, _ in rows} == {case[0] for case in WARNINGS}
     for rule, row in rows:
         for at in (1, 2):
-            shown, texts = spans(row[at]), [case[at] for case in ALONE + BESIDE if case[0] == rule]
+            shown, texts = spans(row[at]), [case[at] for case in WARNINGS if case[0] == rule]
             assert not shown or any(span in text for span in shown for text in texts), (rule, shown)
 
 
@@ -250,7 +112,7 @@ def test_names_that_allow_takes(resb):
     assert resb("lint", "--allow", "joined", "-", stdin=b"de{}").status == 2
 
 
-WRITTEN = [json.loads(line) for line in (TOP / "tests" / "lint" / "texts.jsonl").read_text(encoding="utf-8").splitlines()]
+WRITTEN = rows("lint/texts.jsonl")
 
 
 @pytest.mark.parametrize("at", range(len(WRITTEN)))
@@ -361,19 +223,11 @@ def test_formats_say_the_same(resb):
     assert (2, column) in [(place[1], place[2]) for place in found[of_text] if place[0] == "de.txt"]
 
 
-# The source's text and its translation, and whether the translation ends in the same way: by the names of the characters in Unicode and by CLDR's
-# "punctuation" exemplars. Thai, Lao and Tibetan have no full stop; Greek writes `;`.
-ENDINGS = [
-    ("Save it.", "Sichern.", True), ("Save it.", "Sichern", False), ("Save it.", "保存します。", True), ("Save it.", "सहेजें।", True), ("Save it.", "محفوظ کریں۔", True),
-    ("Save it.", "Պահպանել։", True), ("Save it.", "บันทึก", True), ("Save it.", "Sichern!", False), ("Save it.", "„Sichern.“", True), ("Save it.", "(Sichern.)", True),
-    ("max.", "max", True), ("Save?", "Αποθήκευση;", True), ("Save?", "حفظ؟", True), ("Save?", "保存しますか？", True), ("Save?", "Sichern.", False),
-    ("Name:", "Nom :", True), ("Name:", "名称：", True), ("Name:", "Name", False), ("Wait…", "Warten...", True), ("Wait...", "Warten…", True), ("Wait...", "Warten.", False),
-    ("Wait…", "Warten", False), ("Done!", "¡Listo!", True), ("Done!", "完了！", True), ("Done!", "Fertig", False), ("Done", "Fertig!", True),
-]
-
-
 def test_punctuation_at_the_end(resb):
-    root, text = (bundle(*(f'k{at} {{ "{case[side]}" }}' for at, case in enumerate(ENDINGS)), name=name) for side, name in ((0, "root"), (1, "de")))
+    """Each line of lint/endings.jsonl has the source's text, its translation, and whether that ends in the same way: by the names of the characters in
+    Unicode and by CLDR's "punctuation" exemplars. Thai, Lao and Tibetan have no full stop; Greek writes `;`."""
+    cases = rows("lint/endings.jsonl")
+    root, text = (bundle(*(f'k{at} {{ "{case[side]}" }}' for at, case in enumerate(cases)), name=name) for side, name in ((0, "root"), (1, "de")))
     _, errors = lint(resb, resb.put("de.txt", text), "--against", resb.put("root.txt", root), "--deny", "other-punctuation")
-    assert [finding["line"] - 2 for finding in errors] == [at for at, case in enumerate(ENDINGS) if not case[2]]
+    assert [finding["line"] - 2 for finding in errors] == [at for at, case in enumerate(cases) if not case[2]]
     assert {finding["rule"] for finding in errors} == {"other-punctuation"}
