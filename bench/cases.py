@@ -1,5 +1,7 @@
 """The measured cases of each table, in a folder that they fill. Those of expensive input are in hostile.py."""
 import functools
+import importlib
+import importlib.util
 import json
 import os
 import pathlib
@@ -7,20 +9,22 @@ import random
 import re
 import shutil
 import subprocess
+import sys
 import tempfile
 import time
 
 from measuring import MB, RUNS, Case, Goal, seconds
 from support import icu, texts
 from support.measured import measured
+from support.program import TOP, Skipped
 from support.server import SETTINGS, Server, line_of
 
 
 class Bench:
-    """The program, a folder, and the package of ICU's data, which is made when it is first asked for."""
+    """The program, a folder, the folder of a built library, and the package of ICU's data, which is made when it is first asked for."""
 
-    def __init__(self, program, folder, package=None):
-        self.program, self.folder, self.named = program, pathlib.Path(folder), package
+    def __init__(self, program, folder, package=None, library=None):
+        self.program, self.folder, self.named, self.library = program, pathlib.Path(folder), package, library and pathlib.Path(library).resolve()
 
     def put(self, name, data):
         path = self.folder / name
@@ -423,10 +427,81 @@ def daily_cases(bench):
     yield Case("daily", f"lines of {len(files)} files, on the clock", on_the_clock, goals=[Goal("s", 1)])
 
 
+# ---- lookups in process: libresb beside libicu, and the module resb beside PyICU
+
+LOCALE, KEYS, ROUNDS = "de_AT", ("calendar", "gregorian", "monthNames", "format", "wide"), 20_000
+
+
+def library_program(bench, *options):
+    """Returns library.c, built with the library. It chooses questions, which both libraries answer: strings at paths of five locales, from any locale."""
+    icu.need("gcc")
+    program = bench.folder / "-".join(["library", *options])
+    words = ["gcc", "-O2", "-Wall", "-D_GNU_SOURCE", *options, "-I", bench.library, TOP / "bench" / "library.c", bench.library / "libresb.a", "-licuuc"]
+    subprocess.run([*words, "-o", program], check=True)
+    return program
+
+
+def instructions(bench, files, part):
+    """Counts the instructions of a question by callgrind. Parts 0 to 2 ask those without an alias on their way, 3 to 5 the others: of libresb by name and
+    from an open locale, and of libicu."""
+    icu.need("valgrind")
+    dump = bench.folder / "dump"
+    words = ["valgrind", "--tool=callgrind", "--collect-atstart=no", f"--callgrind-out-file={dump}", library_program(bench, "-DCOUNTED"), files, str(part)]
+    printed = subprocess.run(words, check=True, capture_output=True, text=True).stdout
+    count = re.search(rf"(\d+) {'through aliases' if part > 2 else 'direct'}", printed)[1]
+    return int(re.search(r"^totals: (\d+)", dump.read_text(), flags=re.M)[1]) / int(count)
+
+
+def library_cases(bench):
+    """The turns of library.c have a figure for each library."""
+    if not bench.library:
+        raise Skipped("--library names no folder that tools/library made")
+    files = icu.files(bench.data, bench.folder)
+    printed = subprocess.run([library_program(bench), files, str(RUNS)], check=True, stdout=subprocess.PIPE, text=True).stdout
+    turns = [tuple(map(int, times)) for times in re.findall(r"resb (\d+) ns, open (\d+) ns, icu (\d+) ns", printed)]
+    for at, name in enumerate(("by name", "from an open locale")):
+        ours, theirs = (iter([turn[side] for turn in turns]) for side in (at, 2))
+        yield Case("library", f"a lookup {name}", ours.__next__, theirs.__next__, "libicu", "ns", [Goal("speed", 1.2, True)])
+        for first, kind, most in ((0, "direct", 3_000), (3, "through aliases", 7_000)):
+            yield Case("library", f"a lookup {name}, {kind}", functools.partial(instructions, bench, files, first + at),
+                       functools.partial(instructions, bench, files, first + 2), "libicu", "instructions", [Goal("instructions", most)], runs=1)
+    yield from python_cases(bench, files)
+
+
+def python_cases(bench, files):
+    """One string by the module resb, and by PyICU, whose bundle is kept: key by key, and by a path of keys."""
+    sys.path.insert(0, str(bench.library))
+    os.environ["RESB_LIBRARY"] = str(bench.library / "libresb.so.0")
+    bundles, path = importlib.import_module("resb").Bundles(), "/".join(KEYS)
+    for locale in ("root", "de", "de_AT"):
+        bundles.install("cldr", locale, pathlib.Path(files, f"{locale}.res").read_bytes())
+    pyicu = importlib.import_module("icu") if importlib.util.find_spec("icu") else None
+    kept = pyicu and pyicu.ResourceBundle(files, pyicu.Locale(LOCALE))
+
+    def ours():
+        return bundles.look("cldr", LOCALE, path + "/0")
+
+    def by(*steps):
+        return functools.reduce(lambda item, step: item.getWithFallback(step), steps, kept).get(0).getString()
+
+    def timed(call):
+        began = time.process_time()
+        for _ in range(ROUNDS):
+            call()
+        return (time.process_time() - began) / ROUNDS * 1e6
+
+    if kept and not by(*KEYS) == by(path) == ours():
+        raise SystemExit("the answers differ")
+    for name, steps in (("key by key", KEYS), ("by a path", (path,))):
+        yield Case("library", f"a lookup in Python, {name} in PyICU", lambda: timed(ours), kept and functools.partial(timed, functools.partial(by, *steps)), "PyICU",
+                   "microseconds", [Goal("time", 1.2)])
+
+
 def hostile_cases(bench):
     import hostile
 
     yield from hostile.cases(bench)
 
 
-TABLES = {"compile": compile_cases, "print": print_cases, "text": text_cases, "serve": serve_cases, "cldr": cldr_cases, "daily": daily_cases, "hostile": hostile_cases}
+TABLES = {"compile": compile_cases, "print": print_cases, "text": text_cases, "serve": serve_cases, "cldr": cldr_cases, "daily": daily_cases, "hostile": hostile_cases,
+          "library": library_cases}
