@@ -2,6 +2,7 @@
 removals; a line of 300 MB; 100,000 applications; memory under attacks; a lack of memory, also while replies wait to be written; and command lines that
 are invalid. In test_histories an application beside others that are at their limits gets the replies of one that has the server alone.
 """
+import collections
 import itertools
 import random
 import tempfile
@@ -232,25 +233,12 @@ def everything(apps, quota, largest):
         ))()
 
 
-class Fragmenter:
-    """The bundles of one application that fragments memory: it removes every second one, and fills its quota with bundles of twice the size,
-    which no hole holds. Each doubling costs half of the quota again in an allocator that never moves (Robson's bound)."""
+def locale_of(number):
+    return f"{chr(97 + number // 676 % 26)}{chr(97 + number // 26 % 26)}{chr(97 + number % 26)}_{number}"
 
-    def __init__(self, app, quota):
-        self.app, self.quota, self.made, self.live = app, quota, 0, []
 
-    def halve(self):
-        for locale, _ in self.live[::2]:
-            yield remove(self.app, locale)
-        self.live = self.live[1::2]
-
-    def fill(self, size, file):
-        held = sum(each for _, each in self.live)
-        while held + size <= self.quota and len(self.live) < 4096:
-            locale = locale_of(self.made)
-            self.made, held = self.made + 1, held + size
-            self.live.append((locale, size))
-            yield install_file(self.app, locale, file)
+def named(apps):
+    return [f"app{number}" for number in range(apps)]
 
 
 def binary_of(size):
@@ -260,92 +248,85 @@ def binary_of(size):
     return file.hex(), len(file)
 
 
-def locale_of(number):
-    return f"{chr(97 + number // 676 % 26)}{chr(97 + number // 26 % 26)}{chr(97 + number % 26)}_{number}"
+def text_of(size):
+    return 'x{a:bin{"' + "00" * (size - 100) + '"}}'
 
 
-def filled(app, size, quota, begin=0):
-    """Fills an application with bundles of one size."""
+def filled(apps, size, quota, begin=0):
+    """Fills applications, one after the other, with bundles of one size."""
     file, length = binary_of(size)
-    for number in range(begin, begin + min(4096, quota // length)):
-        yield install_file(app, locale_of(number), file)
+    return (install_file(app, locale_of(number), file) for app in apps for number in range(begin, begin + min(4096, quota // length)))
+
+
+def removed(apps, numbers):
+    return (remove(app, locale_of(number)) for app in apps for number in numbers)
+
+
+def fragmenters(apps, quota, largest):
+    """Applications that fragment memory: each removes every second bundle, and fills its quota with bundles of twice the size, which no hole holds. Each
+    doubling costs half of the quota again in an allocator that never moves (Robson's bound)."""
+    size, live, made = max(quota // 4096, 256), {app: [] for app in named(apps)}, collections.Counter()
+    while size <= largest:
+        file, length = binary_of(size)
+        for app, bundles in live.items():
+            yield from removed([app], [number for number, _ in bundles[::2]])
+            del bundles[::2]
+            held = sum(each for _, each in bundles)
+            while held + length <= quota and len(bundles) < 4096:
+                bundles.append((made[app], length))
+                yield install_file(app, locale_of(made[app]), file)
+                made[app], held = made[app] + 1, held + length
+        size *= 2
 
 
 def just_above_a_page(apps, quota, largest):
     """Bundles of one byte more than fits into a page with the allocator's head, so that each takes two."""
-    return itertools.chain.from_iterable(filled(f"app{number}", 4096, quota) for number in range(apps))
+    return filled(named(apps), 4096, quota)
 
 
 def without_maps(apps, quota, largest):
     """Half of the applications take all maps that a process may have, by bundles of a page; the others fragment the rest."""
     most, taken, half = 66_000, 0, 0
     while taken < most and half < apps:
-        requests = list(filled(f"map{half}", 4096, quota))
+        requests = list(filled([f"map{half}"], 4096, quota))
         taken, half = taken + len(requests), half + 1
         yield from requests
     yield from fragmenters(apps - half, quota, largest)
 
 
-def fragmenters(apps, quota, largest):
-    """Yields the requests of applications that all fragment their memory."""
-    attackers, size, first = [Fragmenter(f"app{number}", quota) for number in range(apps)], max(quota // 4096, 256), True
-    while size <= largest:
-        file, length = binary_of(size)
-        for attacker in attackers:
-            yield from itertools.chain(() if first else attacker.halve(), attacker.fill(length, file))
-        size, first = 2 * size, False
-
-
-def text_of(size):
-    return 'x{a:bin{"' + "00" * (size - 100) + '"}}'
-
-
 def texts_beside(apps, quota, largest):
     """Bundles that come as texts, for whose files more memory is reserved than they need, each replaced by a longer one."""
     for size in (1100, 2100, 4200, 8300, 16500, 33000):
-        count = min(4096, quota // size)
-        for app in range(apps):
-            for number in range(count):
-                yield (install if size == 1100 else replace)(f"app{app}", locale_of(number), text_of(size))
-        for app in range(apps):
-            for number in range(min(4096, quota // (2 * size)), count):
-                yield remove(f"app{app}", locale_of(number))
+        change, count = install if size == 1100 else replace, min(4096, quota // size)
+        yield from (change(app, locale_of(number), text_of(size)) for app in named(apps) for number in range(count))
+        yield from removed(named(apps), range(min(4096, quota // (2 * size)), count))
 
 
 def two_sizes(apps, quota, largest):
     """Applications that take turns: small bundles of all, then every 16th stays and large ones fill the gaps, over and over."""
-    for turn in range(4):
-        sizes = (300, 3900) if turn % 2 == 0 else (1000, 60000)
-        for app in range(apps):
-            yield from filled(f"app{app}", sizes[0], quota)
-        for app in range(apps):
-            count = min(4096, quota // sizes[0])
-            yield from (remove(f"app{app}", locale_of(number)) for number in range(count) if number % 16)
-            yield from filled(f"app{app}", sizes[1], quota - quota // 8, 5000)
-        for app in range(apps):
-            yield from (remove(f"app{app}", locale_of(number)) for number in range(10000))
+    for small, large in [(300, 3900), (1000, 60000)] * 2:
+        yield from filled(named(apps), small, quota)
+        for app in named(apps):
+            yield from removed([app], (number for number in range(min(4096, quota // small)) if number % 16))
+            yield from filled([app], large, quota - quota // 8, 5000)
+        yield from removed(named(apps), range(10000))
 
 
 def names_that_come_and_go(apps, quota, largest):
     """Applications with names of 64 letters, of which each has a bundle for a moment, beside ones that stay."""
-    yield from itertools.chain.from_iterable(filled(f"app{number}", 300, quota) for number in range(apps - 1))
-    for turn in range(200_000):
-        app = f"{turn:064d}"
-        yield install(app, "de", "x{}")
-        yield remove(app, "de")
+    yield from filled(named(apps - 1), 300, quota)
+    for app in (f"{turn:064d}" for turn in range(200_000)):
+        yield from (install(app, "de", SMALL), remove(app, "de"))
 
 
 def longest_lines(apps, quota, largest):
     """Yields the longest lines of each kind beside applications that are full."""
-    yield from itertools.chain.from_iterable(filled(f"app{number}", 100_000, quota) for number in range(apps))
-    wide = "x{a{" + "b," * (largest // 2 - 10) + "}}"
+    yield from filled(named(apps), 100_000, quota)
+    texts = ("x{a{" + "b," * (largest // 2 - 10) + "}}", "x{" + "".join(f"k{i}{{}}" for i in range(largest // 9)) + "}",
+             "x{a{" + ("{" * 50 + "}" * 50) * (largest // 101) + "}}")
     for turn in range(8):
-        yield replace("app0", locale_of(turn), wide)
-        yield replace("app0", locale_of(turn), "x{" + "".join(f"k{i}{{}}" for i in range(largest // 9)) + "}")
-        yield replace("app0", locale_of(turn), "x{a{" + ("{" * 50 + "}" * 50) * (largest // 101) + "}}")
-        yield names("app0")
-        yield b'{"op":"' + b"\\u0061" * (largest // 4) + b'"}'
-        yield b"[" * largest
+        yield from (replace("app0", locale_of(turn), text) for text in texts)
+        yield from (names("app0"), b'{"op":"' + b"\\u0061" * (largest // 4) + b'"}', b"[" * largest)
 
 
 def at_random(apps, quota, largest):
@@ -362,33 +343,28 @@ def one_bundle_each(apps, quota, largest):
     locale = ("aa_Latn_US_" + "_".join(f"{part:08d}" for part in range(16)))[:64]
     for size in (60, 4096, 60, largest - 200, 4097, largest - 200):
         file = binary_of(size)[0]
-        for app in range(apps):
-            request = install_file(f"{app:064d}", locale, file)
-            yield {**request, "op": "replace"}
-            yield request
+        for request in (install_file(f"{app:064d}", locale, file) for app in range(apps)):
+            yield from ({**request, "op": "replace"}, request)
 
 
 def up_and_down(apps, quota, largest):
     """Bundles of sizes that grow and shrink again, of which a quarter stays each time until the next but one."""
     sizes = [round(300 * 1.7 ** power) for power in range(16) if 300 * 1.7 ** power < largest]
     for turn, size in enumerate(sizes + sizes[::-1]):
-        for app in range(apps):
-            begin = turn % 3 * 10_000
-            yield from (remove(f"app{app}", locale_of(number)) for number in range(begin, begin + min(4096, quota // size)))
-            yield from filled(f"app{app}", size, quota, begin)
-            yield from (remove(f"app{app}", locale_of(number)) for number in range(begin, begin + min(4096, quota // size)) if number % 4)
+        begin = turn % 3 * 10_000
+        numbers = range(begin, begin + min(4096, quota // size))
+        for app in named(apps):
+            yield from (*removed([app], numbers), *filled([app], size, quota, begin), *removed([app], (number for number in numbers if number % 4)))
 
 
 def refused_lines(apps, quota, largest):
     """Requests that are refused late: files and texts with a fault at the end, a byte more than the quota, and replies that are too long."""
-    yield from itertools.chain.from_iterable(filled(f"app{number}", 60_000, quota) for number in range(apps))
-    fault = "x{" + "".join(f"k{i}{{}}" for i in range(largest // 12)) + "k1{}}"
-    deep = "x{a" + "{" * 64 + "}" * 64 + "}"
-    for turn in range(40):
-        app = f"app{turn % apps}"
-        for text in (fault, deep, text_of(largest - 60), "x{a{" + '"b",' * (largest // 8) + '}}"'):
-            yield replace(app, locale_of(turn), text)
-        yield {"op": "look", "app": app, "locale": locale_of(turn), "path": ""}
+    yield from filled(named(apps), 60_000, quota)
+    texts = ("x{" + "".join(f"k{i}{{}}" for i in range(largest // 12)) + "k1{}}", "x{a" + "{" * 64 + "}" * 64 + "}", text_of(largest - 60),
+             "x{a{" + '"b",' * (largest // 8) + '}}"')
+    for turn, app in zip(range(40), itertools.cycle(named(apps))):
+        yield from (replace(app, locale_of(turn), text) for text in texts)
+        yield look(app, locale_of(turn), "")
 
 
 # the strategy, and the applications, their MB and the MB of a bundle; all but the first two by hand
