@@ -328,13 +328,25 @@ def test_in_place(at, row):
         assert at.get("de.txt").decode() == row["after"]
 
 
-def test_values(at):
-    at.put("en.txt", 'en { n:int { 5 } v:intvector { 1, 2 } b:bin { 00ff } x { "X" } l { "a", :int { 1 } } t:table { } }')
-    at.put("de.txt", 'de {\n  n : int { 7 } // seven\n  x { "Y" }\n}\n')
-    status, _, said = at.translate({"x": "Z"}, "--values")
-    assert (status, said) == (0, "de.txt: 1 set, 1 not in the file\n")
-    wanted = 'de {\n  n:int { 5 } // seven\n  v:intvector { 1, 2 }\n  b:bin { "00ff" }\n  x { "Z" }\n  t:table { }\n}\n'
-    assert at.get("de.txt").decode() == wanted
+@pytest.mark.parametrize("row", rows("exchange/sessions.jsonl"), ids=lambda row: row["name"])
+def test_session(at, row):
+    """A row has "files", and steps that call the tool with "args": the "status" (0 if left out), what is "said" or parts of it ("says"), members of the
+    "json" that is printed ("-") or in a file, parts that a file "has", whole "texts", and "trees" of texts."""
+    need_modules(*row.get("needs", ()))
+    for name, data in row.get("files", {}).items():
+        at.put(name, data)
+    for step in row["steps"]:
+        status, printed, said = at.tool(*step["args"])
+        assert (status, said) == (step.get("status", 0), step.get("said", said))
+        assert [part for part in step.get("says", ()) if part not in said] == []
+        for name, members in step.get("json", {}).items():
+            found = json.loads(printed if name == "-" else at.get(name))
+            assert {member: found[member] for member in members} == members
+        assert [part for name, parts in step.get("has", {}).items() for part in parts if part not in at.get(name).decode()] == []
+        for name, text in step.get("texts", {}).items():
+            assert at.get(name).decode() == text
+        for name, tree in step.get("trees", {}).items():
+            assert at.tree(name) == tree
 
 
 @pytest.mark.parametrize("seed", range(6))
@@ -373,57 +385,6 @@ def plain_tree(item):
 
 
 # --- What is printed, and what is written
-
-
-def test_counts_and_report(at):
-    at.put("in.json", json.dumps([
-        {"id": "hello", "target": "Na, {name}?"},
-        {"id": "days/0", "target": "Mo", "state": "fuzzy"},
-    ]))
-    status, printed, said = at.bring("json", "--report", "-", file="in.json")
-    assert status == 0
-    assert said == "in.json:1: days/0: fuzzy, skipped\nde.txt: 1 set, 1 fuzzy skipped, 1 not in the file\n"
-    report = json.loads(printed)
-    assert (report["set"], report["absent"], report["done"], report["errors"]) == (["hello"], ["days/1"], True, [])
-    assert report["skipped"] == [{"id": "days/0", "line": 1, "state": "fuzzy"}]
-
-
-def test_report_of_a_refusal(at):
-    status, _, said = at.translate({"none": "x"}, "--report", "report.json")
-    assert status == 1
-    report = json.loads(at.get("report.json"))
-    assert (report["done"], report["errors"]) == (False, said.splitlines())
-
-
-@pytest.mark.parametrize("options, source, target", [
-    ((), "en", "de"),
-    (("--source-language", "en-GB", "--target-language", "de-CH"), "en-GB", "de-CH"),
-])
-def test_languages(at, options, source, target):
-    for kind, wanted in {
-        "xliff1": f'source-language="{source}" target-language="{target}"',
-        "xliff2": f'srcLang="{source}" trgLang="{target}"',
-        "properties": f"# en.txt, from {source} to {target}; UTF-8",
-    }.items():
-        at.export(kind, "en.txt", "de.txt", *options)
-        assert wanted in at.get("out").decode()
-    if "po" in FORMATS:
-        at.export("po", "en.txt", "de.txt", *options)
-        text = at.get("out").decode()
-        assert f'"Language: {target.replace("-", "_")}\\n"' in text
-        assert f'"X-Source-Language: {source.replace("-", "_")}\\n"' in text
-
-
-def test_a_root_is_english_by_an_option(at):
-    at.put("root.txt", 'root { a { "A" } }')
-    at.export("xliff2", "root.txt")
-    assert 'srcLang="und"' in at.get("out").decode()
-    at.export("xliff2", "root.txt", "de.txt", "--source-language", "en")
-    assert 'srcLang="en"' in at.get("out").decode()
-    assert at.bring("xliff2", source="root.txt")[0] == 0
-    status, _, said = at.bring("xliff2", "--source-language", "fr", source="root.txt")
-    assert status == 1
-    assert "out:3: its source is in en, and root.txt is in fr" in said
 
 
 def test_an_edit_while_it_runs(at):
@@ -508,14 +469,6 @@ def test_an_unchanged_text_is_not_written(at):
     assert os.stat(at.path("de.txt")).st_mtime == 1
 
 
-def test_inline_codes(at):
-    target = '<pc id="1" dispStart="&lt;b&gt;" dispEnd="&lt;/b&gt;">Na</pc>, <ph id="2" disp="{name}"/>'
-    unit = f'<unit id="u" name="hello"><segment><source>x</source><target>{target}</target></segment></unit>'
-    at.put("in.xlf", f'<xliff xmlns="urn:oasis:names:tc:xliff:document:2.0" version="2.0"><file id="f">{unit}</file></xliff>')
-    assert at.bring("xliff2", file="in.xlf")[0] == 0
-    assert at.tree("de.txt") == {"hello": "<b>Na</b>, {name}", "n": 7}
-
-
 def test_a_pipe_is_written_through(at):
     os.mkfifo(at.path("pipe"))
     reader = subprocess.Popen(["cat", at.path("pipe")], stdout=subprocess.PIPE)
@@ -554,25 +507,6 @@ def test_strings_that_a_format_cannot_have(at, kind):
         assert not os.path.exists(at.path("out"))
 
 
-def test_bad_texts(at):
-    at.put("bad.txt", "de{\na{")
-    status, _, said = at.tool("export", "--format", "json", "--source", "en.txt", "--target", "bad.txt")
-    assert (status, said) == (1, "bad.txt:2: Unexpected\n")
-
-
-def test_arguments_may_be_allowed(at):
-    assert at.translate({"hello": "Hallo"})[0] == 1
-    assert at.translate({"hello": "Hallo"}, "--any-arguments")[0] == 0
-
-
-def test_an_escape_before_a_comment(at):
-    """The escape ends at the comment, so the key is `y 1`."""
-    at.put("en.txt", 'en { y\\40/*c*/1 { "Y" } }')
-    assert at.tree("en.txt") == {"y 1": "Y"}
-    at.export("json")
-    assert [one["id"] for one in json.loads(at.get("out"))] == ["y 1"]
-
-
 # --- Costs: what is written is at most a multiple of what is read, and what is read takes linear time
 
 
@@ -583,13 +517,6 @@ def test_notes_of_an_array_are_written_once(at, kind):
     at.put("en.txt", "en { " + comments + "a { " + '"x",' * count + " } }")
     at.export(kind)
     assert len(at.get("out")) < 100 * len(at.get("en.txt"))
-
-
-def test_long_ids(at):
-    at.put("en.txt", "en {\n" + "k" * 1001 + ' { "x" } }')
-    status, _, said = at.tool("export", "--format", "json", "--source", "en.txt", "--target", "de.txt")
-    assert status == 1
-    assert re.fullmatch(r"en.txt:2: k{40}\.\.: an id of more than 1000 characters\n", said)
 
 
 HOSTILE = {
