@@ -33,6 +33,7 @@ import functools
 import importlib.machinery
 import importlib.util
 import os
+import pathlib
 import re
 import shutil
 import subprocess
@@ -42,10 +43,11 @@ import time
 from concurrent.futures import ThreadPoolExecutor
 from dataclasses import dataclass, field
 
-TOP = os.path.dirname(os.path.dirname(os.path.abspath(__file__)))
+CRATES = pathlib.Path(__file__).resolve().parent.parent / "crates"
 RT = os.environ.get("RT", "rt")
 # A proof by hand that names what the text no longer has says nothing of a contract.
 NAMES = re.compile(r"has no field|is not in scope|has no `|was not admitted|is no name|expected the end|operand is missing")
+TRAIT = re.compile(r"(?:pub )?trait (\w+)")
 FN = re.compile(r'( *)(?:pub(?:\([^)]*\))? )?(?:const )?(?:unsafe )?(?:extern "C" )?fn (\w+)')
 IMPL = re.compile(r"impl(?:<[^{]*?>)? (?:(.+) for )?(.+?) \{$")
 
@@ -84,12 +86,11 @@ def functions_of(path, text):
     module = tuple(it for it in re.sub(r"^src/|\.rt$", "", path).split("/") if it not in ("lib", "main"))
     lines, found, owner, owner_end = text.split("\n"), [], "", -1
     for at, line in enumerate(lines):
-        head = IMPL.match(line)
-        if head or re.match(r"(?:pub )?trait (\w+)", line):
-            name = head[2] if head else re.match(r"(?:pub )?trait (\w+)", line)[1]
-            owner, owner_end = re.sub(r"<.*", "", name).split("::")[-1].strip("&' "), closing(lines, at, "")
+        head = IMPL.match(line) or TRAIT.match(line)
+        if head:
             # an impl for () has no owner
-            owner = (re.findall(r"\w+", owner) or [""])[-1]
+            owner = (re.findall(r"\w+", re.sub(r"<.*", "", head[head.lastindex]).split("::")[-1]) or [""])[-1]
+            owner_end = closing(lines, at, "")
         start = FN.match(line)
         if start:
             found.append(Function(module, owner if start[1] and at <= owner_end else "", start[2], at, closing(lines, at, start[1])))
@@ -116,35 +117,27 @@ def function_at(functions, line):
 
 def read_edit(label, path, crate):
     """Reads an edit against the crate's files."""
-    edit, file, old = Edit(label, []), "", None
-    with open(path, encoding="utf-8") as it:
-        for line in it.read().split("\n"):
-            if line.startswith("file: "):
-                file = line[6:].strip()
-            elif line.startswith("old: "):
-                old = line[5:]
-            elif line.startswith("new:") and file and old:
-                edit.texts.append((file, old, line[5:]))
-                old = None
-    texts = {}
+    edit, file, old, texts = Edit(label, []), "", "", {}
+    for word, text in re.findall(r"^(file|old|new):[ ]?(.*)$", path.read_text(encoding="utf-8"), re.M):
+        if word == "file":
+            file = text.strip()
+        elif word == "old":
+            old = text
+        elif file and old:
+            edit.texts.append((file, old, text))
+            old = ""
     for file, old, new in edit.texts:
-        if file not in texts:
-            try:
-                with open(f"{crate}/{file}", encoding="utf-8") as it:
-                    texts[file] = it.read()
-            except OSError:
-                edit.fault = f"there is no file {file}"
-                return edit
-        if texts[file].count(old) != 1:
-            edit.fault = f"an 'old:' text stands {texts[file].count(old)} times in {file}"
+        if not (crate / file).is_file():
+            edit.fault = f"there is no file {file}"
             return edit
-        line = texts[file][: texts[file].index(old)].count("\n")
-        function = function_at(functions_of(file, texts[file]), line) if file.startswith("src/") else None
-        if function:
-            edit.functions.add((file, function))
-        else:
-            edit.is_loose = True
-        texts[file] = texts[file].replace(old, new)
+        text = texts.setdefault(file, (crate / file).read_text(encoding="utf-8"))
+        if text.count(old) != 1:
+            edit.fault = f"an 'old:' text stands {text.count(old)} times in {file}"
+            return edit
+        function = function_at(functions_of(file, text), text[: text.index(old)].count("\n")) if file.startswith("src/") else None
+        edit.functions |= {(file, function)} if function else set()
+        edit.is_loose = edit.is_loose or not function
+        texts[file] = text.replace(old, new)
     if not edit.texts:
         edit.fault = "it has no pair of 'old:' and 'new:'"
     return edit
@@ -174,8 +167,7 @@ def run(words, folder):
 @functools.lru_cache(maxsize=None)
 def rtlib():
     """Loads the toolchain's module beside `rt`, which knows how a crate is checked."""
-    path = f"{os.path.dirname(os.path.realpath(shutil.which(RT)))}/rtlib.py"
-    loader = importlib.machinery.SourceFileLoader("rtlib", path)
+    loader = importlib.machinery.SourceFileLoader("rtlib", f"{os.path.dirname(os.path.realpath(shutil.which(RT)))}/rtlib.py")
     made = importlib.util.module_from_spec(importlib.util.spec_from_loader("rtlib", loader))
     sys.modules["rtlib"] = made
     loader.exec_module(made)
@@ -185,7 +177,7 @@ def rtlib():
 
 @functools.lru_cache(maxsize=None)
 def named(crate):
-    return next(it for it in rtlib().crates_below(TOP) if it.name == crate)
+    return next(it for it in rtlib().crates_below(str(CRATES.parent)) if it.name == crate)
 
 
 def path_of(function):
@@ -197,20 +189,14 @@ def users_of(edit, crate):
     """Returns the functions whose text names the constant that a mutant changes, or none if it changes another item."""
     words, found = set(), set()
     for file, old, _ in edit.texts:
-        with open(f"{TOP}/crates/{crate}/{file}", encoding="utf-8") as it:
-            text = it.read()
-        item = text[: text.index(old) + len(old)]
-        words |= set(re.findall(r"\b(?:const|static) (\w+):", item)[-1:])
-    for at, _, names in os.walk(f"{TOP}/crates/{crate}/src"):
-        for name in names:
-            file = os.path.relpath(f"{at}/{name}", f"{TOP}/crates/{crate}")
-            with open(f"{at}/{name}", encoding="utf-8") as it:
-                text = it.read()
-            lines = text.split("\n")
+        text = (CRATES / crate / file).read_text(encoding="utf-8")
+        words |= set(re.findall(r"\b(?:const|static) (\w+):", text[: text.index(old) + len(old)])[-1:])
+    for path in (CRATES / crate / "src").rglob("*") if words else ():
+        if path.is_file():
+            file, text = str(path.relative_to(CRATES / crate)), path.read_text(encoding="utf-8")
             for function in functions_of(file, text):
-                body = "\n".join(lines[function.first : function.last + 1])
-                if any(re.search(rf"\b{it}\b", body) for it in words):
-                    found.add((file, function))
+                body = "\n".join(text.split("\n")[function.first : function.last + 1])
+                found |= {(file, function)} if any(re.search(rf"\b{it}\b", body) for it in words) else set()
     return found
 
 
@@ -218,36 +204,26 @@ class Copy:
     """A copy of one crate, in which mutants are tried over the libraries that `rt ci` left."""
 
     def __init__(self, folder, crate):
-        self.name, self.crate, self.kept = crate, f"{folder}/{crate}", f"{folder}/kept"
+        self.name, self.crate, self.kept = crate, pathlib.Path(folder, crate), pathlib.Path(folder, "kept")
         for part in ("src", "specs", "proofs"):
-            if os.path.isdir(f"{TOP}/crates/{crate}/{part}"):
-                shutil.copytree(f"{TOP}/crates/{crate}/{part}", f"{self.crate}/{part}")
+            if (CRATES / crate / part).is_dir():
+                shutil.copytree(CRATES / crate / part, self.crate / part)
 
     def check(self, edits):
         """Checks the crate with some mutants; returns what the check printed."""
-        texts = {}
-        for edit in edits:
-            for file, old, new in edit.texts:
-                if file not in texts:
-                    with open(f"{self.crate}/{file}", encoding="utf-8") as it:
-                        text = it.read()
-                        texts[file] = [text, text]
-                texts[file][1] = texts[file][1].replace(old, new, 1)
+        files = {file: (self.crate / file).read_text(encoding="utf-8") for edit in edits for file, _, _ in edit.texts}
         try:
-            for file, (_, text) in texts.items():
-                with open(f"{self.crate}/{file}", "w", encoding="utf-8") as it:
-                    it.write(text)
+            for file, old, new in (text for edit in edits for text in edit.texts):
+                path = self.crate / file
+                path.write_text(path.read_text(encoding="utf-8").replace(old, new, 1), encoding="utf-8")
             return self.run(edits)
         finally:
-            for file, (text, _) in texts.items():
-                with open(f"{self.crate}/{file}", "w", encoding="utf-8") as it:
-                    it.write(text)
+            for file, text in files.items():
+                (self.crate / file).write_text(text, encoding="utf-8")
 
     def run(self, edits):
-        only = set()
-        for edit in edits:
-            only |= {path_of(it) for _, it in edit.functions} or {""}
-        words = [rtlib().RATTLE, "check", *named(self.name).words(["--jobs", "1"], keeps=False), "--incremental", self.kept]
+        only = set().union(*({path_of(it) for _, it in edit.functions} or {""} for edit in edits))
+        words = [rtlib().RATTLE, "check", *named(self.name).words(["--jobs", "1"], keeps=False), "--incremental", str(self.kept)]
         for paths in (only, {it.rpartition("::")[0] for it in only}, {""}):
             flags = [it for path in sorted(paths) for it in ("--only", path)] if "" not in paths else []
             status, said = run([*rtlib().guarded(), *words, *flags], self.crate)
@@ -349,25 +325,17 @@ def try_crate(crate, edits, end):
     return refused, len(edits) - refused, 0
 
 
-def edits_in(crate, name):
-    """Returns the edits of a crate that are in one of its folders."""
-    folder = f"{TOP}/crates/{crate}/{name}"
-    names = sorted(os.listdir(folder)) if os.path.isdir(folder) else []
-    return [read_edit(f"{crate}/{name}/{it}", f"{folder}/{it}", f"{TOP}/crates/{crate}") for it in names if it.endswith(".edit")]
-
-
-def folders_of(given):
-    """Returns the names of the folders whose mutants are tried."""
-    if given.gate:
-        return ("gate",)
-    return ("gate", "edits", "must-fail") if given.all else ("edits",)
+def edits_of(crate, folders):
+    """Returns the edits of a crate that are in some of its folders."""
+    paths = (path for name in folders for path in sorted((CRATES / crate / name).glob("*.edit")))
+    return [read_edit(str(path.relative_to(CRATES)), path, CRATES / crate) for path in paths]
 
 
 def parsed():
     said = argparse.ArgumentParser(description=__doc__, formatter_class=argparse.RawDescriptionHelpFormatter)
     which = said.add_mutually_exclusive_group()
-    which.add_argument("--gate", action="store_true")
-    which.add_argument("--all", action="store_true")
+    which.add_argument("--gate", dest="folders", action="store_const", const=("gate",), default=("edits",))
+    which.add_argument("--all", dest="folders", action="store_const", const=("gate", "edits", "must-fail"))
     said.add_argument("--jobs", type=int, default=1)
     said.add_argument("--within", type=float, default=float("inf"))
     said.add_argument("crates", nargs="*")
@@ -376,23 +344,17 @@ def parsed():
 
 def main():
     given = parsed()
-    with open(f"{TOP}/crates.txt") as it:
-        lines = [line.split("#")[0].partition(":") for line in it if ":" in line.split("#")[0]]
-    listed = [name.split()[0] for name, _, _ in lines]
+    listed = re.findall(r"^([^#:\s]+)[^#:\n]*:", (CRATES.parent / "crates.txt").read_text(encoding="utf-8"), re.M)
     unknown = [it for it in given.crates if it not in listed]
     if unknown:
         sys.exit(f"edits: no crate {unknown[0]}")
     rtlib()  # sets a signal handler, which only the main thread may do
-    tasks = []
-    for crate in given.crates or listed:
-        edits = [edit for folder in folders_of(given) for edit in edits_in(crate, folder)]
-        if edits:
-            tasks.append((crate, edits))
+    tasks = [(crate, edits) for crate in given.crates or listed if (edits := edits_of(crate, given.folders))]
     # the checks of one crate share what they keep, so crates run side by side
     with ThreadPoolExecutor(max(1, given.jobs)) as pool:
         end = time.monotonic() + 60 * given.within
         found = list(pool.map(lambda task: try_crate(*task, end), tasks))
-    refused, others, left = (sum(it[at] for it in found) for at in (0, 1, 2))
+    refused, others, left = map(sum, zip((0, 0, 0), *found))
     print(f"{refused} refused, {others} not" + (f", {left} not tried" if left else ""))
     return 1 if others else 0
 

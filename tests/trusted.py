@@ -21,7 +21,7 @@ import pathlib
 import re
 import sys
 
-CRATES = pathlib.Path(__file__).resolve().parent.parent / "crates"
+from support.contracts import CRATES, exported, lines_of
 
 # Parts of crates beyond the core: all, or some types, functions and clauses (FUNCTION.CLAUSE).
 BEYOND = json.loads(pathlib.Path(__file__).with_suffix(".json").read_text(encoding="utf-8"))
@@ -118,15 +118,6 @@ def blocks(file, text):
         yield Definition(file, lines, started)
 
 
-def exported(crate):
-    """Returns the names that lib.rt makes public, and its public modules."""
-    text = (CRATES / crate / "src" / "lib.rt").read_text()
-    names = set()
-    for group in re.findall(r"^pub use ([^;]*);", text, re.M):
-        names |= set(re.findall(r"\w+", group))
-    return names, set(re.findall(r"^pub mod (\w+);", text, re.M))
-
-
 def is_beyond(crate, owner, function, clause):
     """Returns whether a clause is beyond the core."""
     beyond = BEYOND.get(crate, set())
@@ -134,33 +125,20 @@ def is_beyond(crate, owner, function, clause):
 
 
 def contracts(crate, of_laws, with_private):
-    """Each clause of a crate's public calls, or of its laws: its text, the scope of its file, and whether it is beyond the core."""
-    names, modules = exported(crate)
+    """Yields each clause of a crate's public calls, or of its laws: its text, the scope of its file, and whether it is beyond the core."""
+    names, modules = exported(CRATES / crate)
     for file in sorted((CRATES / crate / "src").glob("**/*.rt")):
         if (file.stem in modules) != of_laws:
             continue
         text = file.read_text()
-        scope = Scope(text)
-        opaque = opaque_types(text)
-        owner = None
-        is_inherent = False
-        function = None
-        for line in clauses_joined(text):
-            block = re.match(r"(?:pub )?(?:unsafe )?(impl|trait)\b(?:<[^>]*>)? *(.* for )?&?(\w+)", line)
-            if block:
-                owner = block[3]
-                is_inherent = block[1] == "impl" and not block[2]
-            elif line.startswith("}"):
-                owner = None
-            signature = re.match(r"\s*(pub |pub\(crate\) |)(const |unsafe |extern \"C\" )*fn (\w+)", line)
-            if signature:
-                name = signature[3]
-                function = is_public(signature, owner, is_inherent, file.stem, names, modules)
-                function = function or (with_private and signature[1] == "pub(crate) ")
+        scope, opaque, name, is_shown = Scope(text), opaque_types(text), "", False
+        for line, owner, function, is_public in lines_of(CRATES / crate, file):
+            if function:
+                name, is_shown = function["name"], is_public or (with_private and function["access"] == "pub(crate) ")
             clause = re.match(r"\s*(ensures|requires)\*? *(\w*)(.*)", line)
             shown = re.match(r"\s*ghost (?!use|invariant|inverse|coded)(\w+)(.*)", line)
-            if clause and function:
-                yield clause[3], scope, is_beyond(crate, owner, name, clause[2])
+            if clause and is_shown:
+                yield clause[3], scope, is_beyond(crate, owner or None, name, clause[2])
             elif shown and owner in names and (with_private or shown[1] not in hidden_items(owner in opaque)):
                 yield shown[2], scope, is_beyond(crate, owner, None, None)
 
@@ -174,25 +152,6 @@ def opaque_types(text):
 def hidden_items(is_opaque):
     """Returns the ghost items of a type that a reader needn't believe."""
     return {"size_decreases", "also_owns"} | ({"view"} if is_opaque else set())
-
-
-def clauses_joined(text):
-    """Yields the lines of a source, with each clause in one line."""
-    held = ""
-    for line in text.splitlines():
-        held = f"{held} {line.strip()}" if held else line
-        if re.match(r"\s*(ensures|requires|ghost)\b", held) and held.count("{") > held.count("}"):
-            continue
-        yield held
-        held = ""
-
-
-def is_public(signature, owner, is_inherent, module, names, modules):
-    """Checks whether a function can be called from outside: one of a trait, an export to C, any other only if it is `pub`."""
-    if owner:
-        return owner in names and (signature[1] == "pub " or not is_inherent)
-    is_export = signature[2] == 'extern "C" '
-    return signature[1] == "pub " and (is_export or signature[3] in names or module in modules)
 
 
 def cited(words, scope, own, found):
