@@ -50,8 +50,7 @@ class Bench:
     def cldr_trees(self):
         """The paths of the texts of locales: CLDR's main data, then those of regions, units and zones."""
         others = (icu.texts(self.data, self.folder, tree) for tree in ("region", "unit", "zone"))
-        paths = (pathlib.Path(path) for tree in (self.cldr_texts, *others) for path in tree)
-        return [path for path in paths if icu.is_locale(path.stem)]
+        return [path for tree in (self.cldr_texts, *others) for path in tree if icu.is_locale(path.stem)]
 
     @functools.cached_property
     def cldr_files(self):
@@ -392,7 +391,7 @@ def cldr_cases(bench):
 
 def extended_cases(bench):
     """Trees and exports of `resb serve --extended`, over CLDR's texts."""
-    sources = [path for path in map(pathlib.Path, bench.cldr_texts) if icu.is_locale(path.stem)]
+    sources = [path for path in bench.cldr_texts if icu.is_locale(path.stem)]
     puts = (lines([{"op": "put", "app": "cldr", "locale": path.stem, "text": path.read_text(encoding="utf-8")}]) for path in sources)
     asked = Asked([bench.program, "serve", "--extended"], b"".join(puts), True)
     for locale, goals in (("de_AT", [Goal("ms", 5)]), ("root", [])):
@@ -413,8 +412,8 @@ def daily_cases(bench):
         # those of earlier runs stay, since ext4 is slow to make files soon after many were deleted
         return tempfile.mkdtemp(prefix=name, dir=bench.folder)
 
-    words = [genrb, "-q", "-e", "UTF-8", "--formatVersion", "1", "-s", os.path.dirname(sources[0])]
-    names = [os.path.basename(text) for text in sources]
+    words = [genrb, "-q", "-e", "UTF-8", "--formatVersion", "1", "-s", sources[0].parent]
+    names = [text.name for text in sources]
     yield Case("daily", f"compile --to of {len(sources)} texts", lambda: seconds([bench.program, "compile", "-q", "--to", fresh("ours"), *sources]),
                genrb and (lambda: seconds([*words, "-d", fresh("theirs"), *names])), "one genrb", goals=[Goal("time", 0.6)])
     files = [f"de_a{number:05}={path}" for number, path in enumerate(bench.cldr_files)]

@@ -72,7 +72,7 @@ class Batch:
     def genrb(self, texts, folder):
         """Compiles texts, whose bundles have the names of their files; of one alone the bundle may have another name."""
         path = self.path(folder, "").parent
-        icu.genrb(list(map(str, texts)), path)
+        icu.genrb(list(texts), path)
         made = os.listdir(path)
         if len(self.texts) == 1 and len(made) == 1:
             os.rename(path / made[0], self.path(folder, next(iter(self.texts))))
@@ -240,9 +240,9 @@ class Tree:
     """The bundles of a tree, in both servers."""
 
     def __init__(self, name, data, folder, program, server):
-        texts = [text for text in icu.texts(data, folder, name) if icu.is_locale(stem(text))]
+        texts = [text for text in icu.texts(data, folder, name) if icu.is_locale(text.stem)]
         run([program, "compile", "-q", "--to", folder / name, *texts])
-        self.name, self.files = name, {stem(text): pathlib.Path(text).with_suffix(".res").read_bytes() for text in texts}
+        self.name, self.files = name, {text.stem: text.with_suffix(".res").read_bytes() for text in texts}
         self.resb = [program, "serve"]
         self.libicu = [server, "ICUDATA" if name == "main" else f"ICUDATA-{name}", "indexes"]
         self.installs = [{"op": "install", "app": name, "locale": locale, "file": file.hex()} for locale, file in sorted(self.files.items())]

@@ -121,12 +121,12 @@ def test_layout(resb, style):
 def test_cldr(resb, tmp_path):
     """One character removed from CLDR's de.txt, and every 30th of its texts in all styles."""
     texts = icu.texts(icu.package(tmp_path), tmp_path)
-    german = next(pathlib.Path(path) for path in texts if path.endswith("/de.txt")).read_text(encoding="utf-8")
+    german = next(path for path in texts if path.name == "de.txt").read_text(encoding="utf-8")
     for character, (bound, _) in FOUND.items():
         assert found(resb, german, character, 60)[0] >= bound
     for path in texts[::30]:
-        for text in layouts.laid_out(pathlib.Path(path).read_text(encoding="utf-8")).values():
-            assert lint_lines(resb, resb.put(os.path.basename(path), text)) == []
+        for text in layouts.laid_out(path.read_text(encoding="utf-8")).values():
+            assert lint_lines(resb, resb.put(path.name, text)) == []
 
 
 @pytest.mark.hand

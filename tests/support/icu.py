@@ -1,6 +1,5 @@
 """The installed ICU: the package of its data, the texts and files in it, genrb, derb, and a line server over libicu."""
 import functools
-import glob
 import os
 import pathlib
 import re
@@ -35,12 +34,12 @@ def data_library() -> tuple[str, str]:
     return found[1], found[2]
 
 
-def texts(data: str, folder: object, tree: str | None = None) -> list[str]:
+def texts(data: str, folder: object, tree: str | None = None) -> list[pathlib.Path]:
     """Returns the paths of a tree's bundles as texts, which are written into a folder; without a tree of those at the top."""
-    into = os.path.join(str(folder), tree or "texts")
+    into = pathlib.Path(str(folder), tree or "texts")
     words = ["--tree", tree] if tree else []
     subprocess.run([sys.executable, TOP / "tools" / "icu2text", "--package", data, *words, "--to", into], check=True)
-    return sorted(glob.glob(os.path.join(into, "*.txt")))
+    return sorted(into.glob("*.txt"))
 
 
 def is_locale(name: str) -> bool:
@@ -53,14 +52,14 @@ def files(data: str, folder: object) -> str:
     need("genrb")
     into = pathlib.Path(str(folder), "files")
     into.mkdir()
-    sources = [text for text in texts(data, folder) if is_locale(pathlib.Path(text).stem)]
-    genrb(sources, into, "-e", "UTF-8", "-s", os.path.dirname(sources[0]))
+    sources = [text for text in texts(data, folder) if is_locale(text.stem)]
+    genrb(sources, into, "-e", "UTF-8", "-s", str(sources[0].parent))
     return str(into)
 
 
-def genrb(sources: list[str], into: object, *options: str) -> int:
+def genrb(sources: list[pathlib.Path], into: object, *options: str) -> int:
     """Compiles texts by genrb into a folder, and returns its status. With `-s` texts are named within its folder."""
-    names = [os.path.basename(text) for text in sources] if "-s" in options else sources
+    names = [text.name if "-s" in options else str(text) for text in sources]
     words = ["genrb", "-q", "--formatVersion", "1", *options, "-d", str(into), *names]
     return subprocess.run(words, check=False, stdout=subprocess.DEVNULL, stderr=subprocess.DEVNULL).returncode
 
