@@ -1,16 +1,18 @@
 #!/usr/bin/python3
-"""Plants the faults of faults.jsonl in what only tests cover (printing, files, statuses), and finds which test fails first for each: a stand-in runs the
-program and changes its output, its status or a file that it left. By hand.
+"""Plants the faults of faults.jsonl in what only tests cover (printing, files, statuses), and finds which test fails first for each. By hand.
 
 usage: faults.py [--jobs N] [PROGRAM [WORD ..]]   (default: crates/rb_tool/out/rb_tool, and all faults; WORD: those whose name has one of these)
 
-A line of faults.jsonl has the fault, the key of TESTS, the commands that have it and what it does to them, as Perl has it, and the first test that finds
-it with five random cases a test. The file is written again with the tests that find them now. Ends with status 1 if a fault isn't found.
+A line of faults.jsonl has the fault, the key of TESTS, and the first test that finds it with five random cases a test. A fault of the program has the
+commands that have it and what it does to them, as Perl has it: a stand-in runs the program and changes its output, its status or a file that it left. One
+of a tool has the file, and the old and the new text, which are changed in a copy. The file is written again with the tests that find them now. Before, the
+same tests must pass with a stand-in that changes nothing. Ends with status 1 if a fault isn't found, or one that is none is.
 """
 import argparse
 import json
 import os
 import re
+import shutil
 import subprocess
 import sys
 import tempfile
@@ -24,11 +26,12 @@ TESTS = {
     "lint": "lint commands[lint] commands[lint_options] commands[lint_root]", "coverage": "commands[coverage] coverage", "diff": "commands[diff] diff",
     "json": "commands[json] json", "read": "json commands[compile]", "compile": "commands[compile] commands[batch] json histories",
     "text": "commands[text] bundles", "check": "commands[check] bundles", "get": "commands[get] bundles", "look": "commands[look] traces",
-    "fmt": "commands[fmt] fmt", "serve": "commands[serve] limits", "help": "completions",
+    "fmt": "commands[fmt] fmt", "serve": "commands[serve] limits", "help": "completions", "files": "files", "exchange": "exchange exchange_damages",
+    "convert": "exchange_convert", "icu2text": "icu2text",
 }
 SLOW = " and ".join(f"not {word}" for word in (
-    "attack", "damaged_files", "files_in_hex", "inherit", "large", "little", "long_line", "longest", "made_files", "many", "memory", "race", "replies",
-    "shared_items"))
+    "attack", "damaged_files", "edits_while", "files_in_hex", "inherit", "large", "little", "long_line", "longest", "made_files", "many", "memory", "race",
+    "random_commands", "readers_that_end", "replies", "shared_items"))
 
 
 def stand_in(folder, program, row):
@@ -43,13 +46,29 @@ def stand_in(folder, program, row):
     return path
 
 
+def copy(folder, row):
+    """Returns a copy of the tools and their tests with a fault."""
+    for name in ("tools", "tests", "examples"):
+        shutil.copytree(TOP / name, os.path.join(folder, "top", name), symlinks=True)
+    path = os.path.join(folder, "top", row["file"])
+    with open(path, encoding="utf-8") as file:
+        text = file.read()
+    assert text.count(row["old"]) == 1, row
+    with open(path, "w", encoding="utf-8") as file:
+        file.write(text.replace(row["old"], row["new"]))
+    return os.path.join(folder, "top")
+
+
 def finder(program, row):
     """Returns the name of the test that finds a fault, or None."""
     with tempfile.TemporaryDirectory() as folder:
-        words = [sys.executable, "-m", "pytest", "-x", f"--program={stand_in(folder, program, row)}", "--hypothesis-profile", "smoke", "-k", SLOW]
+        top, program = (copy(folder, row), program) if "file" in row else (TOP, stand_in(folder, program, row))
+        words = [sys.executable, "-m", "pytest", "-x", f"--program={program}", "--hypothesis-profile", "smoke", "-k", SLOW]
         names = [re.sub(r"(\w+)(\[\w+\])?", lambda it: f"tests/test_{it[1]}.py" + (f"::test_command{it[2]}" if it[2] else ""), name) for name in TESTS[row["tests"]].split()]
-        done = subprocess.run([*words, *names], cwd=TOP, capture_output=True, text=True, check=False)
+        done = subprocess.run([*words, *names], cwd=top, capture_output=True, text=True, check=False)
     found = re.search(r"^(?:FAILED|ERROR) (?:tests/)?test_(\S+)", done.stdout, flags=re.M)
+    if not found and done.returncode:
+        sys.exit(f"{row['fault']}: pytest ends with status {done.returncode}:\n{done.stdout}{done.stderr}")
     return found and found[1]
 
 
@@ -61,13 +80,15 @@ def main():
     given = options.parse_args()
     faults = rows(ROWS.name)
     tried = [row for row in faults if not given.words or any(word in row["fault"] for word in given.words)]
-    missed = 0
+    none = [{"fault": f"no fault: {name}", "tests": name, "commands": ".", "change": "1"} for name in dict.fromkeys(row["tests"] for row in tried)]
+    wrong = 0
     with ThreadPoolExecutor(given.jobs) as pool:
-        for row, test in zip(tried, pool.map(lambda row: finder(os.path.abspath(given.program), row), tried)):
-            row["found by"], missed = test or row["found by"], missed + (test is None)
-            print(f"{row['fault']}: {test or 'NOT FOUND'}", flush=True)
+        for row, test in zip([*none, *tried], pool.map(lambda row: finder(os.path.abspath(given.program), row), [*none, *tried])):
+            wrong += (test is None) == (row in faults)
+            row["found by"] = test or row.get("found by")
+            print(f"{row['fault']}: {test or 'not found'}", flush=True)
     ROWS.write_text("".join(json.dumps(row, ensure_ascii=False) + "\n" for row in faults), encoding="utf-8")
-    return int(missed > 0)
+    return int(wrong > 0)
 
 
 if __name__ == "__main__":

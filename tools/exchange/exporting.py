@@ -3,10 +3,10 @@ import argparse
 import os
 from typing import Optional
 
-from .common import Failure, Languages, Path, Unit, child, id_of, printable, refuse_over_input, shown, write_file
+from .common import Failure, Languages, Path, Unit, id_of, printable, refuse_over_input, shown, write_file
 from .formats import FORMATS
 from .languages import tag_of
-from .merge import strings
+from .merge import strings, value_at
 from .texts import Bundle, Node, read_bundle
 
 # so that what is written is at most a multiple of what is read: the characters of an id, of all ids, and of a string's notes
@@ -16,9 +16,7 @@ ID_LIMIT, IDS_LIMIT, NOTES_LIMIT = 1_000, 1 << 26, 4_000
 def found_in(bundles: list[Bundle], path: Path) -> Optional[tuple[str, str]]:
     """Returns the string that is inherited from the first bundle that has an item at a path, with the bundle's name."""
     for bundle in bundles:
-        item = bundle.tree
-        for key in path:
-            item = child(item, key)
+        item = value_at(bundle.tree, path)
         if item is not None or bundle.no_fallback:
             return (bundle.name, item) if isinstance(item, str) else None
     return None
@@ -36,13 +34,6 @@ def notes_of(node: Node, parent: Node, is_first: bool) -> list[str]:
     return notes
 
 
-def is_array(source: Bundle, path: Path) -> bool:
-    item = source.tree
-    for key in path:
-        item = child(item, key)
-    return isinstance(item, list)
-
-
 def units_of(source: Bundle, target: Bundle, bases: list[Bundle]) -> list[Unit]:
     """Returns the strings to translate, in the order of the source's text."""
     found: list[tuple[int, Unit]] = []
@@ -50,7 +41,7 @@ def units_of(source: Bundle, target: Bundle, bases: list[Bundle]) -> list[Unit]:
     for path, text, translated in strings(source.tree, target.tree):
         parent = source.node(path[:-1])
         node = parent.children[path[-1]]
-        is_first = path[:-1] not in seen and is_array(source, path[:-1])
+        is_first = path[:-1] not in seen and isinstance(value_at(source.tree, path[:-1]), list)
         seen |= {path[:-1]} if is_first else set()
         inherited = found_in(bases, path) if translated is None and not target.no_fallback else None
         found.append((node.start, Unit(id_of(path), text, translated, node.line, notes_of(node, parent, is_first), inherited)))

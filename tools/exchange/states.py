@@ -9,52 +9,33 @@ NEVER = (KEPT, OBSOLETE, PLURAL)
 FINISHED = ("translated", "final", "reviewed", "signed-off", "approved", "accepted", "done")
 # a spreadsheet's row keeps these words of the export when somebody fills in its cell
 FILLED_IN = ("", "missing", "inherited")
-OF_XLIFF1 = {
-    "new": UNTRANSLATED,
-    "needs-translation": UNTRANSLATED,
-    "needs-adaptation": UNTRANSLATED,
-    "needs-l10n": UNTRANSLATED,
-    "needs-review-translation": REVIEW,
-    "needs-review-adaptation": REVIEW,
-    "needs-review-l10n": REVIEW,
-}
+
+
+def by_word(**words: str) -> dict[str, str]:
+    """Returns the state of each of some words; states are named without hyphens."""
+    named = {state.replace("-", "_"): state for state in (FUZZY, REVIEW, UNTRANSLATED)}
+    return {word: named[state] for state, listed in words.items() for word in listed.split()}
+
+
+OF_XLIFF1 = by_word(
+    needs_translation="new needs-translation needs-adaptation needs-l10n",
+    needs_review="needs-review-translation needs-review-adaptation needs-review-l10n",
+)
 # how a machine or a memory of translations made a target, where no state says that somebody looked at it
-OF_QUALIFIERS = {
-    "fuzzy-match": FUZZY,
-    "leveraged-mt": REVIEW,
-    "leveraged-repository": REVIEW,
-    "leveraged-tm": REVIEW,
-    "leveraged-glossary": REVIEW,
-    "leveraged-inherited": REVIEW,
-    "mt-suggestion": REVIEW,
-    "tm-suggestion": REVIEW,
-}
-OF_WORDS = {
-    "fuzzy": FUZZY,
-    "needs-review": REVIEW,
-    "needs-work": REVIEW,
-    "needs-editing": REVIEW,
-    "rejected": REVIEW,
-    "draft": REVIEW,
-    "unreviewed": REVIEW,
-    "mt": REVIEW,
-    "initial": UNTRANSLATED,
-    "new": UNTRANSLATED,
-    "untranslated": UNTRANSLATED,
-    "needs-translation": UNTRANSLATED,
-    "unfinished": UNTRANSLATED,
-}
+OF_QUALIFIERS = by_word(
+    fuzzy="fuzzy-match",
+    needs_review="leveraged-mt leveraged-repository leveraged-tm leveraged-glossary leveraged-inherited mt-suggestion tm-suggestion",
+)
+OF_WORDS = by_word(
+    fuzzy="fuzzy",
+    needs_review="needs-review needs-work needs-editing rejected draft unreviewed mt",
+    needs_translation="initial new untranslated needs-translation unfinished",
+)
 # what tools write into their private attributes, such as mq:status
-OF_TOOLS = {
-    "notstarted": UNTRANSLATED,
-    "pretranslated": REVIEW,
-    "partiallyedited": REVIEW,
-    "assembledfromfragments": REVIEW,
-    "rejected": REVIEW,
-    "draft": REVIEW,
-    "rejectedtranslation": REVIEW,
-    "rejectedsignoff": REVIEW,
-}
+OF_TOOLS = by_word(
+    needs_translation="notstarted",
+    needs_review="pretranslated partiallyedited assembledfromfragments rejected draft rejectedtranslation rejectedsignoff",
+)
 
 
 def of_word(word: str) -> str:
