@@ -95,46 +95,15 @@ def numbers(count):
     return made(LONG_TABLE + table, table, data)
 
 
-# arrays share items, so that each is entered once: files with their lengths and verdicts
-CHAINS = [
-    (shared_arrays(30), 428, 31),
-    (shared_arrays(31), 440, 32),
-    (shared_arrays(62), 812, 63),
-    (shared_arrays(63), 824, "TooDeep"),
-    (chain_and_more(30), 444, 32),
-    (chain_and_more(62), 828, "TooDeep"),
-    # the last item is the array below
-    (with_bytes(chain_and_more(30), 424, [0x5B]), 444, 32),
-    (overlapping(100, 0), 1368, 103),
-    (overlapping(100, 60), 1848, 163),
-    (overlapping(100, 61), 1856, "TooDeep"),
-]
-# the items of `a` and `b` of `two_kinds`, the arrays above `b`, and the verdict
-KINDS = [
-    # the root, the long table with its two arrays, 61 arrays, and the array at level 63 with its string at level 64
-    (0x40000007, 0x80000007, 61, 66),
-    # the string would be at level 65
-    (0x40000007, 0x80000007, 62, "TooDeep"),
-    # the root, the array, 59 arrays, and the long table at level 61 with two arrays and an Int below it
-    (0x80000007, 0x40000007, 59, 64),
-    # the Int would be at level 65
-    (0x80000007, 0x40000007, 60, "TooDeep"),
-    # two empty containers at one offset: the root and both
-    (0x2000000E, 0x8000000E, 0, 3),
-    (0x8000000E, 0x2000000E, 0, 3),
-    (0x2000000E, 0x4000000E, 0, 3),
-    (0x4000000E, 0x2000000E, 0, 3),
-    # the root, one container, 62 arrays, and the other container at level 64
-    (0x4000000E, 0x8000000E, 62, 65),
-    (0x4000000E, 0x8000000E, 63, "TooDeep"),
-    # as a table, word 7 has one key, at the offset 0
-    (0x40000007, 0x20000007, 0, "Key"),
-    # as an array or a long table, the root's first word is the count 0x180002
-    (0x8000001A, 0x70000000, 0, "Length"),
-    (0x4000001A, 0x70000000, 0, "Length"),
-]
-# the offset of the last of 1,000 keys that share their ends, and the verdict
-LAST_KEYS = [(24, 1), (28, 1), (29, "KeyOrder"), (30, "KeyOrder"), (1027, "KeyOrder"), (1028, "Key"), (1032, "Key"), (23, "Key")]
+MAKERS = {make.__name__: make for make in (shared_arrays, chain_and_more, overlapping, two_kinds, suffixes, numbers)}
+
+
+def file_of_row(row):
+    """Returns the file of a row of bundles/made.jsonl: what a maker makes of numbers or words in hexadecimal, perhaps with bytes over it."""
+    name, *arguments = row["make"]
+    return with_bytes(MAKERS[name](*(int(word, 16) if isinstance(word, str) else word for word in arguments)), *row.get("over", (0, [])))
+
+
 # what is damaged word by word, beside most samples
 SHARED = [
     shared_arrays(5),
@@ -175,14 +144,11 @@ def test_written_verdicts(resb):
     assert dict(zip(ROWS, found)) == dict(zip(ROWS, (case[3] for case in cases)))
 
 
-MADE = [*CHAINS, *((two_kinds(a, b, above), 152 + 8 * above, verdict) for a, b, above, verdict in KINDS)]
-MADE += [(suffixes(1000, last), None, verdict) for last, verdict in LAST_KEYS]
-
-
 def test_made_files(resb):
-    cases = [*MADE, (numbers(200000), 3200060, 1), (suffixes(400000, 24), 3600068, 1)]
-    assert [len(data) for data, length, _ in cases if length] == [length for _, length, _ in cases if length]
-    assert verdicts(resb, [data for data, _, _ in cases]) == [verdict for _, _, verdict in cases]
+    """Arrays and keys share bytes in files that are made, so that each is entered once: their lengths and verdicts."""
+    cases = [(row, file_of_row(row)) for row in rows("bundles/made.jsonl")]
+    assert [len(data) for row, data in cases if "length" in row] == [row["length"] for row, _ in cases if "length" in row]
+    assert verdicts(resb, [data for _, data in cases]) == [row["verdict"] for row, _ in cases]
 
 
 def test_cut_files(resb):
