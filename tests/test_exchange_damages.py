@@ -14,128 +14,72 @@ from xml.sax.saxutils import escape, quoteattr
 
 import pytest
 from support.exchange import Exchange, need_modules
-from support.program import need, rows, run
+from support.program import TOP, need, rows, run
 
-SOURCE = """\
-en {
-    // On the start page
-    greeting { "Hello, {name}!" }
-    menu {
-        open { "Open" }
-        close { "Close" }
-        save { "Save" }
-    }
-    days { "Mon", "Tue" }
-    note { "One\\nTwo" }
-    label { "Name: " }
-    count:int { 3 }
-}
-"""
-TARGET = """\
-de {
-    menu { // main
-        close { "Zu" }
-        open { "Auf" }
-    }
-
-    /* Gruß */
-    greeting { "Hallo, {name}!" } // start page
-    days { "Mo", "Di" }
-    note { "Eins\\nZwei" }
-    own { "nur hier" }
-}
-"""
-TREE = {
-    "days": ["Mo", "Di"],
-    "greeting": "Hallo, {name}!",
-    "menu": {"close": "Zu", "open": "Auf"},
-    "note": "Eins\nZwei",
-    "own": "nur hier",
-}
-UNITS = {
-    "greeting": ("Hello, {name}!", "Hallo, {name}!"),
-    "menu/open": ("Open", "Auf"),
-    "menu/close": ("Close", "Zu"),
-    "menu/save": ("Save", None),
-    "days/0": ("Mon", "Mo"),
-    "days/1": ("Tue", "Di"),
-    "note": ("One\nTwo", "Eins\nZwei"),
-    "label": ("Name: ", None),
-}
+FOLDER = TOP / "tests" / "exchange"
+# the texts, the target's tree, and the strings that a file has, each with its source and its translation
+SOURCE, TARGET, TREE = ((FOLDER / f"damages_{name}").read_text(encoding="utf-8") for name in ("en.txt", "de.txt", "tree.json"))
+UNITS = rows("exchange/damages_units.jsonl")
 SAVED = {"menu/save": "Sichern"}
 XLIFF1, XLIFF2 = "urn:oasis:names:tc:xliff:document:1.2", "urn:oasis:names:tc:xliff:document:2.0"
 
 
-def units(kept=None, **more):
-    """Returns the units that a file has, with other translations for some of them."""
-    targets = more.get("targets", {})
-    return {name: (source, targets.get(name, old)) for name, (source, old) in UNITS.items() if kept is None or name in kept}
+def units(targets={}, kept=None, source={}):
+    """Yields the name, the source and the translation of the strings that a file has, some of them others."""
+    return ((name, source.get(name, text), targets.get(name, old)) for name, text, old in UNITS if kept is None or name in kept)
 
 
 def po_quoted(text):
     return '"' + text.replace("\\", "\\\\").replace('"', '\\"').replace("\n", "\\n").replace("\r", "\\r") + '"'
 
 
-def po(targets={}, kept=None, flags={}, language="de", source={}):
-    head = 'msgid ""\nmsgstr ""\n"Content-Type: text/plain; charset=UTF-8\\n"\n' + f'"Language: {language}\\n"\n'
-    parts = [head]
-    for name, (text, target) in units(kept, targets=targets).items():
+def po(flags={}, language="de", **given):
+    parts = [f'msgid ""\nmsgstr ""\n"Content-Type: text/plain; charset=UTF-8\\n"\n"Language: {language}\\n"\n']
+    for name, text, target in units(**given):
         flag = f"#, {flags[name]}\n" if name in flags else ""
-        parts.append(f"{flag}msgctxt {po_quoted(name)}\nmsgid {po_quoted(source.get(name, text))}\nmsgstr {po_quoted(target or '')}\n")
+        parts.append(f"{flag}msgctxt {po_quoted(name)}\nmsgid {po_quoted(text)}\nmsgstr {po_quoted(target or '')}\n")
     return "\n".join(parts)
 
 
-def xliff1(targets={}, kept=None, states={}, units_with={}, targets_with={}, language="de", original="en.txt", before="", source={}):
-    parts = []
-    for name, (text, target) in units(kept, targets=targets).items():
+def xliff1(states={}, units_with={}, targets_with={}, language="de", original="en.txt", before="", **given):
+    body = before
+    for name, text, target in units(**given):
         state = f' state="{states[name]}"' if name in states else ""
         shown = "" if target is None else f"<target{state}{targets_with.get(name, '')}>{escape(target)}</target>"
-        text = source.get(name, text)
-        parts.append(f"<trans-unit id={quoteattr(name)}{units_with.get(name, '')}><source>{escape(text)}</source>{shown}</trans-unit>\n")
+        body += f"<trans-unit id={quoteattr(name)}{units_with.get(name, '')}><source>{escape(text)}</source>{shown}</trans-unit>\n"
     attributes = f'original="{original}" source-language="en" target-language="{language}" datatype="plaintext"'
-    body = f"<file {attributes}><body>\n{before}{''.join(parts)}</body></file>"
-    return f'<?xml version="1.0" encoding="UTF-8"?>\n<xliff version="1.2" xmlns="{XLIFF1}" xmlns:mq="MQXliff">{body}</xliff>\n'
+    head = f'<?xml version="1.0" encoding="UTF-8"?>\n<xliff version="1.2" xmlns="{XLIFF1}" xmlns:mq="MQXliff">'
+    return f"{head}<file {attributes}><body>\n{body}</body></file></xliff>\n"
 
 
-def xliff2(targets={}, kept=None, states={}, sub={}, units_with={}, language="de", original="en.txt", default="final", source={}):
-    parts = []
-    for number, (name, (text, target)) in enumerate(units(kept, targets=targets).items(), 1):
+def xliff2(states={}, sub={}, units_with={}, language="de", original="en.txt", default="final", **given):
+    body = ""
+    for number, (name, text, target) in enumerate(units(**given), 1):
         state = states.get(name, default if target is not None else "initial")
-        state = f' state="{state}"' if state else ""
-        state += f' subState="{sub[name]}"' if name in sub else ""
+        state = (f' state="{state}"' if state else "") + (f' subState="{sub[name]}"' if name in sub else "")
         shown = "" if target is None else f"<target>{escape(target)}</target>"
-        segment = f"<segment{state}><source>{escape(source.get(name, text))}</source>{shown}</segment>"
-        parts.append(f'<unit id="u{number}" name={quoteattr(name)}{units_with.get(name, "")}>{segment}</unit>\n')
+        segment = f"<segment{state}><source>{escape(text)}</source>{shown}</segment>"
+        body += f'<unit id="u{number}" name={quoteattr(name)}{units_with.get(name, "")}>{segment}</unit>\n'
     head = f'<?xml version="1.0"?>\n<xliff xmlns="{XLIFF2}" version="2.0" srcLang="en" trgLang="{language}">\n'
-    return f'{head}<file id="f" original="{original}">\n{"".join(parts)}</file></xliff>\n'
+    return f'{head}<file id="f" original="{original}">\n{body}</file></xliff>\n'
 
 
-def properties(targets={}, kept=None):
-    rows = [f"{name}={target}" if target is not None else f"#{name}=" for name, (_, target) in units(kept, targets=targets).items()]
-    return "".join(row.replace("\n", "\\n") + "\n" for row in rows)
+def properties(**given):
+    lines = (f"{name}={target}" if target is not None else f"#{name}=" for name, _, target in units(**given))
+    return "".join(line.replace("\n", "\\n") + "\n" for line in lines)
 
 
-def json_list(targets={}, kept=None, states={}, source={}):
-    listed = [
-        {"id": name, "source": source.get(name, text), "target": target} | ({"state": states[name]} if name in states else {})
-        for name, (text, target) in units(kept, targets=targets).items()
-    ]
+def json_list(states={}, **given):
+    listed = [{"id": name, "source": text, "target": target} | ({"state": states[name]} if name in states else {}) for name, text, target in units(**given)]
     return "[\n" + ",\n".join(json.dumps(one, ensure_ascii=False) for one in listed) + "\n]\n"
 
 
-def csv(targets={}, kept=None, states={}, separator=",", source={}):
-    def cell(text):
-        return '"' + text.replace('"', '""') + '"'
-
-    rows = [("id", "source", "target", "state")]
-    for name, (text, target) in units(kept, targets=targets).items():
-        rows.append((name, source.get(name, text), target or "", states.get(name, "missing" if target is None else "translated")))
-    return "".join(separator.join(map(cell, row)) + "\n" for row in rows)
+def csv(states={}, separator=",", **given):
+    lines = [(name, text, target or "", states.get(name, "missing" if target is None else "translated")) for name, text, target in units(**given)]
+    return "".join(separator.join('"' + cell.replace('"', '""') + '"' for cell in line) + "\n" for line in [("id", "source", "target", "state"), *lines])
 
 
 WRITE = {"xliff1": xliff1, "xliff2": xliff2, "po": po, "properties": properties, "json": json_list, "csv": csv}
-
-
 ROWS = [(kind, row) for row in rows("exchange/damages.jsonl") for kind in row["kind"].split()]
 
 
@@ -154,7 +98,7 @@ def file_of(kind, row):
 
 
 def with_changes(tree, changes):
-    tree = json.loads(json.dumps(tree))
+    tree = json.loads(tree)
     for path, text in changes.items():
         *folders, key = path.split("/")
         place = tree
