@@ -34,18 +34,10 @@ def test_completions(resb, name, read):
     assert read((TOP / "docs" / "completions" / name).read_text(encoding="utf-8")) == of_program(resb)
 
 
-@pytest.mark.parametrize(
-    "words, wanted",
-    [
-        (("lint", "--format", ""), "text full json sarif github"),
-        (("lint", "--color", "a"), "auto always"),
-        (("coverage", "--format", "c"), "csv"),
-        (("lint", "--allow", "missing-o"), "missing-open-brace missing-other"),
-        (("explain", "BadI"), "BadInt"),
-        (("help", "expl"), "explain"),
-        (("lines", "--op", ""), "install replace"),
-    ],
-)
+@pytest.mark.parametrize("words, wanted", [
+    (("lint", "--format", ""), "text full json sarif github"), (("lint", "--color", "a"), "auto always"), (("coverage", "--format", "c"), "csv"),
+    (("lint", "--allow", "missing-o"), "missing-open-brace missing-other"), (("explain", "BadI"), "BadInt"), (("help", "expl"), "explain"),
+    (("lines", "--op", ""), "install replace")])
 def test_values(resb, words, wanted):
     """The completions of bash offer the values of options."""
     (resb.folder / "resb").symlink_to(resb.program)

@@ -139,22 +139,9 @@ TEXTS = {
     "many.txt": 'many { a { "' + "\\q" * 120 + '" } }',
 }
 LEVELS = {"none", "note", "warning", "error"}
-# The properties of the objects that resb writes, by the published JSON schema of SARIF 2.1.0: the required ones, and others of those that
-# it names. It refuses all other names. A message needs a text or an id, and a physical location an artifact location or an address.
-PROPERTIES = {
-    "log": ({"version", "runs"}, {"$schema"}),
-    "run": ({"tool"}, {"columnKind", "results"}),
-    "tool": ({"driver"}, set()),
-    "driver": ({"name"}, {"rules"}),
-    "rule": ({"id"}, {"shortDescription"}),
-    "shortDescription": ({"text"}, set()),
-    "result": ({"message"}, {"level", "locations", "ruleId"}),
-    "message": ({"text"}, set()),
-    "location": (set(), {"physicalLocation"}),
-    "physicalLocation": ({"artifactLocation"}, {"region"}),
-    "artifactLocation": (set(), {"uri"}),
-    "region": (set(), {"startColumn", "startLine"}),
-}
+# A line of lint/sarif.jsonl has a kind of object that resb writes, and its properties by the published JSON schema of SARIF 2.1.0: the required ones, and
+# others of those that it names. It refuses all other names. A message needs a text or an id, and a physical location an artifact location or an address.
+PROPERTIES = {kind: (set(required), set(others)) for kind, required, others in rows("lint/sarif.jsonl")}
 # The characters of a reference of a URI; `%` is followed by two digits.
 URI = re.compile(r"(?:[\w.~!$&'()*+,;=:@/?#-]|%[0-9A-F]{2})*", re.ASCII)
 

@@ -1,5 +1,6 @@
 """`import`: puts translated strings into a target, in place. What the file doesn't say stays."""
 import argparse
+import collections
 import json
 import os
 import re
@@ -49,18 +50,12 @@ class Result:
     copies: list[str] = field(default_factory=list)
 
     def counts(self) -> str:
-        by_state: dict[str, int] = {}
-        for one in self.skipped:
-            by_state[one["state"]] = by_state.get(one["state"], 0) + 1
-        parts = [f"{len(self.set)} set", f"{self.unchanged} unchanged" * bool(self.unchanged)]
-        parts += [f"{count} {shown(state)} skipped" for state, count in by_state.items()]
-        parts += [f"{len(self.untranslated)} not translated" * bool(self.untranslated)]
-        parts += [f"{len(self.absent)} not in the file" * bool(self.absent)]
-        parts += [f"{len(self.removed)} removed" * bool(self.removed)]
-        parts += [f"{len(self.left_out)} behind a gap of an array" * bool(self.left_out)]
-        parts += [f"{len(self.copies)} equal to the source" * bool(self.copies)]
-        parts += [f"{len(self.source_changed)} of a changed source" * bool(self.source_changed)]
-        return ", ".join(filter(None, parts))
+        skipped = collections.Counter(one["state"] for one in self.skipped)
+        counts = {"unchanged": self.unchanged, **{f"{shown(state)} skipped": count for state, count in skipped.items()}}
+        counts |= {"not translated": len(self.untranslated), "not in the file": len(self.absent), "removed": len(self.removed)}
+        counts |= {"behind a gap of an array": len(self.left_out), "equal to the source": len(self.copies)}
+        counts |= {"of a changed source": len(self.source_changed)}
+        return ", ".join([f"{len(self.set)} set", *(f"{count} {what}" for what, count in counts.items() if count)])
 
 
 class Import:

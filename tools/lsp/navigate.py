@@ -170,8 +170,8 @@ def alias_uses(file: str, text: str, items: Items, path: Path) -> Iterator[Use]:
             yield Use(file, end - len(path[-1]), end, False)
 
 
-def references(workspace: Workspace, document: Document, position: dict, check: Check, declared: bool) -> list[dict]:
-    spot = spot_at(document, position)
+def references(workspace: Workspace, document: Document, params: dict, check: Check) -> list[dict]:
+    spot, declared = spot_at(document, params["position"]), (params.get("context") or {}).get("includeDeclaration", True)
     if not spot:
         return []
     found, texts = [], {}

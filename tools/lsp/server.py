@@ -2,7 +2,9 @@
 
 from __future__ import annotations
 
+import json
 import os
+import pathlib
 import signal
 import sys
 import threading
@@ -16,22 +18,7 @@ from .protocol import Connection, Failure
 from .text import Text
 from .workspace import Document, Workspace, path_of
 
-CAPABILITIES = {
-    "positionEncoding": "utf-16",
-    "textDocumentSync": {"openClose": True, "change": 2, "save": {"includeText": False}},
-    "hoverProvider": True,
-    "completionProvider": {"triggerCharacters": [":", "{", "%"]},
-    "definitionProvider": True,
-    "referencesProvider": True,
-    "documentSymbolProvider": True,
-    "workspaceSymbolProvider": True,
-    "foldingRangeProvider": True,
-    "documentFormattingProvider": True,
-    "documentRangeFormattingProvider": True,
-    "renameProvider": {"prepareProvider": True},
-    "codeActionProvider": {"codeActionKinds": ["quickfix", "refactor.rewrite", "source.resb"]},
-    "workspace": {"workspaceFolders": {"supported": True, "changeNotifications": True}},
-}
+CAPABILITIES = json.loads(pathlib.Path(__file__).with_name("capabilities.json").read_text(encoding="utf-8"))
 
 
 class Server:
@@ -54,26 +41,21 @@ class Server:
             "workspace/didChangeWatchedFiles": lambda params: self.lint_all(),
             "workspace/didChangeWorkspaceFolders": self.folders_changed,
             "workspace/symbol": lambda params: outline.workspace_symbols(self.workspace, params["query"], self.check),
-            "textDocument/documentSymbol": self.in_document(lambda it, params: outline.document_symbols(it)),
-            "textDocument/foldingRange": self.in_document(lambda it, params: outline.foldings(it)),
-            "textDocument/formatting": self.in_document(lambda it, params: diagnostics.edits(self.workspace, it)),
-            "textDocument/rangeFormatting": self.in_document(
-                lambda it, params: diagnostics.edits(self.workspace, it, params["range"])
-            ),
-            "textDocument/hover": self.at_position(navigate.hover),
-            "textDocument/definition": self.at_position(navigate.definition),
-            "textDocument/completion": self.at_position(complete.completions),
-            "textDocument/references": self.in_document(self.references),
-            "textDocument/prepareRename": self.in_document(
-                lambda it, params: navigate.prepare_rename(it, params["position"])
-            ),
-            "textDocument/rename": self.in_document(
-                lambda it, params: navigate.rename(self.workspace, it, params, self.check)
-            ),
-            "textDocument/codeAction": self.in_document(
-                lambda it, params: Proposer(self.workspace, it, self.check).actions(params)
-            ),
         }
+        about_documents: dict[str, Callable[[Document, dict], Any]] = {
+            "documentSymbol": lambda it, params: outline.document_symbols(it),
+            "foldingRange": lambda it, params: outline.foldings(it),
+            "formatting": lambda it, params: diagnostics.edits(self.workspace, it),
+            "rangeFormatting": lambda it, params: diagnostics.edits(self.workspace, it, params["range"]),
+            "hover": lambda it, params: navigate.hover(self.workspace, it, params["position"]),
+            "definition": lambda it, params: navigate.definition(self.workspace, it, params["position"]),
+            "completion": lambda it, params: complete.completions(self.workspace, it, params["position"]),
+            "references": lambda it, params: navigate.references(self.workspace, it, params, self.check),
+            "prepareRename": lambda it, params: navigate.prepare_rename(it, params["position"]),
+            "rename": lambda it, params: navigate.rename(self.workspace, it, params, self.check),
+            "codeAction": lambda it, params: Proposer(self.workspace, it, self.check).actions(params),
+        }
+        self.methods |= {f"textDocument/{name}": self.in_document(answer) for name, answer in about_documents.items()}
 
     # --- Messages
 
@@ -206,13 +188,6 @@ class Server:
             document = self.document(params)
             return answer(document, params) if self.workspace.is_served(document) else None
         return method
-
-    def at_position(self, answer: Callable[[Workspace, Document, dict], Any]) -> Callable[[dict], Any]:
-        return self.in_document(lambda document, params: answer(self.workspace, document, params["position"]))
-
-    def references(self, document: Document, params: dict) -> list[dict]:
-        declared = (params.get("context") or {}).get("includeDeclaration", True)
-        return navigate.references(self.workspace, document, params["position"], self.check, declared)
 
 
 def end_by_signal(server: Server) -> None:
