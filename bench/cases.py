@@ -228,31 +228,30 @@ def ahead_case(bench, name, setup, asked, goals=()):
     return Case("serve", name, used, unit="microseconds", goals=goals)
 
 
-class Asked:
-    """A server that has its bundles, and is asked again and again."""
+class Asked(Server):
+    """A server that has its bundles, and is asked again and again; each call awaits all replies."""
 
     def __init__(self, words, setup, keeps=False):
-        self.server = Server(words, keeps=keeps)
-        self.count = setup.count(b"\n")
-        self.server.send(setup)
-        self.server.await_replies(self.count)
+        super().__init__(words, keeps=keeps)
+        self.send_all(setup)
+
+    def send_all(self, asked):
+        count = self.count + asked.count(b"\n")
+        self.send(asked)
+        self.await_replies(count)
 
     def ahead(self, asked):
         """Returns microseconds of processor time a line, where all lines are written before the first reply is awaited."""
-        before, count = self.server.microseconds(), asked.count(b"\n")
-        self.server.send(asked)
-        self.count += count
-        self.server.await_replies(self.count)
-        return (self.server.microseconds() - before) / count
+        before = self.microseconds()
+        self.send_all(asked)
+        return (self.microseconds() - before) / asked.count(b"\n")
 
     def one_by_one(self, wanted):
         """Returns microseconds of processor time a line, where each line is written when the one before is answered."""
-        before = self.server.microseconds()
+        before = self.microseconds()
         for line in wanted:
-            self.count += 1
-            self.server.send(line)
-            self.server.await_replies(self.count)
-        return (self.server.microseconds() - before) / len(wanted)
+            self.send_all(line)
+        return (self.microseconds() - before) / len(wanted)
 
 
 def install_case(bench, name, member, value, size, bound, count=100):
@@ -267,7 +266,7 @@ def memory_case(bench, each, count, goals=()):
     size = bench.compiled("table", text).stat().st_size
 
     def used():
-        server = Asked([bench.program, "serve"], lines({"op": "install", **spot(i), "text": text} for i in range(count))).server
+        server = Asked([bench.program, "serve"], lines({"op": "install", **spot(i), "text": text} for i in range(count)))
         held = server.proc("status", "VmRSS") * 1024
         server.end()
         return held / (count * size)
@@ -290,13 +289,13 @@ def serve_cases(bench):
             few, wanted = (setup, asked), asked.splitlines(keepends=True)[:LOOKS // 4]
             server = Asked([bench.program, "serve"], setup)
             yield Case("serve", "a lookup in 1,000 bundles, one by one", lambda server=server: server.one_by_one(wanted), unit="microseconds")
-            server.server.end()
+            server.end()
     words = ["env", *(f"{name}={value}" for name, value in SETTINGS.items()), bench.program, "serve"]
     one, other = Asked(words, setup), Asked(words, few[0])
     yield Case("serve", "a lookup in 100,000 bundles, with the settings of bin/resb", lambda: one.ahead(asked), lambda: other.ahead(few[1]), "a server of 1,000",
                "microseconds", [Goal("time", 1.5)], runs=3 * RUNS)
-    one.server.end()
-    other.server.end()
+    one.end()
+    other.end()
     paths = ["months/7", "countries/AT", "days/1"]
     setup = lines({"op": "install", "app": "app0", "locale": locale, "text": text} for locale, text in TRAIL.items())
     looks = lines({"op": "look", "app": "app0", "locale": "de_AT_WIEN", "path": paths[number % 3]} for number in range(LOOKS))
@@ -362,7 +361,7 @@ def chosen_files(files, count):
 def cldr_cases(bench):
     """`resb serve` beside a line server over libicu: cold lookups in random order, hot ones of which HOT repeat, and one by one."""
     installs = {path: lines([{"op": "install", "app": "cldr", "locale": path.stem, "file": path.read_bytes().hex()}]) for path in bench.cldr_files}
-    server = Asked([bench.program, "serve"], b"".join(installs.values()), keeps=True).server
+    server = Asked([bench.program, "serve"], b"".join(installs.values()), keeps=True)
     paths = sorted({path for locale in LOCALES for path in strings_of(server, locale)})
     server.end()
     for count in (10, 30, 100, 300, len(installs)):
@@ -371,9 +370,9 @@ def cldr_cases(bench):
         for path in files:
             os.link(path, folder / path.name)
         both = Asked([bench.program, "serve"], b"".join(installs[path] for path in files), True), Asked([bench.icu_server, folder], b"", True)
-        asked = lookups(both[0].server, both[1].server, [path.stem for path in files], paths)
+        asked = lookups(*both, [path.stem for path in files], paths)
         for one in both:
-            one.count, one.server.keeps = one.server.count, False
+            one.keeps = False
         kinds = {"cold": (asked * (AHEAD // len(asked) + 1))[:AHEAD], "hot": (asked[:HOT] * (AHEAD // HOT + 1))[:AHEAD]}
         is_whole = count == len(installs)
         for kind, bound in (("cold", 1.3), ("hot", 2.2)):
@@ -385,7 +384,7 @@ def cldr_cases(bench):
             yield Case("cldr", f"one by one lookups in {count} bundles", lambda: both[0].one_by_one(wanted), lambda: both[1].one_by_one(wanted), "the C server",
                        "microseconds", [Goal("speed", 1.1, True)])
         for one in both:
-            one.server.end()
+            one.end()
     yield from extended_cases(bench)
 
 
@@ -397,11 +396,10 @@ def extended_cases(bench):
     for locale, goals in (("de_AT", [Goal("ms", 5)]), ("root", [])):
         line = line_of({"op": "tree", "app": "cldr", "locale": locale}) + b"\n"
         yield Case("cldr", f"a tree of {locale}", lambda line=line: asked.one_by_one([line] * 20) / 1e3, unit="ms", goals=goals)
-    sizes = json.loads(asked.server.ask(line_of({"op": "list", "app": "cldr", "sizes": True})))["bundles"]
-    asked.count = asked.server.count
+    sizes = json.loads(asked.ask(line_of({"op": "list", "app": "cldr", "sizes": True})))["bundles"]
     exports, size = [lines([{"op": "export", "app": "cldr", "locale": bundle["locale"]}]) for bundle in sizes], sum(bundle["bytes"] for bundle in sizes)
     yield Case("cldr", "exports of all files", lambda: size / (asked.one_by_one(exports) * len(exports)), unit="MB/s", goals=[Goal("MB/s", 300, True)], size=size)
-    asked.server.end()
+    asked.end()
 
 
 def daily_cases(bench):

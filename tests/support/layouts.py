@@ -52,31 +52,20 @@ def short(head, inner):
     return f"{head} {{ {one_line(inner)} }}" if is_list(inner) and len(inner) <= 1 else None
 
 
-def lines(body, indent, opening, depth=0):
-    """The lines of a body. What opens one is behind its head, or in the next line after a line feed."""
+def lines(body, indent, opening=" {", column=None, depth=0):
+    """Yields the lines of a body. What opens one is behind its head, or in the next line after a line feed. With a column, the items of a list continue
+    in further lines, at the column that the beginning of the first line gives."""
     for head, inner in body:
-        line = short(head, inner)
+        line, before = short(head, inner), indent * depth
         if line:
-            yield indent * depth + line
-            continue
-        yield from (indent * depth + part for part in (head + opening).split("\n"))
-        yield from lines(inner, indent, opening, depth + 1)
-        yield indent * depth + "}"
-
-
-def continued(body, indent, column, depth=0):
-    """Makes lines. Those of a list continue in further lines, at a column that the beginning of the line gives."""
-    for head, inner in body:
-        line = short(head, inner)
-        if line:
-            yield indent * depth + line
-        elif is_list(inner):
-            first = f"{indent * depth}{head} {{ "
+            yield before + line
+        elif column and is_list(inner):
+            first = f"{before}{head} {{ "
             yield first + f",\n{' ' * column(first, depth)}".join(item for item, _ in inner) + " }"
         else:
-            yield f"{indent * depth}{head} {{"
-            yield from continued(inner, indent, column, depth + 1)
-            yield indent * depth + "}"
+            yield from (before + part for part in (head + opening).split("\n"))
+            yield from lines(inner, indent, opening, column, depth + 1)
+            yield before + "}"
 
 
 def joined(body, depth=0):
@@ -94,10 +83,10 @@ def joined(body, depth=0):
 STYLES = {
     "one line": lambda body: [one_line(body)],
     "Allman braces": lambda body: lines(body, "    ", "\n{"),
-    "aligned continuations": lambda body: continued(body, "  ", lambda first, depth: len(first)),
-    "indented continuations": lambda body: continued(body, "    ", lambda first, depth: 4 * depth + 8),
-    "tabs": lambda body: lines(body, "\t", " {"),
-    "two spaces": lambda body: lines(body, "  ", " {"),
+    "aligned continuations": lambda body: lines(body, "  ", column=lambda first, depth: len(first)),
+    "indented continuations": lambda body: lines(body, "    ", column=lambda first, depth: 4 * depth + 8),
+    "tabs": lambda body: lines(body, "\t"),
+    "two spaces": lambda body: lines(body, "  "),
     "derb's": lambda body: lines(body, "    ", "{"),
     "closed in the last line": joined,
 }

@@ -32,7 +32,7 @@ class Server:
         self.lock = threading.Condition()
         self.replies: list[bytes] = []
         self.count = self.longest = self.good = 0
-        self.keeps = keeps
+        self.keeps, self.is_over = keeps, False
         self.listener = threading.Thread(target=self.listen, daemon=True)
         self.listener.start()
 
@@ -47,6 +47,9 @@ class Server:
                     if self.keeps:
                         self.replies.append(reply)
                     self.lock.notify_all()
+        with self.lock:
+            self.is_over = True
+            self.lock.notify_all()
 
     def send(self, data: bytes) -> None:
         assert self.process.stdin
@@ -57,7 +60,8 @@ class Server:
     def await_replies(self, count: int, seconds: float = WAIT) -> list[bytes]:
         """Waits until `count` replies came, and returns those that are kept."""
         with self.lock:
-            assert self.lock.wait_for(lambda: self.count >= count, seconds), f"{self.count} of {count} replies came"
+            self.lock.wait_for(lambda: self.count >= count or self.is_over, seconds)
+            assert self.count >= count, f"{self.count} of {count} replies came"
             return self.replies[:count]
 
     def ask(self, line: bytes) -> bytes:
