@@ -15,7 +15,7 @@ TABLE = {row[0]: row[1:] for row in (line.split("\t") for line in text_of("tests
 SCRIPT = text_of("tests/page_commands.sh").replace("\\\\?", "?")
 STARTS = tuple(found.strip("'") for found in re.findall(r"\(inline \S+ ('[^']*'|[\w./-]+)", SCRIPT))
 # programs that aren't files of this repository
-PROGRAMS = set("""apt-get cc chown code derb gateway genrb git icu2text install journalctl ls make man measure library.py objcopy podman pytest resb resb-ci resb-exchange
+PROGRAMS = set("""apt-get cc chown code derb gateway genrb git icu2text install journalctl ls make man measure objcopy podman pytest resb resb-ci resb-exchange
     resb-gateway resb-lsp rt runuser set sqlite3 systemctl systemd-sysusers tar time touch ulimit xxd (add-to-list :set :%!resb""".split())
 
 

@@ -254,7 +254,7 @@ def test_missing_strings(at, kind):
     assert b"said first" in at.get("out")
     at.put("root.txt", 'root{days{"M","T"}}')
     at.export(kind, "en.txt", "de.txt", "--base", "root.txt")
-    assert "inherited" in at.get("out").decode()
+    assert "inherited" in at.text("out")
 
 
 @pytest.mark.parametrize("kind", FORMATS)
@@ -325,7 +325,7 @@ def test_in_place(at, row):
     at.put("de.txt", row["before"])
     for _ in range(1 if row["option"] == "--remove-missing" else 2):
         assert at.translate(row["texts"], row["option"])[0] == 0
-        assert at.get("de.txt").decode() == row["after"]
+        assert at.text("de.txt") == row["after"]
 
 
 @pytest.mark.parametrize("row", rows("exchange/sessions.jsonl"), ids=lambda row: row["name"])
@@ -342,9 +342,9 @@ def test_session(at, row):
         for name, members in step.get("json", {}).items():
             found = json.loads(printed if name == "-" else at.get(name))
             assert {member: found[member] for member in members} == members
-        assert [part for name, parts in step.get("has", {}).items() for part in parts if part not in at.get(name).decode()] == []
+        assert [part for name, parts in step.get("has", {}).items() for part in parts if part not in at.text(name)] == []
         for name, text in step.get("texts", {}).items():
-            assert at.get(name).decode() == text
+            assert at.text(name) == text
         for name, tree in step.get("trees", {}).items():
             assert at.tree(name) == tree
 
@@ -399,7 +399,7 @@ exec {at.program} "$@"
     call = ("import", "--format", "json", "--source", "en.txt", "--into", "de.txt", "in.json")
     found = at.process(*call, program=at.path("edits"))
     assert found == (1, "", "de.txt:1: the text changed while it was worked on; nothing is written\n")
-    assert at.get("de.txt").decode() == 'de { hello { "by hand {name}" } }'
+    assert at.text("de.txt") == 'de { hello { "by hand {name}" } }'
     assert sorted(os.listdir(at.folder)) == ["calls", "de.txt", "edits", "en.txt", "in.json"]
 
 
@@ -410,7 +410,7 @@ def test_a_link_and_a_mode_stay(at):
     assert at.translate({"hello": "Na, {name}?"})[0] == 0
     assert os.path.islink(at.path("de.txt"))
     assert os.stat(at.path("real.txt")).st_mode & 0o777 == 0o640
-    assert "Na, {name}?" in at.get("real.txt").decode()
+    assert "Na, {name}?" in at.text("real.txt")
 
 
 def test_what_cannot_be_written_in_place_is_beside(at, monkeypatch):
@@ -424,14 +424,14 @@ def test_what_cannot_be_written_in_place_is_beside(at, monkeypatch):
     status, _, said = at.translate({"hello": "Na, {name}?"})
     assert (status, said.splitlines()[-1]) == (2, "cannot write de.txt")
     (beside,) = [name for name in os.listdir(at.folder) if name.startswith(".resb-unfinished-")]
-    assert "Na, {name}?" in at.get(beside).decode() and "Hallo" in at.get("de.txt").decode()
+    assert "Na, {name}?" in at.text(beside) and "Hallo" in at.text("de.txt")
 
 
 def test_further_names_stay(at):
     os.link(at.path("de.txt"), at.path("other.txt"))
     assert at.translate({"hello": "Na, {name}?"})[0] == 0
     assert os.path.samefile(at.path("de.txt"), at.path("other.txt"))
-    assert at.get("other.txt").decode() == 'de{\n// Gruß\nhello{"Na, {name}?"} n:int{7}}'
+    assert at.text("other.txt") == 'de{\n// Gruß\nhello{"Na, {name}?"} n:int{7}}'
     assert not [name for name in os.listdir(at.folder) if name.startswith(".resb")]
 
 
@@ -459,7 +459,7 @@ def test_owner_access_list_and_attributes_stay(at, monkeypatch, is_denied):
     assert at.translate({"hello": "Na, {name}?"})[0] == 0
     assert rights() == before
     assert (os.stat(path).st_ino == file) == is_denied
-    assert "Na, {name}?" in at.get("de.txt").decode()
+    assert "Na, {name}?" in at.text("de.txt")
 
 
 def test_an_unchanged_text_is_not_written(at):

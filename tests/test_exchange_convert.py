@@ -48,9 +48,6 @@ class Folder(Exchange):
         assert (status, printed) == (0, ""), said
         return said
 
-    def text(self, name):
-        return self.get(name).decode()
-
 
 @pytest.fixture
 def at(program, tmp_path):

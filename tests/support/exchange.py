@@ -30,6 +30,10 @@ class Exchange(Resb):
     def path(self, name: str) -> str:
         return str(self.folder / name)
 
+    def text(self, name: str) -> str:
+        """Returns a file of the folder as a text."""
+        return (self.get(name) or b"").decode()
+
     def tree(self, name: str) -> Any:
         """Returns the tree of a text, as `resb json` prints it."""
         return json.loads(self.output("json", "-", stdin=self.compiled(self.get(name) or b"")))

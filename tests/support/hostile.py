@@ -352,39 +352,33 @@ def long_key_reply(size):
     return install_file(b"root", data), look(b"root", b"")
 
 
+def trail(path, body, end):
+    """Returns the lines of a trail of 32 names, each with a body, of which the last has what leads to an alias to the whole way again."""
+    names = [b"b%c%c" % (97 + i // 26, 97 + i % 26) for i in range(30)]
+    bundles = (install(name, name + b'{%%Parent{"' + parent + b'"}' + body() + b"}") for name, parent in zip(names, [*names[1:], b"root"]))
+    alias = path[-1] + b':alias{"baa/' + b"/".join(path) + b'"}'
+    return b"".join([*bundles, install(b"root", b"root{" + end(alias) + b"}")]), look(b"baa", b"/".join(path))
+
+
 def deep_trail(size):
-    """A trail of 32 names, of which the last has an alias to the whole way again; on the way there are tables 60 deep,
-    each with other entries up to that length of text."""
-    names = [b"root"] + [b"b%c%c" % (97 + i // 26, 97 + i % 26) for i in range(30)]
-    path = b"/".join([b"k"] * 60)
+    """A trail with tables 60 deep, each with other entries up to that length of text."""
     filler = b"".join(b"%05d{}" % i for i in range(size // 30 // 59 // 7))
-    lines = []
-    for name, parent in zip(names[1:], names[2:] + [b"root"]):
-        deep = (b"k{" + filler) * 59 + b"}" * 59
-        lines.append(install(name, name + b'{%%Parent{"' + parent + b'"}' + deep + b"}"))
-    lines.append(install(b"root", b"root{" + b"k{" * 59 + b'k:alias{"baa/' + path + b'"}' + b"}" * 59 + b"}"))
-    return b"".join(lines), look(b"baa", path)
+    return trail([b"k"] * 60, lambda: (b"k{" + filler) * 59 + b"}" * 59, lambda alias: b"k{" * 59 + alias + b"}" * 59)
 
 
 def deep_random_trail(size):
-    """A trail of 32 names and 256 levels as in `deep_trail`, over tables of random keys, so that each halving of a table
-    waits for memory. The texts have about this many bytes in all."""
+    """A trail and 256 levels as in `deep_trail`, over tables of random keys, so that each halving of a table waits for memory. The texts have about this
+    many bytes in all."""
     dice, letters = random.Random(2), b"abcdefghijklmnopqrstuvwxyz"
-    names = [b"root"] + [b"b%c%c" % (97 + i // 26, 97 + i % 26) for i in range(30)]
-    path = [bytes(dice.choices(letters, k=13)) for _ in range(60)]
-    count, lines = size // 31 // 59 // 15, []
+    path, count = [bytes(dice.choices(letters, k=13)) for _ in range(60)], size // 31 // 59 // 15
 
-    def nested(last):
+    def nested(last=b""):
         for key in path[-2::-1]:
             others = b"".join(bytes(dice.choices(letters, k=13)) + b"{}" for _ in range(count))
             last = key + b"{" + others + last + b"}"
         return last
 
-    for name, parent in zip(names[1:], names[2:] + [b"root"]):
-        lines.append(install(name, name + b'{%%Parent{"' + parent + b'"}' + nested(b"") + b"}"))
-    alias = path[-1] + b':alias{"baa/' + b"/".join(path) + b'"}'
-    lines.append(install(b"root", b"root{" + nested(alias) + b"}"))
-    return b"".join(lines), look(b"baa", b"/".join(path))
+    return trail(path, nested, nested)
 
 
 def shared_keys(size):

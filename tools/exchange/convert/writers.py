@@ -9,7 +9,7 @@ from ..properties import line_of
 from ..texts import Bundle, Node, Other
 from ..xml_tree import Element, xml_bytes
 from .catalogue import Catalogue, name_of
-from .placeholders import Converted, to_printf
+from .placeholders import to_printf
 
 PLURAL = re.compile(r"\{\s*(\w+)\s*,\s*plural\s*,\s*")
 FORM = re.compile(r"\s*(=\d+|\w+)\s*\{")
@@ -40,6 +40,16 @@ def items_of(item: Any, node: Node, path: tuple[str, ...] = ()) -> Iterator[Item
         else:
             comments = inner.comments + [note for one in inner.children.values() for note in one.comments]
             yield Item(here, value, inner.line, comments)
+
+
+def texts_of(bundle: Bundle, catalogue: Catalogue) -> Iterator[tuple[Item, dict[str, str]]]:
+    """Yields the strings of a bundle with their texts by keys with full stops; another item is left out, and in the report."""
+    for item in items_of(bundle.tree, bundle.root):
+        key = ".".join(item.path)
+        if isinstance(item.value, Other):
+            catalogue.doubt(item.line, key, f"an item of the type {item.value.kind} is left out")
+        else:
+            yield item, {key: item.value} if isinstance(item.value, str) else {f"{key}.{count}": text for count, text in enumerate(item.value)}
 
 
 def plural_forms(message: str) -> Optional[tuple[str, dict[str, str], str, str]]:
@@ -75,21 +85,12 @@ def counted(forms: dict[str, str], argument: str, string: str, whole: str) -> tu
     return {one: text.text for one, text in made.items()}, [doubt for text in made.values() for doubt in text.doubts]
 
 
-def text_with(message: str, string: str, whole: str) -> Converted:
-    return to_printf(message, string, whole)
-
-
 def write_java(bundle: Bundle, locale: str, module: str, catalogue: Catalogue) -> Iterator[File]:
     lines = []
-    for item in items_of(bundle.tree, bundle.root):
-        key = ".".join(item.path)
-        if isinstance(item.value, Other):
-            catalogue.doubt(item.line, key, f"an item of the type {item.value.kind} is left out")
-            continue
+    for item, values in texts_of(bundle, catalogue):
         if PLURAL.search(str(item.value)):
-            catalogue.doubt(item.line, key, "a plural, which Java's MessageFormat doesn't have; ICU4J's has")
+            catalogue.doubt(item.line, ".".join(item.path), "a plural, which Java's MessageFormat doesn't have; ICU4J's has")
         lines += [f"# {line}" for comment in item.comments for line in comment.split("\n")]
-        values = {key: item.value} if isinstance(item.value, str) else {f"{key}.{count}": text for count, text in enumerate(item.value)}
         lines += [line_of(one, text) for one, text in values.items()]
     yield File(f"{module}{'_' * bool(locale)}{locale}.properties", "".join(f"{line}\n" for line in lines).encode("utf-8"))
 
@@ -137,7 +138,7 @@ def write_android(bundle: Bundle, locale: str, module: str, catalogue: Catalogue
 
 def put_android(root: Element, name: str, item: Item, catalogue: Catalogue) -> None:
     def text_in(message: str) -> str:
-        made = text_with(message, "s", "d")
+        made = to_printf(message, "s", "d")
         for doubt in made.doubts:
             catalogue.doubt(item.line, "/".join(item.path), doubt)
         return android_escaped(made.text)
@@ -173,19 +174,14 @@ def ios_quoted(text: str) -> str:
 
 def write_ios(bundle: Bundle, locale: str, module: str, catalogue: Catalogue) -> Iterator[File]:
     lines, plurals = [], {}
-    for item in items_of(bundle.tree, bundle.root):
-        key = ".".join(item.path)
-        if isinstance(item.value, Other):
-            catalogue.doubt(item.line, key, f"an item of the type {item.value.kind} is left out")
-            continue
+    for item, values in texts_of(bundle, catalogue):
         lines += [f"/* {comment.replace('*/', '* /')} */" for comment in item.comments]
-        values = {key: item.value} if isinstance(item.value, str) else {f"{key}.{count}": text for count, text in enumerate(item.value)}
         for one, text in values.items():
             plural = plural_forms(text)
             if plural:
                 plurals[one], doubts = ios_plural(plural)
             else:
-                made = text_with(text, "@", "ld")
+                made = to_printf(text, "@", "ld")
                 doubts = made.doubts
                 lines.append(f"{ios_quoted(one)} = {ios_quoted(made.text)};")
             for doubt in doubts:
@@ -200,7 +196,7 @@ def ios_plural(plural: tuple[str, dict[str, str], str, str]) -> tuple[dict, list
     argument, forms, before, after = plural
     texts, doubts = counted(forms, argument, "@", "ld")
     place = f"{int(argument) + 1}$" if argument.isdecimal() and argument != "0" else ""
-    around = [text_with(text, "@", "ld") for text in (before, after)]
+    around = [to_printf(text, "@", "ld") for text in (before, after)]
     doubts += [doubt for one in around for doubt in one.doubts]
     variable = {"NSStringFormatSpecTypeKey": "NSStringPluralRuleType", "NSStringFormatValueTypeKey": "ld", **texts}
     return {"NSStringLocalizedFormatKey": f"{around[0].text}%{place}#@count@{around[1].text}", "count": variable}, doubts
