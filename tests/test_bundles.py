@@ -105,15 +105,7 @@ def file_of_row(row):
 
 
 # what is damaged word by word, beside most samples
-SHARED = [
-    shared_arrays(5),
-    chain_and_more(4),
-    overlapping(4, 2),
-    suffixes(12, 24),
-    numbers(6),
-    two_kinds(0x40000007, 0x80000007, 2),
-    two_kinds(0x2000000E, 0x8000000E, 1),
-]
+SHARED = [file_of_row(row) for row in rows("bundles/damaged.jsonl")]
 LONG_KEY = "k" * 1000
 # keys `a`, `b` and, once, the long one with its NUL and padding; then the two tables and the root
 LONG_KEY_FILE = [0x20000106, 5, 258, 266, 266, 2, 0x00620061, *[0x6B6B6B6B] * 250, 0xAAAAAA00, 0x001C0001, 0x70000001, 0x001C0001, 0x70000002]

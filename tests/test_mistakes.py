@@ -23,15 +23,7 @@ LOCALES = ("ar", "de", "de_AT", "en_GB", "es", "fr", "ja", "pt", "ru", "th", "zh
 PLURALS = {"ar": "zero one two few many other", "ru": "one few many other", "ja": "other", "th": "other", "zh": "other"}
 PROJECT = sorted((TOP / "examples" / "project" / "texts").glob("*/*.txt"))
 SOURCES = ("test/testdata", "samples/uresb", "samples/ufortune/resources", "extra/uconv/resources")
-SMALL = """de {
-    greeting { "Guten Tag" }
-    menu {
-        open { "Öffnen" }
-        close { "Schließen" }
-    }
-    days { "Montag", "Dienstag" }
-}
-"""
+SMALL = (TOP / "tests" / "lint" / "small.txt").read_text(encoding="utf-8")
 
 
 def lint_places(resb, path, *options):

@@ -12,7 +12,7 @@ import threading
 import unicodedata
 
 import pytest
-from support.program import TOP, Outcome, Resb, Skipped
+from support.program import TOP, Outcome, Resb, Skipped, rows
 
 IN_JSON = [*range(0x7F, 0xA0), *range(0x202A, 0x202F), *range(0x2066, 0x206A)]
 CONTROLS = [*IN_JSON, 0x061C, 0x200E, 0x200F]
@@ -118,17 +118,14 @@ def folder(resb):
     return resb
 
 
-# commands over items that spell controls out, whether one has the text in a pipe, and whether it escapes most there
-ITEMS = [
-    *((words, path == "s", "json" in words) for path in ("s", "l", "t", "")
-      for words in (["get", "root.res", path], ["look", "root", path, "root.res"], ["json", "root.res", path], ["json", "--pretty", "root.res", path])),
-    (["compile", "root.txt", "root.res"], False, False), (["compile", "root.txt", "-"], False, False), (["json", "--inherit", "root", "root.res"], True, True),
-    (["text", "root.res"], False, False), (["diff", "root.txt", "other.txt"], True, False), (["diff", "--json", "root.txt", "other.txt"], True, False),
-    (["look", "root", "a", "root.txt"], True, False), (["lines", "shop", "root.txt"], True, False),
-]
+def commands(kind):
+    """Returns the rows of console/terminals.jsonl of a kind: commands over items that spell controls out, whether one "has" the text in a pipe, and whether
+    it escapes most there; commands with the odd NAME in their messages; and those over files that can't be read or written, with the line and the cause."""
+    filled = json.loads(json.dumps(rows("console/terminals.jsonl")).replace("TOO_LONG", TOO_LONG).replace("NAME", json.dumps(NAME)[1:-1]))
+    return [row for row in filled if row.pop("of") == kind and ("/dev/full" not in row["words"] or os.path.exists("/dev/full"))]
 
 
-@pytest.mark.parametrize("words, has, is_escaped", ITEMS, ids=lambda value: " ".join(value) if isinstance(value, list) else "")
+@pytest.mark.parametrize("words, has, is_escaped", [row.values() for row in commands("items")], ids=lambda value: " ".join(value) if isinstance(value, list) else "")
 def test_items(folder, words, has, is_escaped):
     compare(folder, words, change=spelled, has=spelled(TEXT, IN_JSON) if is_escaped else TEXT if has else None)
 
@@ -232,15 +229,6 @@ def test_folders(resb):
 
 
 RES, BAD = NAME + ".res", NAME + "bad.res"
-NAMED = [
-    ["check", RES, BAD, "missing" + NAME], ["get", RES, NAME], ["json", RES, NAME], ["text", "missing" + NAME], ["compile", NAME + ".txt", "o.res"],
-    ["compile", "root.txt", RES + "/o"], ["lint", "--color", "never", "--format", "text", NAME + ".txt"], ["explain", NAME], ["look", NAME, "a", "root.res"],
-    ["look", "root", "a", NAME + "=missing.res"], ["lines", NAME, "root.txt"], ["serve", "--apps", NAME], ["serve", "--data", NAME], [NAME],
-    ["check", "--" + NAME], ["look", "--trace", "root_DE", "none", f"root={RES}"], ["fmt", NAME + ".txt"], ["fmt", "missing" + NAME],
-    ["compile", "--to", "o", NAME + ".txt", f"other/{NAME}.txt"], ["compile", "root.txt", NAME + ".txt"],
-]
-
-
 @pytest.fixture
 def named(folder):
     """The folder with files of an odd name."""
@@ -250,7 +238,7 @@ def named(folder):
     return folder
 
 
-@pytest.mark.parametrize("words", NAMED, ids=lambda words: " ".join(words).replace(NAME, "NAME"))
+@pytest.mark.parametrize("words", [row["words"] for row in commands("names")], ids=lambda words: " ".join(words).replace(NAME, "NAME"))
 def test_names(named, words):
     """Messages with the name of a file, an argument or a key."""
     compare(named, words, named=[NAME], has=NAME if words[0] == "check" and words[1] == RES else None)
@@ -279,22 +267,7 @@ def test_names_in_json(named):
     compare(named, ["look", "--trace", "root", "s", f"root={RES}"], change=spelled, named=[NAME], has=NAME)
 
 
-# files that can't be read or written, and why
-UNREAD = [("none", "no such file"), ("folder", "is a folder"), ("root.res/a", "a part of its path is no folder"), ("loop.res", "its links form a circle"),
-          (TOO_LONG, "the name is too long")]
-READING = [["get", "none", "a"], ["text", "none"], ["json", "none"], ["diff", "none", "root.res"], ["compile", "none", "a.res"],
-           ["compile", "--json", "none", "a.res"], ["compile", "--to", "folder", "none"], ["lint", "none"], ["fmt", "none"], ["lines", "shop", "root=none"],
-           ["look", "root", "a", "root=none"], ["serve", "root=none"], ["serve", "--parents", "none"]]
-UNWRITTEN = [("none/a.res", "no such folder"), ("none/", "no such folder"), ("folder", "is a folder"), ("root.res/a.res", "a part of its path is no folder"),
-             ("loop.res", "its links form a circle"), (TOO_LONG, "the name is too long"), ("/dev/full", "no space is left")]
-CAUSES = [
-    *((["check", file], f"cannot read {file}", cause) for file, cause in UNREAD), *((words, "cannot read none", "no such file") for words in READING),
-    *((["compile", "root.txt", file], f"cannot write {file}", cause) for file, cause in UNWRITTEN if file != "/dev/full" or os.path.exists(file)),
-    (["compile", "--to", "root.txt", "--from", "in", "in/de.txt"], "cannot write root.txt/de.res", "a part of its path is no folder"),
-]
-
-
-@pytest.mark.parametrize("words, line, cause", CAUSES, ids=lambda value: " ".join(value)[:60] if isinstance(value, list) else "")
+@pytest.mark.parametrize("words, line, cause", [row.values() for row in commands("causes")], ids=lambda value: " ".join(value)[:60] if isinstance(value, list) else "")
 def test_causes(folder, words, line, cause):
     os.mkdir(folder.folder / "folder")
     os.symlink("loop.res", folder.folder / "loop.res")

@@ -52,10 +52,6 @@ def joined(text: str, start: int, end: int) -> str:
     return f'"{inner}"'
 
 
-def insert_comma(text: str, start: int, end: int, said: str) -> Optional[Fix]:
-    return Fix("Insert a comma", [Edit(start, start, ",")])
-
-
 def join_quotes(text: str, start: int, end: int, said: str) -> Optional[Fix]:
     found = pieces(text, start)
     if len(found) < 2:
@@ -68,14 +64,6 @@ def close_quote(text: str, start: int, end: int, said: str) -> Optional[Fix]:
     line = text[start : text.find("\n", start) if "\n" in text[start:] else len(text)]
     tail = re.search(r"[\s,}]*\Z", line).start()
     return Fix('Close the quote', [Edit(start + tail, start + tail, '"')])
-
-
-def double_backslash(text: str, start: int, end: int, said: str) -> Optional[Fix]:
-    return Fix("Write the backslash as \\\\", [Edit(start, start, "\\")])
-
-
-def single_backslash(text: str, start: int, end: int, said: str) -> Optional[Fix]:
-    return Fix("Write an escape, with one backslash", [Edit(start, start + 1, "")])
 
 
 def quote_key(text: str, start: int, end: int, said: str) -> Optional[Fix]:
@@ -104,17 +92,17 @@ def close_direction(text: str, start: int, end: int, said: str) -> Optional[Fix]
 
 # what a finding is turned into, by its name
 SIMPLE: dict[str, Callable[[str, int, int, str], Optional[Fix]]] = {
-    "joined-strings": insert_comma,
+    "joined-strings": lambda text, start, end, said: Fix("Insert a comma", [Edit(start, start, ",")]),
     "mixed-quotes": join_quotes,
     "open-quote": close_quote,
     "OpenQuote": close_quote,
-    "unknown-escape": double_backslash,
-    "BadEscape": double_backslash,
-    "doubled-backslash": single_backslash,
+    "unknown-escape": lambda text, start, end, said: Fix("Write the backslash as \\\\", [Edit(start, start, "\\")]),
+    "doubled-backslash": lambda text, start, end, said: Fix("Write an escape, with one backslash", [Edit(start, start + 1, "")]),
     "suspicious-key": quote_key,
     "other-quotes": own_quotes,
     "open-direction": close_direction,
 }
+SIMPLE["BadEscape"] = SIMPLE["unknown-escape"]
 
 
 def message_fix(rule: str, said: str, source: str, locale: str) -> Optional[Fix]:
