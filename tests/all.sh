@@ -125,8 +125,8 @@ start launcher tests/launcher.sh
 start release tests/release.sh
 start_if python3 definitions tests/trusted.py --inner
 start_if python3 functions bench/functions.py --self-test
-start_if pyflakes3 pyflakes pyflakes3 tests bench bin/*.py library tools/lsp tools/exchange tools/icu2text
-start_if mypy mypy mypy --cache-dir=/dev/null tests/support
+start_if pyflakes3 pyflakes pyflakes3 tests bench bench/measure bin/*.py library tools/lsp tools/exchange tools/{icu2text,pages,proofs,cldr-parents,plural-categories,resb-ci}
+start_if mypy mypy mypy --cache-dir=/dev/null tests/support bench/measuring.py
 if [ -z "$quick" ]; then
     # these interpret programs and need no proof, so they run beside the gate
     part memory tests/memory.sh &
