@@ -490,8 +490,8 @@ def python_cases(bench, files):
     if kept and not by(*KEYS) == by(path) == ours():
         raise SystemExit("the answers differ")
     for name, steps in (("key by key", KEYS), ("by a path", (path,))):
-        yield Case("library", f"a lookup in Python, {name} in PyICU", lambda: timed(ours), kept and functools.partial(timed, functools.partial(by, *steps)), "PyICU",
-                   "microseconds", [Goal("time", 1.2)])
+        theirs = kept and functools.partial(timed, functools.partial(by, *steps))
+        yield Case("library", f"a lookup in Python, {name} in PyICU", lambda: timed(ours), theirs, "PyICU", "microseconds", [Goal("time", 1.2)])
 
 
 def hostile_cases(bench):
@@ -500,5 +500,5 @@ def hostile_cases(bench):
     yield from hostile.cases(bench)
 
 
-TABLES = {"compile": compile_cases, "print": print_cases, "text": text_cases, "serve": serve_cases, "cldr": cldr_cases, "daily": daily_cases, "hostile": hostile_cases,
-          "library": library_cases}
+TABLES = {"compile": compile_cases, "print": print_cases, "text": text_cases, "serve": serve_cases, "cldr": cldr_cases, "daily": daily_cases,
+          "hostile": hostile_cases, "library": library_cases}

@@ -125,7 +125,11 @@ def commands(kind):
     return [row for row in filled if row.pop("of") == kind and ("/dev/full" not in row["words"] or os.path.exists("/dev/full"))]
 
 
-@pytest.mark.parametrize("words, has, is_escaped", [row.values() for row in commands("items")], ids=lambda value: " ".join(value) if isinstance(value, list) else "")
+def named_by_words(value):
+    return " ".join(value)[:60] if isinstance(value, list) else ""
+
+
+@pytest.mark.parametrize("words, has, is_escaped", [row.values() for row in commands("items")], ids=named_by_words)
 def test_items(folder, words, has, is_escaped):
     compare(folder, words, change=spelled, has=spelled(TEXT, IN_JSON) if is_escaped else TEXT if has else None)
 
@@ -267,7 +271,7 @@ def test_names_in_json(named):
     compare(named, ["look", "--trace", "root", "s", f"root={RES}"], change=spelled, named=[NAME], has=NAME)
 
 
-@pytest.mark.parametrize("words, line, cause", [row.values() for row in commands("causes")], ids=lambda value: " ".join(value)[:60] if isinstance(value, list) else "")
+@pytest.mark.parametrize("words, line, cause", [row.values() for row in commands("causes")], ids=named_by_words)
 def test_causes(folder, words, line, cause):
     os.mkdir(folder.folder / "folder")
     os.symlink("loop.res", folder.folder / "loop.res")
