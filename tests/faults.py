@@ -64,7 +64,7 @@ def failing(top, program, names):
     """Returns the name of the first of some tests that fails, or None."""
     words = [sys.executable, "-m", "pytest", "-x", f"--program={program}", "--hypothesis-profile", "smoke", "-k", SLOW, *names]
     done = subprocess.run(words, cwd=top, capture_output=True, text=True, check=False)
-    found = re.search(r"^(?:FAILED|ERROR) (?:tests/)?test_(\S+)", done.stdout, flags=re.M)
+    found = re.search(r"^(?:FAILED|ERROR) (?:tests/)?test_(.+?)(?: - .*)?$", done.stdout, flags=re.M)
     if not found and done.returncode not in (0, 4, 5):  # 4, 5: a test has another name by now
         sys.exit(f"pytest ends with status {done.returncode}:\n{done.stdout}{done.stderr}")
     return found and found[1]

@@ -13,6 +13,7 @@ import subprocess
 
 import pytest
 from model import files
+from model.trees import leaves
 from support import icu
 from support.program import TOP, run
 from support.server import line_of
@@ -225,15 +226,9 @@ MARKER = "\u2205\u2205\u2205"
 LOOKUPS = 20000
 
 
-def strings(item, path=""):
+def strings(tree):
     """Yields the paths of strings in a tree, which have no key that a path can't name."""
-    kind, content = item
-    if kind == "string":
-        yield path
-    parts = content.items() if kind == "table" else enumerate(content) if kind == "array" else ()
-    for part, child in parts:
-        if "/" not in str(part):
-            yield from strings(child, f"{path}/{part}" if path else str(part))
+    return ("/".join(parts) for parts, (kind, _) in leaves(tree) if kind == "string" and not any("/" in part for part in parts))
 
 
 class Tree:

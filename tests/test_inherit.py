@@ -5,7 +5,7 @@ import json
 
 import pytest
 from hypothesis import given
-from model import lookups
+from model import lookups, trees
 from model.inherited import TooLong, Tree
 from model.lookups import Refused
 from model.trees import child, printed, segments, units_of, value_of
@@ -46,16 +46,6 @@ def is_plain(parts):
     return not any("/" in part or part == "" for part in parts)
 
 
-def paths_in(item, parts):
-    """Yields the paths of the leaves of a tree."""
-    kind, content = item
-    if kind in ("table", "array"):
-        for key, inner in content.items() if kind == "table" else enumerate(content):
-            yield from paths_in(inner, [*parts, str(key)])
-    elif kind != "alias":
-        yield parts
-
-
 def at(value, parts):
     """Returns the value at a path, or what is on the way if it isn't a table."""
     for part in parts:
@@ -85,7 +75,7 @@ def check_laws(bundles, parents, name, path, value):
     for parts, leaf in leaves(value, begin):
         assert leaf == {":error": "TooDeep"} or not is_plain(parts) or looked_up(bundles, parents, name, parts) == leaf, parts
     for tree, _ in bundles.values():
-        for parts in paths_in(tree, []):
+        for parts in (list(parts) for parts, (kind, _) in trees.leaves(tree) if kind != "alias"):
             if parts[:len(begin)] != begin or not is_plain(parts):
                 continue
             found = looked_up(bundles, parents, name, parts)

@@ -48,6 +48,16 @@ def walk(item, parts):
     return item, len(parts)
 
 
+def leaves(item, path=()):
+    """Yields each item that is neither a table nor an array, with its path."""
+    kind, content = item
+    if kind not in ("table", "array"):
+        yield path, item
+        return
+    for part, inner in content.items() if kind == "table" else enumerate(content):
+        yield from leaves(inner, (*path, str(part)))
+
+
 def height(item):
     """Counts the levels of an item."""
     kind, content = item
