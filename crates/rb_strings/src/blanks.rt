@@ -1,7 +1,7 @@
 use crate::characters::is_blank;
 
 /// The end of a string at which it has other blanks than its source.
-#[derive(Clone, Copy, Debug, PartialEq, Eq)]
+#[derive(Clone, Copy)]
 pub enum Edge {
     /// It begins with a blank, and its source doesn't, or the other way round.
     First { is_lost: bool },
@@ -20,7 +20,22 @@ fn is_blank_at(unit: Option<&u16>) -> bool {
 
 /// Finds a backslash before `n` in a text.
 fn spelled_feed(text: &[u16]) -> Option<usize> {
-    text.windows(2).position(|pair| pair.first() == Some(&0x5C) && pair.get(1) == Some(&0x6E))
+    let mut is_escape = false;
+    for (at, unit) in text.iter().enumerate() {
+        if is_escape && *unit == 0x6E {
+            return at.checked_sub(1);
+        }
+        is_escape = *unit == 0x5C;
+    }
+    None
+}
+
+/// Returns where a line feed of a string's source is two characters.
+fn spelled(here: &[u16], source: &[u16]) -> Option<Edge> {
+    match (spelled_feed(here), spelled_feed(source)) {
+        (Some(at), None) if source.contains(&0x0A) => Some(Edge::Spelled(at)),
+        _ => None,
+    }
 }
 
 /// Returns how the blanks at the ends of a string differ from those of its source, or where a line feed of
@@ -28,10 +43,6 @@ fn spelled_feed(text: &[u16]) -> Option<usize> {
 pub fn other_blanks(here: &[u16], source: &[u16]) -> [Option<Edge>; 3] {
     let (first, last) = (is_blank_at(here.first()), is_blank_at(here.last()));
     let (root_first, root_last) = (is_blank_at(source.first()), is_blank_at(source.last()));
-    let spelled = match (spelled_feed(here), spelled_feed(source)) {
-        (Some(at), None) if source.contains(&0x0A) => Some(Edge::Spelled(at)),
-        _ => None,
-    };
     [
         if first == root_first {
             None
@@ -45,6 +56,6 @@ pub fn other_blanks(here: &[u16], source: &[u16]) -> [Option<Edge>; 3] {
         } else {
             Some(Edge::Last { is_lost: root_last })
         },
-        spelled,
+        spelled(here, source),
     ]
 }

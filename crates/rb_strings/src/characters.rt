@@ -21,16 +21,47 @@ pub(crate) fn is_name(unit: u16) -> bool {
 
 /// Checks whether a text begins with ASCII characters.
 pub(crate) fn begins_with(text: &[u16], prefix: &[u8]) -> bool {
-    text.len() >= prefix.len()
-        && text
-            .iter()
-            .zip(prefix)
-            .all(|(unit, byte)| *unit == u16::from(*byte))
+    for (at, byte) in prefix.iter().enumerate() {
+        if text.get(at) != Some(&u16::from(*byte)) {
+            return false;
+        }
+    }
+    true
 }
 
 /// Checks whether units are exactly an ASCII word.
-pub(crate) fn is_exactly(units: &[u16], word: &[u8]) -> bool {
+fn is_exactly(units: &[u16], word: &[u8]) -> bool {
     units.len() == word.len() && begins_with(units, word)
+}
+
+/// Checks whether units are one of some ASCII words, with a space between each.
+pub(crate) fn is_one_of(units: &[u16], words: &str) -> bool {
+    for word in words.split(' ') {
+        if is_exactly(units, word.as_bytes()) {
+            return true;
+        }
+    }
+    false
+}
+
+/// Checks whether a unit is one of some characters.
+pub(crate) fn is_among(unit: u16, characters: &str) -> bool {
+    for c in characters.chars() {
+        if u32::from(c) == u32::from(unit) {
+            return true;
+        }
+    }
+    false
+}
+
+/// Returns the first place of a unit.
+pub(crate) fn place_of(text: &[u16], wanted: u16) -> Option<usize> {
+    for (at, unit) in text.iter().enumerate() {
+        if *unit == wanted {
+            return Some(at);
+        }
+    }
+    None
 }
 
 /// A class of units.
@@ -49,6 +80,8 @@ pub(crate) enum Class {
     Numeral,
     /// A character that ends no address: the punctuation of a sentence doesn't.
     AddressEnd,
+    /// White space.
+    Blank,
     /// Any unit but white space.
     Ink,
     /// Any unit but white space and closing quotes and brackets.
@@ -66,6 +99,7 @@ impl Class {
             Class::Address => is_address(unit),
             Class::Numeral => is_digit(unit) || matches!(unit, 0x2C | 0x2E),
             Class::AddressEnd => !matches!(unit, 0x21 | 0x2C | 0x2E | 0x3A | 0x3B | 0x3F),
+            Class::Blank => is_blank(unit),
             Class::Ink => !is_blank(unit),
             Class::Body => !is_blank(unit) && !is_closer(unit),
         }
@@ -74,23 +108,7 @@ impl Class {
 
 /// Checks for a closing quote or bracket.
 fn is_closer(unit: u16) -> bool {
-    matches!(
-        unit,
-        0x22 | 0x27
-            | 0x29
-            | 0x5D
-            | 0xBB
-            | 0x2018
-            | 0x2019
-            | 0x201C
-            | 0x201D
-            | 0x203A
-            | 0x300B
-            | 0x300D
-            | 0x300F
-            | 0x3011
-            | 0xFF09
-    )
+    is_among(unit, "\"')]»‘’“”›》」』】）")
 }
 
 fn is_address(unit: u16) -> bool {
@@ -102,11 +120,14 @@ fn is_address(unit: u16) -> bool {
 
 /// Returns the number of units of a class from an offset of a text on.
 pub(crate) fn count_of(text: &[u16], at: usize, class: Class) -> usize {
-    let rest = text.get(at..).unwrap_or(&[]);
-    match rest.iter().position(|unit| !class.has(*unit)) {
-        Some(count) => count,
-        None => rest.len(),
+    let mut count: usize = 0;
+    for unit in text.get(at..).unwrap_or(&[]) {
+        if !class.has(*unit) {
+            break;
+        }
+        count = count.saturating_add(1);
     }
+    count
 }
 
 /// Returns the offset after the last unit of a class, or 0.

@@ -1,8 +1,8 @@
 //! Characters that no one writes, but wrong conversions and keyboards do.
-use crate::characters::is_letter;
+use crate::characters::{is_among, is_letter, place_of};
 
 /// The damages of a string.
-#[derive(Clone, Copy, Debug, PartialEq, Eq)]
+#[derive(Clone, Copy)]
 pub enum Damage {
     /// U+FFFD, which stands for what could not be read.
     Replacement,
@@ -15,28 +15,8 @@ pub enum Damage {
 /// Checks for what the second byte of a character in UTF-8 becomes as Latin-1 or Windows-1252, except
 /// quotes, dashes and blanks that stand after letters.
 fn is_second(unit: u16) -> bool {
-    matches!(
-        unit,
-        0x80..=0x9F
-            | 0xA1..=0xAA
-            | 0xAC..=0xB6
-            | 0xB8..=0xBA
-            | 0xBC..=0xBF
-            | 0x0152
-            | 0x0153
-            | 0x0160
-            | 0x0161
-            | 0x0178
-            | 0x017D
-            | 0x017E
-            | 0x0192
-            | 0x02C6
-            | 0x02DC
-            | 0x2020..=0x2022
-            | 0x2030
-            | 0x20AC
-            | 0x2122
-    )
+    matches!(unit, 0x80..=0x9F | 0xA1..=0xAA | 0xAC..=0xB6 | 0xB8..=0xBA | 0xBC..=0xBF)
+        || is_among(unit, "ŒœŠšŸŽžƒˆ˜†‡•‰€™")
 }
 
 /// Checks for a dash or a quote that is the second byte of a character.
@@ -73,64 +53,12 @@ fn is_cyrillic(unit: u16) -> bool {
 
 /// Checks for a Cyrillic letter that looks like a Latin one.
 fn is_alike(unit: u16) -> bool {
-    matches!(
-        unit,
-        0x0405
-            | 0x0406
-            | 0x0408
-            | 0x0410
-            | 0x0412
-            | 0x0415
-            | 0x041A
-            | 0x041C
-            | 0x041D
-            | 0x041E
-            | 0x0420..=0x0422
-            | 0x0425
-            | 0x0430
-            | 0x0435
-            | 0x043E
-            | 0x0440
-            | 0x0441
-            | 0x0443
-            | 0x0445
-            | 0x0455
-            | 0x0456
-            | 0x0458
-    )
+    is_among(unit, "ЅІЈАВЕКМНОРСТХаеорсухѕіј")
 }
 
 /// Checks for a Latin letter that looks like a Cyrillic one.
 fn is_alike_latin(unit: u16) -> bool {
-    match char::from_u32(u32::from(unit)) {
-        Some(c) => matches!(
-            c,
-            'A' | 'B'
-                | 'C'
-                | 'E'
-                | 'H'
-                | 'I'
-                | 'J'
-                | 'K'
-                | 'M'
-                | 'O'
-                | 'P'
-                | 'S'
-                | 'T'
-                | 'X'
-                | 'a'
-                | 'c'
-                | 'e'
-                | 'i'
-                | 'j'
-                | 'o'
-                | 'p'
-                | 's'
-                | 'x'
-                | 'y'
-        ),
-        None => false,
-    }
+    is_among(unit, "ABCEHIJKMOPSTXaceijopsxy")
 }
 
 /// The letters of a word so far.
@@ -210,16 +138,31 @@ fn mojibake(text: &[u16]) -> Option<usize> {
     None
 }
 
+fn is_ascii(text: &[u16]) -> bool {
+    for unit in text {
+        if *unit >= 0x80 {
+            return false;
+        }
+    }
+    true
+}
+
+/// Returns a damage with its place, if it has one.
+fn placed(at: Option<usize>, damage: Damage) -> Option<(usize, Damage)> {
+    match at {
+        Some(at) => Some((at, damage)),
+        None => None,
+    }
+}
+
 /// Returns the damages of a string, each once, with the unit at which it begins.
 pub fn damage_in(text: &[u16]) -> [Option<(usize, Damage)>; 3] {
-    if text.iter().all(|unit| *unit < 0x80) {
+    if is_ascii(text) {
         return [None, None, None];
     }
     [
-        text.iter()
-            .position(|unit| *unit == 0xFFFD)
-            .map(|at| (at, Damage::Replacement)),
-        mojibake(text).map(|at| (at, Damage::Mojibake)),
-        mixed_word(text).map(|at| (at, Damage::MixedScripts)),
+        placed(place_of(text, 0xFFFD), Damage::Replacement),
+        placed(mojibake(text), Damage::Mojibake),
+        placed(mixed_word(text), Damage::MixedScripts),
     ]
 }

@@ -1,10 +1,10 @@
 //! The punctuation that ends a string.
-use crate::characters::{Class, is_blank, past_last};
+use crate::characters::{Class, count_of, past_last};
 
 const STOP: u16 = 0x2E;
 
 /// Punctuation that ends a string, in any script.
-#[derive(Clone, Copy, Debug, PartialEq, Eq)]
+#[derive(Clone, Copy, PartialEq, Eq)]
 pub enum Ending {
     Stop,
     Colon,
@@ -77,7 +77,7 @@ fn ends_as(text: &[u16], wanted: Ending) -> bool {
 /// nor its peer in another script. A full stop after one word may be an abbreviation's.
 pub fn lacking_ending(here: &[u16], source: &[u16]) -> Option<Ending> {
     let wanted = punctuation_at_end(source)?;
-    let is_word = wanted == Ending::Stop && !source.iter().any(|unit| is_blank(*unit));
+    let is_word = wanted == Ending::Stop && count_of(source, 0, Class::Ink) == source.len();
     if is_word || ends_as(here, wanted) {
         None
     } else {

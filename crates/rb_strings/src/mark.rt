@@ -1,7 +1,7 @@
 use std::alloc::{AllocError, Global};
 
 /// The kinds of parts that a translation keeps as they are.
-#[derive(Clone, Copy, Debug, PartialEq, Eq)]
+#[derive(Clone, Copy, PartialEq, Eq)]
 pub enum MarkKind {
     /// A conversion of `printf`, such as `%d` and `%1$s`, or a variable, such as `${name}`.
     Placeholder,
@@ -14,7 +14,7 @@ pub enum MarkKind {
 }
 
 /// A part of a string that its translation keeps.
-#[derive(Clone, Copy, Debug, PartialEq, Eq)]
+#[derive(Clone, Copy)]
 pub struct Mark {
     pub kind: MarkKind,
     pub first: usize,
@@ -28,7 +28,7 @@ impl Mark {
     }
 }
 
-/// Returns marks in the order of their units, each with its text.
+/// Returns the units of marks in order, each with the index of its mark.
 fn sorted<'a>(
     alloc: Global,
     text: &'a [u16],
@@ -42,6 +42,40 @@ fn sorted<'a>(
     Ok(all)
 }
 
+/// Checks whether the mark at an index has some units.
+fn has_units(marks: &[(&[u16], usize)], at: usize, units: &[u16]) -> bool {
+    match marks.get(at) {
+        Some(mark) => mark.0 == units,
+        None => false,
+    }
+}
+
+/// Returns the marks that others lack, each once, given the units of both in order.
+fn lacking(
+    alloc: Global,
+    marks: &[Mark],
+    wanted: &[(&[u16], usize)],
+    others: &[(&[u16], usize)],
+    is_set: bool,
+) -> Result<Vec<Mark>, AllocError> {
+    let mut found = Vec::new(alloc);
+    let mut next: usize = 0;
+    let mut last: &[u16] = &[];
+    for (units, i) in wanted {
+        let past = others.partition_point(|other| other.0 < *units);
+        next = next.max(past);
+        if has_units(others, if is_set { past } else { next }, units) {
+            next = next.saturating_add(1);
+        } else if last != *units {
+            if let Some(mark) = marks.get(*i) {
+                found.push(*mark)?;
+            }
+            last = units;
+        }
+    }
+    Ok(found)
+}
+
 /// Returns the marks of a text that another text lacks, in the order of the text and each once: those that
 /// it has less often, or, if `is_set`, not at all. `Err` means out of memory.
 pub fn marks_lacking(
@@ -50,26 +84,9 @@ pub fn marks_lacking(
     other: (&[u16], &[Mark]),
     is_set: bool,
 ) -> Result<Vec<Mark>, AllocError> {
-    let (text, marks) = here;
-    let wanted = sorted(alloc, text, marks)?;
-    let known = sorted(alloc, other.0, other.1)?;
-    let mut found = Vec::new(alloc);
-    let mut next = 0;
-    let mut last: &[u16] = &[];
-    for (units, i) in &wanted {
-        let past = known.partition_point(|entry| entry.0 < *units);
-        next = if past > next { past } else { next };
-        let is_there = match known.get(if is_set { past } else { next }) {
-            Some(entry) => entry.0 == *units,
-            None => false,
-        };
-        if is_there {
-            next = next.saturating_add(1);
-        } else if let Some(mark) = marks.get(*i).filter(|_| last != *units) {
-            found.push(*mark)?;
-            last = units;
-        }
-    }
+    let wanted = sorted(alloc, here.0, here.1)?;
+    let others = sorted(alloc, other.0, other.1)?;
+    let mut found = lacking(alloc, here.1, &wanted, &others, is_set)?;
     found.sort_by_key(|mark: &Mark| mark.first)?;
     Ok(found)
 }

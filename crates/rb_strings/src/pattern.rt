@@ -1,8 +1,10 @@
 //! Patterns of dates and numbers in messages, as ICU reads them.
-use crate::characters::{Class, begins_with, is_blank, is_digit, is_exactly, is_letter, past_last};
+use crate::characters::{
+    Class, begins_with, count_of, is_digit, is_letter, is_one_of, past_last, place_of,
+};
 
 /// A doubtful part of a pattern of a date or a number.
-#[derive(Clone, Copy, Debug, PartialEq, Eq)]
+#[derive(Clone, Copy)]
 pub enum PatternFault {
     /// `Y`, the year of weeks, without a week.
     WeekYear,
@@ -19,31 +21,19 @@ pub enum PatternFault {
 }
 
 /// The names of styles that are no patterns.
-const NAMES: [&[u8]; 7] = [
-    b"short",
-    b"medium",
-    b"long",
-    b"full",
-    b"integer",
-    b"currency",
-    b"percent",
-];
+const NAMES: &str = "short medium long full integer currency percent";
 
 /// Returns a style without the blanks around it.
 fn trimmed(style: &[u16]) -> &[u16] {
-    match style.iter().position(|unit| !is_blank(*unit)) {
-        Some(first) => style
-            .get(first..past_last(style, Class::Ink))
-            .unwrap_or(&[]),
-        None => &[],
-    }
+    let blanks = count_of(style, 0, Class::Blank);
+    style
+        .get(blanks..past_last(style, Class::Ink))
+        .unwrap_or(&[])
 }
 
 /// Checks whether a style is a name or a skeleton.
 fn is_named(style: &[u16]) -> bool {
-    style.is_empty()
-        || begins_with(style, b"::")
-        || NAMES.iter().any(|name| is_exactly(style, name))
+    style.is_empty() || begins_with(style, b"::") || is_one_of(style, NAMES)
 }
 
 /// Returns the bit of a letter, or 0.
@@ -71,8 +61,12 @@ fn letters_of(pattern: &[u16]) -> u64 {
 
 /// Checks whether a set has one of some letters.
 fn has_any(letters: u64, some: &[u8]) -> bool {
-    some.iter()
-        .any(|letter| letters & bit_of(u16::from(*letter)) != 0)
+    for letter in some {
+        if letters & bit_of(u16::from(*letter)) != 0 {
+            return true;
+        }
+    }
+    false
 }
 
 /// The letters that mean something in patterns of dates.
@@ -92,8 +86,12 @@ fn unknown_letter(pattern: &[u16], letters: u64) -> Option<char> {
     if letters & !known == 0 {
         return None;
     }
-    let unit = pattern.iter().find(|unit| bit_of(**unit) & !known != 0)?;
-    char::from_u32(u32::from(*unit))
+    for unit in pattern {
+        if bit_of(*unit) & !known != 0 {
+            return char::from_u32(u32::from(*unit));
+        }
+    }
+    None
 }
 
 /// Returns what is doubtful in the style of a date or a time.
@@ -120,15 +118,22 @@ pub fn date_fault(style: &[u16]) -> Option<PatternFault> {
     }
 }
 
+/// Returns what follows the decimal point in the part of a pattern for positive numbers.
+fn fraction_of(pattern: &[u16]) -> Option<&[u16]> {
+    let positive = match place_of(pattern, 0x3B) {
+        Some(end) => pattern.get(..end)?,
+        None => pattern,
+    };
+    positive.get(place_of(positive, 0x2E)?.saturating_add(1)..)
+}
+
 /// Returns what is doubtful in the style of a number.
 pub fn number_fault(style: &[u16]) -> Option<PatternFault> {
     let pattern = trimmed(style);
     if is_named(pattern) {
         return None;
     }
-    let positive = pattern.split(|unit| *unit == 0x3B).next()?;
-    let point = positive.iter().position(|unit| *unit == 0x2E)?;
-    let fraction = positive.get(point.saturating_add(1)..)?;
+    let fraction = fraction_of(pattern)?;
     let mut has_hash = false;
     for unit in fraction {
         match *unit {

@@ -1,6 +1,6 @@
 //! Finds the marks of a string.
 use crate::characters::{
-    Class, begins_with, count_of, is_blank, is_digit, is_exactly, is_letter, is_name, past_last,
+    Class, begins_with, count_of, is_among, is_blank, is_letter, is_name, is_one_of, past_last,
 };
 use crate::mark::{Mark, MarkKind};
 use std::alloc::{AllocError, Global};
@@ -20,52 +20,12 @@ const GREATER: u16 = 0x3E;
 const AMPERSAND: u16 = 0x26;
 
 /// The tags of HTML that texts have.
-const TAGS: [&[u8]; 40] = [
-    b"a",
-    b"abbr",
-    b"b",
-    b"big",
-    b"blockquote",
-    b"body",
-    b"br",
-    b"code",
-    b"dd",
-    b"div",
-    b"dl",
-    b"dt",
-    b"em",
-    b"font",
-    b"h1",
-    b"h2",
-    b"h3",
-    b"h4",
-    b"hr",
-    b"html",
-    b"i",
-    b"img",
-    b"kbd",
-    b"li",
-    b"ol",
-    b"p",
-    b"pre",
-    b"q",
-    b"s",
-    b"small",
-    b"span",
-    b"strong",
-    b"sub",
-    b"sup",
-    b"table",
-    b"td",
-    b"th",
-    b"tr",
-    b"u",
-    b"ul",
-];
+const TAGS: &str = "a abbr b big blockquote body br code dd div dl dt em font h1 h2 h3 h4 \
+    hr html i img kbd li ol p pre q s small span strong sub sup table td th tr u ul";
 
-const ENTITIES: [&[u8]; 4] = [b"lt", b"gt", b"amp", b"quot"];
+const ENTITIES: &str = "lt gt amp quot";
 
-const SCHEMES: [&[u8]; 3] = [b"http://", b"https://", b"ftp://"];
+const SCHEMES: &str = "http:// https:// ftp://";
 
 /// Returns the length of a conversion of `printf`, or 0. A space is no flag here, as `50 % de` is a text.
 fn conversion_length(text: &[u16]) -> usize {
@@ -95,13 +55,7 @@ fn conversion_length(text: &[u16]) -> usize {
 
 /// Checks for the letter that ends a conversion, such as `d` and `s`; `@` is Objective-C's.
 fn is_conversion_letter(unit: u16) -> bool {
-    match char::from_u32(u32::from(unit)) {
-        Some(c) => matches!(
-            c,
-            'd' | 'i' | 'u' | 'o' | 'x' | 'X' | 'e' | 'f' | 'g' | 'c' | 's' | '@'
-        ),
-        None => false,
-    }
+    is_among(unit, "diuoxXefgcs@")
 }
 
 /// Checks whether a name in braces may be a variable's: `${...}` is prose.
@@ -136,7 +90,7 @@ fn tag_length(text: &[u16]) -> usize {
         Some(unit) => *unit == GREATER || *unit == 0x2F || is_blank(*unit),
         None => false,
     };
-    if is_ended && TAGS.iter().any(|tag| is_exactly(name, tag)) {
+    if is_ended && is_one_of(name, TAGS) {
         start.saturating_add(count)
     } else {
         0
@@ -148,16 +102,25 @@ fn entity_length(text: &[u16]) -> usize {
     let inside = text.get(1..).unwrap_or(&[]);
     let count = count_of(inside, 0, Class::Letter);
     let name = inside.get(..count).unwrap_or(&[]);
-    if inside.get(count) == Some(&0x3B) && ENTITIES.iter().any(|entity| is_exactly(name, entity)) {
+    if inside.get(count) == Some(&0x3B) && is_one_of(name, ENTITIES) {
         count.saturating_add(2)
     } else {
         0
     }
 }
 
+fn has_scheme(text: &[u16]) -> bool {
+    for scheme in SCHEMES.split(' ') {
+        if begins_with(text, scheme.as_bytes()) {
+            return true;
+        }
+    }
+    false
+}
+
 /// Returns the length of an address, without the punctuation after it, or 0.
 fn address_length(text: &[u16]) -> usize {
-    if !SCHEMES.iter().any(|scheme| begins_with(text, scheme)) {
+    if !has_scheme(text) {
         return 0;
     }
     let whole = text.get(..count_of(text, 0, Class::Address)).unwrap_or(&[]);

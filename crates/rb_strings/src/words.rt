@@ -40,7 +40,11 @@ pub fn find_word(text: &[u16], word: &[u16]) -> Option<usize> {
 
 /// Counts the characters of a text: a pair of surrogates is one.
 pub fn character_count(text: &[u16]) -> usize {
-    text.iter()
-        .filter(|unit| !matches!(**unit, 0xDC00..=0xDFFF))
-        .count()
+    let mut count: usize = 0;
+    for unit in text {
+        if !matches!(*unit, 0xDC00..=0xDFFF) {
+            count = count.saturating_add(1);
+        }
+    }
+    count
 }
