@@ -56,43 +56,44 @@ impl Argument {
     {
         let Argument(name, kind, help) = self;
         let made = Arg::new(alloc, name).help(help);
-        Ok(match kind {
-            Kind::Word => made.required(true),
-            Kind::OptionalWord => made,
-            Kind::WordUnless(option) => made.required_unless_present(option)?,
-            Kind::Words(shown) => made.required(true).num_args(1..).value_name(shown),
+        match kind {
+            Kind::Word => Ok(made.required(true)),
+            Kind::OptionalWord => Ok(made),
+            Kind::WordUnless(option) => made.required_unless_present(option),
+            Kind::Words(shown) => Ok(made.required(true).num_args(1..).value_name(shown)),
             Kind::WordsUnless(shown, option) => made
                 .num_args(1..)
                 .value_name(shown)
-                .required_unless_present(option)?,
-            Kind::AnyWords(shown) => made.num_args(0..).value_name(shown),
-            Kind::WordsWith(option) => made.num_args(0..).requires_arg(option)?,
-            Kind::Option(shown) => made.long(name).value_name(shown),
+                .required_unless_present(option),
+            Kind::AnyWords(shown) => Ok(made.num_args(0..).value_name(shown)),
+            Kind::WordsWith(option) => made.num_args(0..).requires_arg(option),
+            Kind::Option(shown) => Ok(made.long(name).value_name(shown)),
             Kind::OptionWith(shown, option) => made
                 .long(name)
                 .value_name(shown)
-                .requires_arg(option)?,
-            Kind::Options(shown) => made.long(name).value_name(shown).action(ArgAction::Append),
-            Kind::Limit => made
-                .long(name)
-                .value_name("N")
-                .value_parser(ValueParser::unsigned(1, LARGEST_LIMIT)),
-            Kind::Flag => made.long(name).action(ArgAction::SetTrue),
+                .requires_arg(option),
+            Kind::Options(shown) => Ok(made.long(name).value_name(shown).action(ArgAction::Append)),
+            Kind::Limit => Ok(
+                made.long(name)
+                    .value_name("N")
+                    .value_parser(ValueParser::unsigned(1, LARGEST_LIMIT)),
+            ),
+            Kind::Flag => Ok(made.long(name).action(ArgAction::SetTrue)),
             Kind::FlagWith(option) => made
                 .long(name)
                 .action(ArgAction::SetTrue)
-                .requires_arg(option)?,
+                .requires_arg(option),
             Kind::FlagWithout(option) => made
                 .long(name)
                 .action(ArgAction::SetTrue)
-                .conflicts_with(option)?,
+                .conflicts_with(option),
             Kind::FlagIf(option, other) => made
                 .long(name)
                 .action(ArgAction::SetTrue)
                 .requires_arg(option)?
-                .conflicts_with(other)?,
-            Kind::ShortFlag(letter) => made.long(name).short(letter).action(ArgAction::SetTrue),
-        })
+                .conflicts_with(other),
+            Kind::ShortFlag(letter) => Ok(made.long(name).short(letter).action(ArgAction::SetTrue)),
+        }
     }
 }
 

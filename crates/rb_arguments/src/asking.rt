@@ -446,6 +446,47 @@ fn serve_asked<'a>(alloc: Global, given: &ArgMatches<'a>) -> Result<Asked<'a>, A
     })
 }
 
+fn get_asked<'a>(given: &ArgMatches<'a>) -> Asked<'a>
+    ensures { AsksFor (codes "get") (rows_of (found_of given.now)) result }
+{
+    Asked::Get {
+        file: word_of(given, "FILE"),
+        path: word_of(given, "PATH"),
+        is_raw: flag_of(given, "raw"),
+    }
+}
+
+fn text_asked<'a>(given: &ArgMatches<'a>) -> Asked<'a>
+    ensures { AsksFor (codes "text") (rows_of (found_of given.now)) result }
+{
+    Asked::Text {
+        file: word_of(given, "FILE"),
+        name: optional_of(given, "name"),
+    }
+}
+
+fn diff_asked<'a>(given: &ArgMatches<'a>) -> Asked<'a>
+    ensures { AsksFor (codes "diff") (rows_of (found_of given.now)) result }
+{
+    Asked::Diff {
+        old: word_of(given, "OLD"),
+        new: word_of(given, "NEW"),
+        is_json: flag_of(given, "json"),
+        is_stat: flag_of(given, "stat"),
+    }
+}
+
+fn lines_asked<'a>(alloc: Global, given: &ArgMatches<'a>) -> Result<Asked<'a>, AllocError>
+    ensures { IfOk result (AsksFor (codes "lines") (rows_of (found_of given.now))) }
+{
+    Ok(Asked::Lines {
+        op: optional_of(given, "op"),
+        is_json: flag_of(given, "json"),
+        app: word_of(given, "APP"),
+        files: words_of(alloc, given, "FILE")?,
+    })
+}
+
 /// Returns what a command asks for, or None if there is no such command.
 fn command_asked<'a>(
     alloc: Global,
@@ -456,44 +497,28 @@ fn command_asked<'a>(
     ensures asked { IfOk result (λ asked.
         IfSome asked (AsksFor command.now (rows_of (found_of given.now)))) }
 {
-    Ok(Some(match command {
-        "compile" => compile_asked(alloc, given)?,
-        "check" => check_asked(alloc, given)?,
-        "get" => Asked::Get {
-            file: word_of(given, "FILE"),
-            path: word_of(given, "PATH"),
-            is_raw: flag_of(given, "raw"),
-        },
-        "json" => json_asked(alloc, given)?,
-        "text" => Asked::Text {
-            file: word_of(given, "FILE"),
-            name: optional_of(given, "name"),
-        },
-        "diff" => Asked::Diff {
-            old: word_of(given, "OLD"),
-            new: word_of(given, "NEW"),
-            is_json: flag_of(given, "json"),
-            is_stat: flag_of(given, "stat"),
-        },
-        "lint" => lint_asked(alloc, given)?,
-        "fmt" => format_asked(alloc, given)?,
-        "coverage" => coverage_asked(alloc, given)?,
-        "init" => Asked::Init {
+    let asked = match command {
+        "compile" => compile_asked(alloc, given),
+        "check" => check_asked(alloc, given),
+        "get" => Ok(get_asked(given)),
+        "json" => json_asked(alloc, given),
+        "text" => Ok(text_asked(given)),
+        "diff" => Ok(diff_asked(given)),
+        "lint" => lint_asked(alloc, given),
+        "fmt" => format_asked(alloc, given),
+        "coverage" => coverage_asked(alloc, given),
+        "init" => Ok(Asked::Init {
             folder: optional_of(given, "FOLDER"),
-        },
-        "explain" => Asked::Explain {
+        }),
+        "explain" => Ok(Asked::Explain {
             word: optional_of(given, "WORD"),
-        },
-        "lines" => Asked::Lines {
-            op: optional_of(given, "op"),
-            is_json: flag_of(given, "json"),
-            app: word_of(given, "APP"),
-            files: words_of(alloc, given, "FILE")?,
-        },
-        "look" => look_asked(alloc, given)?,
-        "serve" => serve_asked(alloc, given)?,
+        }),
+        "lines" => lines_asked(alloc, given),
+        "look" => look_asked(alloc, given),
+        "serve" => serve_asked(alloc, given),
         _ => return Ok(None),
-    }))
+    };
+    Ok(Some(asked?))
 }
 
 /// Returns what a command line asks for, or None if it names no command. `Err` means out of memory.
