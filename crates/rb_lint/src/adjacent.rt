@@ -24,6 +24,18 @@ fn is_continued(text: &[u8], a: &Piece, b: &Piece) -> bool {
     gap.contains(&b'/') || a.begins_line && b.begins_line && b.column > a.column
 }
 
+/// Returns the body of a value of a type, which is empty if no type is given.
+fn body_of(of_type: &[u8], noted: usize) -> OpenBody {
+    let is_vector = of_type == b"intvector".as_slice();
+    OpenBody {
+        is_list: is_vector || of_type == b"array".as_slice(),
+        is_vector,
+        noted: narrow(noted as u64),
+        has_quoted: false,
+        loose: None,
+    }
+}
+
 /// Reports each quoted piece next to an unquoted one, and adjacent texts in an array or a vector.
 #[derive(Drop)]
 pub(crate) struct AdjacentSearch {
@@ -41,14 +53,7 @@ impl AdjacentSearch {
     }
 
     fn enter(&mut self, of_type: &[u8]) -> Result<(), AllocError> {
-        let is_vector = of_type == b"intvector".as_slice();
-        self.open.push(OpenBody {
-            is_list: is_vector || of_type == b"array".as_slice(),
-            is_vector,
-            noted: narrow(self.noted.len() as u64),
-            has_quoted: false,
-            loose: None,
-        })?;
+        self.open.push(body_of(of_type, self.noted.len()))?;
         Ok(())
     }
 

@@ -36,6 +36,21 @@ fn plain_name(text: &[u16], name: &[u16]) -> Option<usize> {
     text.windows(name.len()).position(|window| window == name)
 }
 
+/// Returns the kind of value that the root has for an argument, or the argument's own if one of them says
+/// nothing of it.
+fn root_kind(argument: Named<'_>, root: &[Named<'_>]) -> ValueKind {
+    match find_named(root, argument.name) {
+        Some(other) if argument.kind != ValueKind::Any && other.kind != ValueKind::Any =>
+            other.kind,
+        _ => argument.kind,
+    }
+}
+
+/// Checks whether numbers are compared: those of texts without a brace.
+fn has_plain_numbers(here: &[u16], root: &[u16]) -> bool {
+    !here.contains(&BRACE) && !root.contains(&BRACE)
+}
+
 impl Comparison {
     fn add(&mut self, at: usize, change: Change) -> Result<(), AllocError> {
         self.changes.push(PlacedChange {
@@ -56,16 +71,15 @@ impl Comparison {
         Ok(())
     }
 
-    /// Compares the arguments of two messages. One that is lacking is reported at the first one that only
-    /// this text has, as that is often the same one with a mistake, or where its name is plain text.
-    fn arguments(
+    /// Reports arguments that a text lacks: at the first one that only it has, as that is often the same one
+    /// with a mistake, or where the name is plain text.
+    fn lacking(
         &mut self,
         text: &[u16],
-        here: &[Named<'_>],
-        root: &[Named<'_>],
+        lacking: &[Named<'_>],
+        added: &[Named<'_>],
     ) -> Result<(), AllocError> {
-        let added = without(self.alloc, here, root)?;
-        for argument in &without(self.alloc, root, here)? {
+        for argument in lacking {
             let place = match added.first() {
                 Some(argument) => Some(argument.at),
                 None => plain_name(text, argument.name),
@@ -73,25 +87,46 @@ impl Comparison {
             let name = shown_name(self.alloc, argument.name)?;
             self.add_lack(place, Change::Lacks(name))?;
         }
-        for argument in &added {
+        Ok(())
+    }
+
+    fn added(&mut self, added: &[Named<'_>]) -> Result<(), AllocError> {
+        for argument in added {
             let name = shown_name(self.alloc, argument.name)?;
             self.add(argument.at, Change::Adds(name))?;
         }
+        Ok(())
+    }
+
+    /// Reports arguments that two messages use as other kinds of values.
+    fn uses(&mut self, here: &[Named<'_>], root: &[Named<'_>]) -> Result<(), AllocError> {
         for argument in here {
-            let Some(other) = find_named(root, argument.name) else {
-                continue;
-            };
-            let is_any = argument.kind == ValueKind::Any || other.kind == ValueKind::Any;
-            if argument.kind != other.kind && !is_any {
+            let kind = root_kind(*argument, root);
+            if argument.kind != kind {
+                let name = shown_name(self.alloc, argument.name)?;
                 let change = Change::OtherUse {
-                    name: shown_name(self.alloc, argument.name)?,
+                    name,
                     here: argument.kind,
-                    root: other.kind,
+                    root: kind,
                 };
                 self.add(argument.at, change)?;
             }
         }
         Ok(())
+    }
+
+    /// Compares the arguments of two messages.
+    fn arguments(
+        &mut self,
+        text: &[u16],
+        here: &[Named<'_>],
+        root: &[Named<'_>],
+    ) -> Result<(), AllocError> {
+        let added = without(self.alloc, here, root)?;
+        let lacking = without(self.alloc, root, here)?;
+        self.lacking(text, &lacking, &added)?;
+        self.added(&added)?;
+        self.uses(here, root)
     }
 
     /// Compares two texts as messages.
@@ -110,30 +145,54 @@ impl Comparison {
         }
     }
 
+    /// Reports a mark of the root that a text lacks, at a unit, or else at all of the String.
+    fn lacking_mark(
+        &mut self,
+        root: &[u16],
+        mark: Mark,
+        place: Option<usize>,
+    ) -> Result<(), AllocError> {
+        let name = shown_name(self.alloc, mark.of(root))?;
+        self.add_lack(place, Change::LacksMark(mark.kind, name))
+    }
+
+    fn added_mark(&mut self, here: &[u16], mark: Mark) -> Result<(), AllocError> {
+        let name = shown_name(self.alloc, mark.of(here))?;
+        self.add(mark.first, Change::AddsMark(mark.kind, name))
+    }
+
+    /// Reports the marks that a text lacks, and those that only it has, given the texts of both.
+    fn report_marks(
+        &mut self,
+        (here, added): (&[u16], &[Mark]),
+        (root, lacking): (&[u16], &[Mark]),
+    ) -> Result<(), AllocError> {
+        let has_numbers = has_plain_numbers(here, root);
+        let place = match added.first() {
+            Some(mark) => Some(mark.first),
+            None => None,
+        };
+        for mark in lacking {
+            if has_numbers || mark.kind != MarkKind::Number {
+                self.lacking_mark(root, *mark, place)?;
+            }
+        }
+        for mark in added {
+            if has_numbers || mark.kind != MarkKind::Number {
+                self.added_mark(here, *mark)?;
+            }
+        }
+        Ok(())
+    }
+
     /// Reports the marks that a text lacks, at the first of those that only it has, and the latter.
     fn marks(&mut self, here: &[u16], root: &[u16], is_set: bool) -> Result<(), AllocError> {
         let alloc = self.alloc;
         let (marks, others) = (marks_of(alloc, here)?, marks_of(alloc, root)?);
         let (this, that) = ((here, marks.as_slice()), (root, others.as_slice()));
         let added = marks_lacking(alloc, this, that, is_set)?;
-        let has_numbers = !here.contains(&BRACE) && !root.contains(&BRACE);
-        let place = match added.first() {
-            Some(mark) => Some(mark.first),
-            None => None,
-        };
-        for mark in &marks_lacking(alloc, that, this, is_set)? {
-            if has_numbers || mark.kind != MarkKind::Number {
-                let name = shown_name(alloc, mark.of(root))?;
-                self.add_lack(place, Change::LacksMark(mark.kind, name))?;
-            }
-        }
-        for mark in &added {
-            if has_numbers || mark.kind != MarkKind::Number {
-                let name = shown_name(alloc, mark.of(here))?;
-                self.add(mark.first, Change::AddsMark(mark.kind, name))?;
-            }
-        }
-        Ok(())
+        let lacking = marks_lacking(alloc, that, this, is_set)?;
+        self.report_marks((here, &added), (root, &lacking))
     }
 
     fn blanks(&mut self, here: &[u16], root: &[u16]) -> Result<(), AllocError> {
@@ -148,6 +207,29 @@ impl Comparison {
             }
         }
         Ok(())
+    }
+
+    /// Compares two texts that aren't empty.
+    fn texts(&mut self, here: &[u16], root: &[u16], is_set: bool) -> Result<(), AllocError> {
+        self.marks(here, root, is_set)?;
+        self.blanks(here, root)?;
+        self.ending(here, root)
+    }
+
+    /// Compares two different texts, as messages and in other ways.
+    fn strings(
+        &mut self,
+        (here, message): (&[u16], &Message<'_>),
+        (root, other): (&[u16], &Message<'_>),
+    ) -> Result<(), AllocError> {
+        self.messages(here, message, other)?;
+        if !here.is_empty() && !root.is_empty() {
+            self.texts(here, root, message.has_branches || other.has_branches)
+        } else if self.changes.is_empty() && !root.is_empty() {
+            self.add_lack(None, Change::Empty)
+        } else {
+            Ok(())
+        }
     }
 
     fn ending(&mut self, here: &[u16], root: &[u16]) -> Result<(), AllocError> {
@@ -187,20 +269,12 @@ fn string_changes(
     };
     if here == root && !here.is_empty() {
         comparison.add_lack(None, Change::Same)?;
-        return Ok(comparison.changes);
+    } else {
+        comparison.strings((here, message), (root, other))?;
     }
-    comparison.messages(here, message, other)?;
-    if !here.is_empty() && !root.is_empty() {
-        comparison.marks(here, root, message.has_branches || other.has_branches)?;
-        comparison.blanks(here, root)?;
-        comparison.ending(here, root)?;
-    } else if comparison.changes.is_empty() && !root.is_empty() {
-        comparison.add_lack(None, Change::Empty)?;
-    }
-    comparison
-        .changes
-        .sort_by_key(|change: &PlacedChange| change.at)?;
-    Ok(comparison.changes)
+    let mut changes = comparison.changes;
+    changes.sort_by_key(|change: &PlacedChange| change.at)?;
+    Ok(changes)
 }
 
 /// Reads a String and compares it with the root's. `Err` means out of memory.

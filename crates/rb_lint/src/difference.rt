@@ -110,68 +110,82 @@ fn value_word(kind: ValueKind) -> &'static str {
     }
 }
 
+/// Describes a change after the item's path: the words before a name, the name, and those after it.
+fn words_of(change: &Change) -> (&'static str, &str, &'static str) {
+    match change {
+        Change::Absent => ("isn't here, and is in the root", "", ""),
+        Change::Additional => ("isn't in the root", "", ""),
+        Change::OtherKind { here, .. } => ("is ", kind_word(*here), ", and not in the root"),
+        Change::Lacks(name) => ("has no {", shown(name), "}, which it has in the root"),
+        Change::Adds(name) => ("has {", shown(name), "}, which it hasn't in the root"),
+        Change::OtherUse { name, .. } => ("uses {", shown(name), "} in another way than the root"),
+        Change::OtherLength { .. } => ("has another number of items than in the root", "", ""),
+        Change::Unreadable(_) => (
+            "is a message in the root, and can't be formatted here",
+            "",
+            "",
+        ),
+        Change::LacksMark(_, mark) => ("has no ", shown(mark), ", which it has in the root"),
+        Change::AddsMark(_, mark) => ("has ", shown(mark), ", which it hasn't in the root"),
+        Change::Blanks(edge) => (edge_text(*edge), "", ""),
+        Change::LacksEnding(ending) => {
+            (
+                "doesn't end with '",
+                ending.shown(),
+                "', as it does in the root",
+            )
+        }
+        Change::Empty => ("is empty, and not in the root", "", ""),
+        Change::Same => ("is the root's text; is it to be translated?", "", ""),
+    }
+}
+
+fn write_kinds<W: fmt::Write>(f: &mut fmt::Formatter<W>, here: Kind, root: Kind) -> fmt::Result {
+    let (here, root) = (kind_word(here), kind_word(root));
+    write!(f, "is {here}, and {root} in the root")
+}
+
+fn write_uses<W: fmt::Write>(
+    f: &mut fmt::Formatter<W>,
+    name: &str,
+    here: ValueKind,
+    root: ValueKind,
+) -> fmt::Result {
+    let (here, root) = (value_word(here), value_word(root));
+    write!(f, "uses {{{name}}} as {here}, and the root as {root}")
+}
+
+fn write_fault<W: fmt::Write>(f: &mut fmt::Formatter<W>, fault: MessageFault) -> fmt::Result {
+    write!(
+        f,
+        "is a message in the root, and can't be formatted here: {fault}"
+    )
+}
+
+/// Describes a change after the item's path.
+impl fmt::Display for Change {
+    fn fmt<W: fmt::Write>(&self, f: &mut fmt::Formatter<W>) -> fmt::Result {
+        match self {
+            Change::OtherKind { here, root } => write_kinds(f, *here, *root),
+            Change::OtherUse { name, here, root } => write_uses(f, shown(name), *here, *root),
+            Change::OtherLength { here, root } => {
+                write!(f, "has {here} items, and {root} in the root")
+            }
+            Change::Unreadable(fault) => write_fault(f, *fault),
+            other => {
+                let (before, name, after) = words_of(other);
+                write!(f, "{before}{name}{after}")
+            }
+        }
+    }
+}
+
 impl fmt::Display for Difference {
     fn fmt<W: fmt::Write>(&self, f: &mut fmt::Formatter<W>) -> fmt::Result {
         let path = shown(&self.path);
         match &self.change {
             Change::Absent => write!(f, "the root has '{path}', and this text doesn't"),
-            Change::Additional => write!(f, "'{path}' isn't in the root"),
-            Change::OtherKind { here, root } => {
-                let (here, root) = (kind_word(*here), kind_word(*root));
-                write!(f, "'{path}' is {here}, and {root} in the root")
-            }
-            Change::Lacks(name) => {
-                write!(
-                    f,
-                    "'{path}' has no {{{}}}, which it has in the root",
-                    shown(name)
-                )
-            }
-            Change::Adds(name) => {
-                write!(
-                    f,
-                    "'{path}' has {{{}}}, which it hasn't in the root",
-                    shown(name)
-                )
-            }
-            Change::OtherLength { here, root } => {
-                write!(f, "'{path}' has {here} items, and {root} in the root")
-            }
-            Change::Unreadable(fault) => {
-                write!(
-                    f,
-                    "'{path}' is a message in the root, and can't be formatted here: {fault}"
-                )
-            }
-            Change::LacksMark(_, mark) => {
-                let mark = shown(mark);
-                write!(f, "'{path}' has no {mark}, which it has in the root")
-            }
-            Change::AddsMark(_, mark) => {
-                let mark = shown(mark);
-                write!(f, "'{path}' has {mark}, which it hasn't in the root")
-            }
-            Change::Blanks(edge) => {
-                let text = edge_text(*edge);
-                write!(f, "'{path}' {text}")
-            }
-            Change::LacksEnding(ending) => {
-                let ending = ending.shown();
-                write!(
-                    f,
-                    "'{path}' doesn't end with '{ending}', as it does in the root"
-                )
-            }
-            Change::Empty => write!(f, "'{path}' is empty, and not in the root"),
-            Change::Same => write!(f, "'{path}' is the root's text; is it to be translated?"),
-            Change::OtherUse { name, here, root } => {
-                let (here, root) = (value_word(*here), value_word(*root));
-                let name = shown(name);
-                write!(
-                    f,
-                    "'{path}' uses {{{name}}} as {here}, and the root as {root}"
-                )
-            }
+            change => write!(f, "'{path}' {change}"),
         }
     }
 }

@@ -4,8 +4,8 @@ use crate::piece::Piece;
 use crate::position::line_of;
 use crate::repeated::first_line_of;
 use crate::scan::{Open, Quoting, Visit, visit_pieces};
-use rb_lexer::{Mark, SourceFault, SourceKind, Tokens};
-use rb_parser::parse;
+use crate::text_tokens::{TextTokens, parse_text};
+use rb_lexer::{SourceFault, SourceKind};
 use std::alloc::{AllocError, Global};
 use std::fmt;
 
@@ -73,49 +73,69 @@ fn kind_text(kind: SourceKind) -> &'static str {
     }
 }
 
+/// Returns what is wrong with the source at an error, in two parts, or None if the kind of the error says it.
+fn source_text(kind: SourceKind, source: &str) -> Option<(&'static str, &'static str)> {
+    match kind {
+        SourceKind::UnknownType => Some((" is no type", type_advice(source))),
+        SourceKind::BadInt => Some((" is no integer, or it is too large", "")),
+        SourceKind::BadKey => Some((" is no key: ", kind_text(kind))),
+        SourceKind::Unexpected | SourceKind::TrailingText => {
+            Some((" isn't expected here: ", kind_text(kind)))
+        }
+        SourceKind::BadHex => Some((": ", kind_text(kind))),
+        _ => None,
+    }
+}
+
+/// Returns the description of an error without its source, in two parts.
+fn about_text(about: &About, kind: SourceKind) -> (&'static str, &'static str) {
+    match about {
+        About::Utf16 => ("this text is UTF-16; save it as UTF-8", ""),
+        About::Control => (
+            kind_text(kind),
+            "; genrb makes a control character of \\c and the next one",
+        ),
+        About::End => ("the text ends before its bundle; is a brace missing?", ""),
+        _ => (kind_text(kind), ""),
+    }
+}
+
+fn write_key<W: fmt::Write>(
+    f: &mut fmt::Formatter<W>,
+    word: &str,
+    key: &str,
+    line: u64,
+) -> fmt::Result {
+    write!(f, "{word}: key '{key}' is already defined in line {line}")
+}
+
+fn write_about<W: fmt::Write>(
+    f: &mut fmt::Formatter<W>,
+    word: &str,
+    (text, more): (&str, &str),
+) -> fmt::Result {
+    write!(f, "{word}: {text}{more}")
+}
+
+fn write_source<W: fmt::Write>(
+    f: &mut fmt::Formatter<W>,
+    kind: SourceKind,
+    source: &str,
+) -> fmt::Result {
+    let word = kind.word();
+    match source_text(kind, source) {
+        Some((is, text)) => write!(f, "{word}: '{source}'{is}{text}"),
+        None => write_about(f, word, (kind_text(kind), "")),
+    }
+}
+
 impl fmt::Display for FaultText {
     fn fmt<W: fmt::Write>(&self, f: &mut fmt::Formatter<W>) -> fmt::Result {
-        let (word, text) = (self.kind.word(), kind_text(self.kind));
-        match (&self.about, self.kind) {
-            (About::Utf16, _) => { write!(f, "{word}: this text is UTF-16; save it as UTF-8") }
-            (About::Control, _) => {
-                write!(
-                    f,
-                    "{word}: {text}; genrb makes a control character of \\c and the next one"
-                )
-            }
-            (About::Key(key, line), _) => {
-                let key = shown(key);
-                write!(f, "{word}: key '{key}' is already defined in line {line}")
-            }
-            (About::End, _) => {
-                write!(
-                    f,
-                    "{word}: the text ends before its bundle; is a brace missing?"
-                )
-            }
-            (About::Source(source), SourceKind::UnknownType) => {
-                let source = shown(source);
-                let advice = type_advice(source);
-                write!(f, "{word}: '{source}' is no type{advice}")
-            }
-            (About::Source(source), SourceKind::BadInt) => {
-                let source = shown(source);
-                write!(f, "{word}: '{source}' is no integer, or it is too large")
-            }
-            (About::Source(source), SourceKind::BadKey) => {
-                let source = shown(source);
-                write!(f, "{word}: '{source}' is no key: {text}")
-            }
-            (About::Source(source), SourceKind::Unexpected | SourceKind::TrailingText) => {
-                let source = shown(source);
-                write!(f, "{word}: '{source}' isn't expected here: {text}")
-            }
-            (About::Source(source), SourceKind::BadHex) => {
-                let source = shown(source);
-                write!(f, "{word}: '{source}': {text}")
-            }
-            _ => write!(f, "{word}: {text}"),
+        let word = self.kind.word();
+        match &self.about {
+            About::Key(key, line) => write_key(f, word, shown(key), *line),
+            About::Source(source) => write_source(f, self.kind, shown(source)),
+            about => write_about(f, word, about_text(about, self.kind)),
         }
     }
 }
@@ -168,10 +188,9 @@ fn escapes_of(alloc: Global, text: &[u8], line: u64) -> Result<Vec<usize>, Alloc
 /// Returns the places of the tokens of a line, or none of a text that can't be split into tokens.
 fn tokens_of(alloc: Global, text: &[u8], line: u64) -> Result<Vec<(usize, usize)>, AllocError> {
     let mut found = Vec::new(alloc);
-    let mut tokens = match Tokens::of(alloc, text) {
+    let mut tokens = match TextTokens::of(alloc, text) {
         Ok(tokens) => tokens,
-        Err(fault) if fault.kind == SourceKind::Memory => return Err(AllocError),
-        Err(_) => return Ok(found),
+        Err(error) => return Err(error),
     };
     for _ in 0..u64::MAX {
         let Some(token) = tokens.pop()? else {
@@ -207,7 +226,7 @@ fn place_of(
     fault: SourceFault,
 ) -> Result<Option<usize>, AllocError> {
     let broken = with_breaks(alloc, text, places)?;
-    match parse(alloc, &broken) {
+    match parse_text(alloc, &broken) {
         Err(found) if found.kind == SourceKind::Memory => Err(AllocError),
         Err(found) if found.kind == fault.kind => Ok(
             found
@@ -270,6 +289,19 @@ fn without_source(at: usize, kind: SourceKind, about: About) -> Fault {
     }
 }
 
+/// Finds the escape that has the error of a text.
+fn find_escape(alloc: Global, text: &[u8], fault: SourceFault) -> Result<Fault, AllocError> {
+    let places = escapes_of(alloc, text, fault.line)?;
+    let found = place_of(alloc, text, &places, fault)?;
+    Ok(match found.and_then(|i| places.get(i).copied()) {
+        Some(at) if text.get(at.saturating_add(1)) == Some(&b'c') => {
+            without_source(at, fault.kind, About::Control)
+        }
+        Some(at) => without_source(at, fault.kind, About::Unknown),
+        None => not_found(text, fault),
+    })
+}
+
 /// Finds the place of the error of a text.
 pub(crate) fn find_fault(
     alloc: Global,
@@ -288,17 +320,7 @@ pub(crate) fn find_fault(
             Ok(_) => not_found(text, fault),
             Err(error) => without_source(error.valid_up_to(), fault.kind, About::Unknown),
         },
-        (SourceKind::BadEscape, _) => {
-            let places = escapes_of(alloc, text, fault.line)?;
-            let found = place_of(alloc, text, &places, fault)?;
-            match found.and_then(|i| places.get(i).copied()) {
-                Some(at) if text.get(at.saturating_add(1)) == Some(&b'c') => {
-                    without_source(at, fault.kind, About::Control)
-                }
-                Some(at) => without_source(at, fault.kind, About::Unknown),
-                None => not_found(text, fault),
-            }
-        }
+        (SourceKind::BadEscape, _) => find_escape(alloc, text, fault)?,
         (SourceKind::TooLong | SourceKind::TooLarge | SourceKind::Memory, _) => {
             without_source(0, fault.kind, About::Unknown)
         }

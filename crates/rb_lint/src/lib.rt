@@ -30,6 +30,7 @@ mod report;
 mod rule;
 mod scan;
 mod search;
+mod text_tokens;
 mod unit_walk;
 mod uses;
 mod values;

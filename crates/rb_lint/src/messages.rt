@@ -8,7 +8,7 @@ use rb_messages::{
     Argument, ArgumentType, Categories, Category, MessageError, MessageFault, MessageParser, Part,
     Span,
 };
-use rb_strings::{damage_in, date_fault, number_fault};
+use rb_strings::{PatternFault, damage_in, date_fault, number_fault};
 use std::alloc::{AllocError, Global};
 
 /// The maximum number of doubts of one message.
@@ -139,6 +139,44 @@ fn has_open_name(text: &[u16]) -> bool {
     is_open
 }
 
+/// Returns what is doubtful in the style of an argument.
+fn style_fault(of_type: ArgumentType, style: &[u16]) -> Option<PatternFault> {
+    match of_type {
+        ArgumentType::Date | ArgumentType::Time => date_fault(style),
+        ArgumentType::Number => number_fault(style),
+        _ => None,
+    }
+}
+
+/// Returns the number of blanks and control characters before other ones, or 0 without these.
+fn blank_count(style: &[u16]) -> usize {
+    for (at, unit) in style.iter().enumerate() {
+        if *unit > 0x20 {
+            return at;
+        }
+    }
+    0
+}
+
+/// Checks whether one of some selectors is a number after `=`.
+fn has_number(selectors: &[(&[u16], u32)]) -> bool {
+    for selector in selectors {
+        if selector.0.first() == Some(&EQUALS) {
+            return true;
+        }
+    }
+    false
+}
+
+fn has_category(selectors: &[(&[u16], u32)], category: Category) -> bool {
+    for selector in selectors {
+        if Category::named(selector.0) == Some(category) {
+            return true;
+        }
+    }
+    false
+}
+
 impl<'a> MessageSearch<'a> {
     fn new(alloc: Global, text: &'a [u16], language: Language) -> MessageSearch<'a> {
         MessageSearch {
@@ -183,18 +221,10 @@ impl<'a> MessageSearch<'a> {
             return Ok(());
         };
         let style = span.of(self.text);
-        let fault = match argument.of_type {
-            ArgumentType::Date | ArgumentType::Time => date_fault(style),
-            ArgumentType::Number => number_fault(style),
-            _ => None,
-        };
-        match fault {
+        match style_fault(argument.of_type, style) {
             Some(fault) => {
-                let blanks = style.iter().position(|unit| *unit > 0x20).unwrap_or(0);
-                self.add(
-                    span.first.saturating_add(blanks),
-                    PatternDoubt::Style(fault),
-                )
+                let at = span.first.saturating_add(blank_count(style));
+                self.add(at, PatternDoubt::Style(fault))
             }
             None => Ok(()),
         }
@@ -286,21 +316,30 @@ impl<'a> MessageSearch<'a> {
         categories: Option<Categories>,
     ) -> Result<(), AllocError> {
         for (selector, at) in selectors {
-            if selector.first() == Some(&EQUALS) {
-                continue;
-            }
-            match (Category::named(*selector), categories) {
-                (None, _) => {
-                    let shown = shown_name(self.alloc, *selector)?;
-                    self.add(*at as usize, PatternDoubt::Unknown(shown))?;
-                }
-                (Some(category), Some(known)) if !known.has(category) => {
-                    self.add(*at as usize, PatternDoubt::Unused(category))?;
-                }
-                _ => {}
+            if selector.first() != Some(&EQUALS) {
+                self.word(*selector, *at as usize, categories)?;
             }
         }
         Ok(())
+    }
+
+    /// Reports a word that is no category of the language.
+    fn word(
+        &mut self,
+        word: &[u16],
+        at: usize,
+        categories: Option<Categories>,
+    ) -> Result<(), AllocError> {
+        match (Category::named(word), categories) {
+            (None, _) => {
+                let shown = shown_name(self.alloc, word)?;
+                self.add(at, PatternDoubt::Unknown(shown))
+            }
+            (Some(category), Some(known)) if !known.has(category) => {
+                self.add(at, PatternDoubt::Unused(category))
+            }
+            _ => Ok(()),
+        }
     }
 
     /// Reports the categories of the language's integers for which no selector is. `=1` stands for `one` in
@@ -312,14 +351,11 @@ impl<'a> MessageSearch<'a> {
         categories: Categories,
     ) -> Result<(), AllocError> {
         let is_simple = !categories.has(Category::Few) && !categories.has(Category::Many);
-        let has_number = selectors
-            .iter()
-            .any(|selector| selector.0.first() == Some(&EQUALS));
+        if is_simple && has_number(selectors) {
+            return Ok(());
+        }
         for category in Category::ALL {
-            let is_here = selectors
-                .iter()
-                .any(|selector| Category::named(selector.0) == Some(category));
-            if categories.is_common(category) && !is_here && !(is_simple && has_number) {
+            if categories.is_common(category) && !has_category(selectors, category) {
                 self.add(at, PatternDoubt::Lacking(category))?;
             }
         }
@@ -334,18 +370,37 @@ impl<'a> MessageSearch<'a> {
         };
         let selectors = self.selectors_of(open)?;
         self.selectors.truncate(open.selectors as usize);
-        if open.of_type == ArgumentType::Choice {
+        self.check_selectors(open.of_type, brace, &selectors)
+    }
+
+    /// Checks the selectors of an argument of a type, which ends at a brace.
+    fn check_selectors(
+        &mut self,
+        of_type: ArgumentType,
+        brace: usize,
+        selectors: &[(&'a [u16], u32)],
+    ) -> Result<(), AllocError> {
+        if of_type == ArgumentType::Choice {
             return Ok(());
         }
-        self.repeated(&selectors)?;
-        let categories = match open.of_type {
-            ArgumentType::Plural => self.language.cardinal,
-            ArgumentType::SelectOrdinal => self.language.ordinal,
-            _ => return Ok(()),
-        };
-        self.unknown(&selectors, categories)?;
+        self.repeated(selectors)?;
+        match of_type {
+            ArgumentType::Plural => self.words(brace, selectors, self.language.cardinal),
+            ArgumentType::SelectOrdinal => self.words(brace, selectors, self.language.ordinal),
+            _ => Ok(()),
+        }
+    }
+
+    /// Checks the words among selectors, given the categories of the language.
+    fn words(
+        &mut self,
+        brace: usize,
+        selectors: &[(&'a [u16], u32)],
+        categories: Option<Categories>,
+    ) -> Result<(), AllocError> {
+        self.unknown(selectors, categories)?;
         match categories {
-            Some(categories) => self.lacking(brace, &selectors, categories),
+            Some(categories) => self.lacking(brace, selectors, categories),
             None => Ok(()),
         }
     }
@@ -423,16 +478,25 @@ impl<'a> MessageSearch<'a> {
         Ok(())
     }
 
+    /// Finds what is doubtful in all of a message. Returns its arguments.
+    fn finish(&mut self) -> Result<Vec<Named<'a>>, AllocError> {
+        let named = self.uses.named()?;
+        self.lonely(&named)?;
+        match self.stray {
+            Some(at) if !named.is_empty() && !is_set(self.text) => {
+                self.add(at, PatternDoubt::Stray)?;
+            }
+            _ => {}
+        }
+        add_damage(&mut self.doubts, self.text)?;
+        Ok(named)
+    }
+
     /// Checks whether a text that can't be parsed is clearly meant as a message: it has an argument with a
     /// type or a number, or a name after a brace that isn't closed. Braces around names alone are of other
     /// templates too.
     fn is_meant(&self, fault: MessageFault) -> bool {
-        let is_typed = self
-            .uses
-            .uses
-            .iter()
-            .any(|used| used.of_type != ArgumentType::Any);
-        is_typed
+        self.uses.has_type()
             || !is_set(self.text)
                 && (fault == MessageFault::UnknownType
                     || self.uses.has_number()
@@ -449,33 +513,36 @@ pub(crate) fn search_message(
     let mut search = MessageSearch::new(alloc, text, language);
     if let Some(error) = search.read()? {
         let is_meant = search.is_meant(error.fault);
-        let mut doubts = Vec::new(alloc);
-        if is_meant {
-            doubts.push(PlacedDoubt {
-                at: error.at,
-                doubt: PatternDoubt::Invalid(error.fault),
-            })?;
-        }
-        add_damage(&mut doubts, text)?;
-        return Ok(Message {
-            named: Err(error),
-            doubts,
-            has_branches: false,
-        });
+        return broken_message(alloc, text, error, is_meant);
     }
-    let named = search.uses.named()?;
-    search.lonely(&named)?;
-    match search.stray {
-        Some(at) if !named.is_empty() && !is_set(text) => search.add(at, PatternDoubt::Stray)?,
-        _ => {}
-    }
+    let named = search.finish()?;
     let has_branches = !search.branches.is_empty();
-    let mut doubts = search.doubts;
-    add_damage(&mut doubts, text)?;
     Ok(Message {
         named: Ok(named),
-        doubts,
+        doubts: search.doubts,
         has_branches,
+    })
+}
+
+/// Returns what is doubtful in a text that can't be parsed.
+fn broken_message<'a>(
+    alloc: Global,
+    text: &'a [u16],
+    error: MessageError,
+    is_meant: bool,
+) -> Result<Message<'a>, AllocError> {
+    let mut doubts = Vec::new(alloc);
+    if is_meant {
+        doubts.push(PlacedDoubt {
+            at: error.at,
+            doubt: PatternDoubt::Invalid(error.fault),
+        })?;
+    }
+    add_damage(&mut doubts, text)?;
+    Ok(Message {
+        named: Err(error),
+        doubts,
+        has_branches: false,
     })
 }
 

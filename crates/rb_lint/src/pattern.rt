@@ -92,67 +92,75 @@ fn damage_text(damage: Damage) -> &'static str {
     }
 }
 
+/// Describes a doubt: the words before a name, the name, and those after it.
+fn words_of(doubt: &PatternDoubt) -> (&'static str, &str, &'static str) {
+    match doubt {
+        PatternDoubt::Invalid(_) => ("this message can't be formatted", "", ""),
+        PatternDoubt::Stray => (
+            "a closing brace closes no argument; is an opening brace missing?",
+            "",
+            "",
+        ),
+        PatternDoubt::Quoted(name) => (
+            "{",
+            shown(name),
+            "} is plain text after an apostrophe; an apostrophe that is meant is written ''",
+        ),
+        PatternDoubt::Repeated(selector) => ("two messages are for '", shown(selector), "'"),
+        PatternDoubt::Unknown(selector) => (
+            "'",
+            shown(selector),
+            "' is no plural category: zero, one, two, few, many and other are",
+        ),
+        PatternDoubt::Unused(category) => (
+            "the language has no plural category '",
+            category.name(),
+            "', so that its message is never chosen",
+        ),
+        PatternDoubt::Lacking(category) => (
+            "the language has a plural category '",
+            category.name(),
+            "', for which no message is here",
+        ),
+        PatternDoubt::OneBranch(name) => (
+            "{",
+            shown(name),
+            "} is in only one of the messages to choose from; is it missing in the others?",
+        ),
+        PatternDoubt::Style(fault) => (style_text(*fault), "", ""),
+        PatternDoubt::Damaged(damage) => (damage_text(*damage), "", ""),
+        PatternDoubt::Forbidden(word) => ("the settings forbid '", shown(word), "'"),
+        PatternDoubt::Long { .. } => ("this text is too long", "", ""),
+    }
+}
+
+fn write_length<W: fmt::Write>(
+    f: &mut fmt::Formatter<W>,
+    length: usize,
+    longest: usize,
+) -> fmt::Result {
+    write!(
+        f,
+        "this text has {length} characters; at most {longest} are allowed"
+    )
+}
+
+fn write_letter<W: fmt::Write>(f: &mut fmt::Formatter<W>, letter: char) -> fmt::Result {
+    write!(
+        f,
+        "{letter} has no meaning in a pattern of a date; a text in it is in apostrophes"
+    )
+}
+
 impl fmt::Display for PatternDoubt {
     fn fmt<W: fmt::Write>(&self, f: &mut fmt::Formatter<W>) -> fmt::Result {
         match self {
-            PatternDoubt::Invalid(fault) => {
-                write!(f, "this message can't be formatted: {fault}")
-            }
-            PatternDoubt::Stray => {
-                f.write_str("a closing brace closes no argument; is an opening brace missing?")
-            }
-            PatternDoubt::Quoted(name) => {
-                let name = shown(name);
-                write!(
-                    f,
-                    "{{{name}}} is plain text after an apostrophe; an apostrophe that is meant is written ''"
-                )
-            }
-            PatternDoubt::Repeated(selector) => {
-                write!(f, "two messages are for '{}'", shown(selector))
-            }
-            PatternDoubt::Unknown(selector) => {
-                let selector = shown(selector);
-                write!(
-                    f,
-                    "'{selector}' is no plural category: zero, one, two, few, many and other are"
-                )
-            }
-            PatternDoubt::Unused(category) => {
-                let category = category.name();
-                write!(
-                    f,
-                    "the language has no plural category '{category}', so that its message is never chosen"
-                )
-            }
-            PatternDoubt::Lacking(category) => {
-                let category = category.name();
-                write!(
-                    f,
-                    "the language has a plural category '{category}', for which no message is here"
-                )
-            }
-            PatternDoubt::Style(PatternFault::Letter(letter)) => {
-                write!(
-                    f,
-                    "{letter} has no meaning in a pattern of a date; a text in it is in apostrophes"
-                )
-            }
-            PatternDoubt::Style(fault) => f.write_str(style_text(*fault)),
-            PatternDoubt::Damaged(damage) => f.write_str(damage_text(*damage)),
-            PatternDoubt::Forbidden(word) => write!(f, "the settings forbid '{}'", shown(word)),
-            PatternDoubt::Long { length, longest } => {
-                write!(
-                    f,
-                    "this text has {length} characters; at most {longest} are allowed"
-                )
-            }
-            PatternDoubt::OneBranch(name) => {
-                let name = shown(name);
-                write!(
-                    f,
-                    "{{{name}}} is in only one of the messages to choose from; is it missing in the others?"
-                )
+            PatternDoubt::Invalid(fault) => write!(f, "this message can't be formatted: {fault}"),
+            PatternDoubt::Style(PatternFault::Letter(letter)) => write_letter(f, *letter),
+            PatternDoubt::Long { length, longest } => write_length(f, *length, *longest),
+            other => {
+                let (before, name, after) = words_of(other);
+                write!(f, "{before}{name}{after}")
             }
         }
     }

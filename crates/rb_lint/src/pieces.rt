@@ -13,7 +13,7 @@ use std::alloc::{AllocError, Global};
 
 /// Searches the pieces of a text for what is doubtful in any layout.
 #[derive(Drop)]
-struct PieceSearch<'a> {
+struct PieceSearch<'a, 'c> {
     text: &'a [u8],
     /// The name that the bundle should have, if it is known.
     stem: Option<&'a [u8]>,
@@ -27,7 +27,7 @@ struct PieceSearch<'a> {
     /// The places of doubled backslashes, and the number of those that follow a letter that is no digit.
     doubled: Vec<usize>,
     within: usize,
-    found: Collector<'a>,
+    found: Collector<'c>,
 }
 
 /// The number of doubled backslashes from which on they are the style of a text.
@@ -47,7 +47,7 @@ fn closes_brace(bytes: &[u8]) -> bool {
     false
 }
 
-impl<'a> PieceSearch<'a> {
+impl<'a, 'c> PieceSearch<'a, 'c> {
     /// Checks whether a quoted piece over several lines lacks its quote. If all quotes of the text are
     /// closed, it does only if it has braces of the text in it.
     fn is_open(&self, piece: &Piece) -> bool {
@@ -92,7 +92,7 @@ impl<'a> PieceSearch<'a> {
     }
 }
 
-impl<'a> Visit for PieceSearch<'a> {
+impl<'a, 'c> Visit for PieceSearch<'a, 'c> {
     fn piece(&mut self, piece: &Piece) -> Result<(), AllocError> {
         if piece.spans_lines && self.is_open(piece) {
             self.found.add(piece.first, Doubt::RunsOn)?;
@@ -136,13 +136,13 @@ pub(crate) struct Searched<'a> {
 }
 
 /// Searches a text, split in one way, for what is doubtful in any layout.
-pub(crate) fn search_pieces<'a>(
+pub(crate) fn search_pieces<'a, 'c>(
     alloc: Global,
     text: &'a [u8],
     settings: &Settings<'a>,
-    allowances: &'a Allowances,
+    allowances: &'c Allowances,
     quoting: Quoting,
-) -> Result<Searched<'a>, AllocError> {
+) -> Result<Searched<'c>, AllocError> {
     let mut search = PieceSearch {
         text,
         stem: settings.name,

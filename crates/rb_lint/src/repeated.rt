@@ -1,5 +1,6 @@
 //! Finds the first definition of a repeated key.
-use rb_lexer::{Mark, SourceKind, Token, Tokens};
+use crate::text_tokens::TextTokens;
+use rb_lexer::{Mark, Token};
 use std::alloc::{AllocError, Global};
 
 /// A text before a colon or a brace.
@@ -84,10 +85,9 @@ pub(crate) fn first_line_of(
     text: &[u8],
     at: usize,
 ) -> Result<Option<u64>, AllocError> {
-    let mut tokens = match Tokens::of(alloc, text) {
+    let mut tokens = match TextTokens::of(alloc, text) {
         Ok(tokens) => tokens,
-        Err(fault) if fault.kind == SourceKind::Memory => return Err(AllocError),
-        Err(_) => return Ok(None),
+        Err(error) => return Err(error),
     };
     let mut open = OpenKeys {
         depth: 0,

@@ -1,4 +1,4 @@
-ghost use Rattle.std.specs.Prelude.{◌≡◌, ◌≤◌, ◌+◌, All, IfOk, IsErr, IsSome, OnOk, vec_len};
+ghost use Rattle.std.specs.Prelude.{◌≡◌, ◌≤◌, ◌+◌, All, IfOk, IfSome, IsErr, IsSome, OnOk, vec_len};
 ghost use Rattle.rb_lint.specs.Warnings.{AreInOrder, AreWithin, HasNoError, IsCompiled};
 ghost use Rattle.rb_lint.specs.Warnings.{line_count};
 ghost use Rattle.rb_lint.specs.declared.finding.Severity.TheVariants as Severities;
@@ -11,9 +11,10 @@ use crate::position::{Position, line_count};
 use crate::rule::Levels;
 use crate::scan::{Open, Quoting};
 use crate::search::search_text;
+use crate::text_tokens::parse_text;
 use crate::values::search_values;
 use rb_lexer::{SourceFault, SourceKind};
-use rb_parser::{Source, parse};
+use rb_parser::Source;
 use rb_tree::Tree;
 use std::alloc::{AllocError, Global};
 
@@ -105,7 +106,7 @@ fn located(
 fn parsed(alloc: Global, text: &[u8]) -> Result<Result<Source, SourceFault>, AllocError>
     ensures { IfOk result (λ o. IfOk o (λ s. IsCompiled text.now)) }
 {
-    match parse(alloc, text) {
+    match parse_text(alloc, text) {
         Err(fault) if fault.kind == SourceKind::Memory => Err(AllocError),
         outcome => Ok(outcome),
     }
@@ -122,13 +123,13 @@ fn is_unreadable(text: &[u8], outcome: &Result<Source, SourceFault>) -> bool {
 }
 
 /// Finds what is doubtful in a text, and why it isn't compiled.
-fn search_readable<'a>(
+fn search_readable<'a, 'c>(
     alloc: Global,
     text: &'a [u8],
     settings: &Settings<'a>,
-    allowances: &'a Allowances,
+    allowances: &'c Allowances,
     outcome: &Result<Source, SourceFault>,
-) -> Result<(Collector<'a>, Option<Fault>), AllocError>
+) -> Result<(Collector<'c>, Option<Fault>), AllocError>
     ensures { IfOk result (λ r. IsErr outcome.now → IsSome r.1) }
 {
     let (mut found, open) = search_text(alloc, text, settings, allowances)?;
@@ -141,6 +142,71 @@ fn search_readable<'a>(
             search_values(alloc, text, &source.tree, settings, &mut found)?;
             Ok((found, None))
         }
+    }
+}
+
+/// What was found in a text.
+#[derive(Drop)]
+struct Searched {
+    /// The first warnings, in the order of the text.
+    warnings: Vec<Found>,
+    /// The number of all warnings.
+    count: u64,
+    /// Why the text isn't compiled.
+    fault: Option<Fault>,
+}
+
+/// Finds why a text that can't be searched isn't compiled.
+fn search_unreadable(
+    alloc: Global,
+    text: &[u8],
+    outcome: &Result<Source, SourceFault>,
+) -> Result<Searched, AllocError>
+    ensures { IfOk result (λ s. IsErr outcome.now → IsSome s.fault) }
+{
+    let fault = match outcome {
+        Err(fault) => Some(find_fault(alloc, text, *fault, Open::Nothing)?),
+        Ok(_) => None,
+    };
+    Ok(Searched {
+        warnings: Vec::new(alloc),
+        count: 0,
+        fault,
+    })
+}
+
+/// Finds what comments don't allow in a text, and why it isn't compiled.
+fn search_allowed<'a>(
+    alloc: Global,
+    text: &'a [u8],
+    settings: &Settings<'a>,
+    outcome: &Result<Source, SourceFault>,
+) -> Result<Searched, AllocError>
+    ensures { IfOk result (λ s. IsErr outcome.now → IsSome s.fault) }
+{
+    let allowances = Allowances::of(alloc, text, Quoting::OverLines)?;
+    let (found, fault) = search_readable(alloc, text, settings, &allowances, outcome)?;
+    let (warnings, count) = found.ordered()?;
+    Ok(Searched {
+        warnings,
+        count,
+        fault,
+    })
+}
+
+/// Finds what is doubtful in a text that was parsed, and why it isn't compiled.
+fn search<'a>(
+    alloc: Global,
+    text: &'a [u8],
+    settings: &Settings<'a>,
+    outcome: &Result<Source, SourceFault>,
+) -> Result<Searched, AllocError>
+    ensures { IfOk result (λ s. IsErr outcome.now → IsSome s.fault) }
+{
+    if is_unreadable(text, outcome) {
+        search_unreadable(alloc, text, outcome)
+    } else {
+        search_allowed(alloc, text, settings, outcome)
     }
 }
 
@@ -159,6 +225,22 @@ fn insert_fault(found: &mut Vec<Found>, fault: Fault) -> Result<(), AllocError>
         },
     )?;
     Ok(())
+}
+
+/// Returns the warnings of a text with its error, if it has one.
+fn with_fault(warnings: Vec<Found>, fault: Option<Fault>) -> Result<Vec<Found>, AllocError>
+    ensures count { IfOk result (λ fs. vec_len fs ≤ vec_len warnings + 1) }
+    ensures error { IfOk result (λ fs. IfSome fault
+        (λ f. All (λ g. IsSome g.rule) fs.items → ⊥)) }
+{
+    match fault {
+        Some(fault) => {
+            let mut found = warnings;
+            insert_fault(&mut found, fault)?;
+            Ok(found)
+        }
+        None => Ok(warnings),
+    }
 }
 
 /// Finds what is doubtful in a bundle text, which may have any errors, and why it isn't compiled. The
@@ -186,23 +268,11 @@ pub fn find_all<'a>(
     ensures error { IfOk result (λ r. HasNoError r.findings.items → IsCompiled text.now) }
 {
     let outcome = parsed(alloc, text)?;
-    let allowances = Allowances::of(alloc, text, Quoting::OverLines)?;
-    let (mut found, count, fault) = if is_unreadable(text, &outcome) {
-        let fault = match outcome {
-            Err(fault) => Some(find_fault(alloc, text, fault, Open::Nothing)?),
-            Ok(_) => None,
-        };
-        (Vec::new(alloc), 0, fault)
-    } else {
-        let (found, fault) = search_readable(alloc, text, settings, &allowances, &outcome)?;
-        let (warnings, count) = found.ordered()?;
-        (warnings, count, fault)
-    };
-    found.truncate(settings.limit);
-    let left_out = count.saturating_sub(found.len() as u64);
-    if let Some(fault) = fault {
-        insert_fault(&mut found, fault)?;
-    }
+    let searched = search(alloc, text, settings, &outcome)?;
+    let mut warnings = searched.warnings;
+    warnings.truncate(settings.limit);
+    let left_out = searched.count.saturating_sub(warnings.len() as u64);
+    let found = with_fault(warnings, searched.fault)?;
     let findings = located(alloc, text, settings.levels, found)?;
     Ok(Report { findings, left_out })
 }

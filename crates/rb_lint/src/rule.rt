@@ -52,57 +52,63 @@ pub enum Rule {
     UnusedKey,
 }
 
+/// All rules. Only one function names the table, as the time to prove a function grows with the square of the
+/// table that it names.
+const ALL: &[Rule] = &[
+    Rule::AliasToNothing,
+    Rule::BadMessage,
+    Rule::BadParent,
+    Rule::BadPattern,
+    Rule::BundleName,
+    Rule::ConflictMarker,
+    Rule::DoubledBackslash,
+    Rule::EntryInArray,
+    Rule::ForbiddenWord,
+    Rule::JoinedStrings,
+    Rule::MisspelledKey,
+    Rule::MissingCategory,
+    Rule::MissingCloseBrace,
+    Rule::MissingOpenBrace,
+    Rule::MissingOther,
+    Rule::MixedQuotes,
+    Rule::MixedScripts,
+    Rule::Mojibake,
+    Rule::OneBranchArgument,
+    Rule::OpenDirection,
+    Rule::OpenQuote,
+    Rule::OtherQuotes,
+    Rule::QuotedArgument,
+    Rule::RepeatedSelector,
+    Rule::ReplacementCharacter,
+    Rule::StrayBrace,
+    Rule::SuspiciousKey,
+    Rule::TooLong,
+    Rule::UnknownAllowed,
+    Rule::UnknownEscape,
+    Rule::UnknownSelector,
+    Rule::UnquotedAddress,
+    Rule::UnusedCategory,
+    Rule::BrokenMessage,
+    Rule::EmptyText,
+    Rule::MissingKey,
+    Rule::OtherAddresses,
+    Rule::OtherArguments,
+    Rule::OtherBlanks,
+    Rule::OtherLength,
+    Rule::OtherNumbers,
+    Rule::OtherPlaceholders,
+    Rule::OtherPunctuation,
+    Rule::OtherTags,
+    Rule::OtherType,
+    Rule::SameText,
+    Rule::UnusedKey,
+];
+
 impl Rule {
-    /// All rules: first those of a text alone, then those against the root's, each by name.
-    pub const ALL: [Rule; 47] = [
-        Rule::AliasToNothing,
-        Rule::BadMessage,
-        Rule::BadParent,
-        Rule::BadPattern,
-        Rule::BundleName,
-        Rule::ConflictMarker,
-        Rule::DoubledBackslash,
-        Rule::EntryInArray,
-        Rule::ForbiddenWord,
-        Rule::JoinedStrings,
-        Rule::MisspelledKey,
-        Rule::MissingCategory,
-        Rule::MissingCloseBrace,
-        Rule::MissingOpenBrace,
-        Rule::MissingOther,
-        Rule::MixedQuotes,
-        Rule::MixedScripts,
-        Rule::Mojibake,
-        Rule::OneBranchArgument,
-        Rule::OpenDirection,
-        Rule::OpenQuote,
-        Rule::OtherQuotes,
-        Rule::QuotedArgument,
-        Rule::RepeatedSelector,
-        Rule::ReplacementCharacter,
-        Rule::StrayBrace,
-        Rule::SuspiciousKey,
-        Rule::TooLong,
-        Rule::UnknownAllowed,
-        Rule::UnknownEscape,
-        Rule::UnknownSelector,
-        Rule::UnquotedAddress,
-        Rule::UnusedCategory,
-        Rule::BrokenMessage,
-        Rule::EmptyText,
-        Rule::MissingKey,
-        Rule::OtherAddresses,
-        Rule::OtherArguments,
-        Rule::OtherBlanks,
-        Rule::OtherLength,
-        Rule::OtherNumbers,
-        Rule::OtherPlaceholders,
-        Rule::OtherPunctuation,
-        Rule::OtherTags,
-        Rule::OtherType,
-        Rule::SameText,
-        Rule::UnusedKey,
-    ];
+    /// Returns all rules: first those of a text alone, then those against the root's, each by name.
+    pub fn all() -> &'static [Rule] {
+        ALL
+    }
 
     /// Returns the name: what `--allow`, `--deny` and comments take.
     pub fn name(self) -> &'static str {
@@ -227,9 +233,9 @@ impl Rule {
 
     /// Returns the rule with a name.
     pub fn named(name: &str) -> Option<Rule> {
-        for rule in Rule::ALL {
+        for rule in Rule::all() {
             if rule.name() == name {
-                return Some(rule);
+                return Some(*rule);
             }
         }
         None

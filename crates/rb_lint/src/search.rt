@@ -34,12 +34,12 @@ fn quoting_of(open: Open) -> Quoting {
 
 /// Searches a text for what is doubtful, without comparing it with the root's. Returns the findings, and
 /// what the text leaves open.
-pub(crate) fn search_text<'a>(
+pub(crate) fn search_text<'a, 'c>(
     alloc: Global,
     text: &'a [u8],
     settings: &Settings<'a>,
-    allowances: &'a Allowances,
-) -> Result<(Collector<'a>, Open), AllocError> {
+    allowances: &'c Allowances,
+) -> Result<(Collector<'c>, Open), AllocError> {
     let whole = search_pieces(alloc, text, settings, allowances, Quoting::OverLines)?;
     let open = whole.open;
     let quoting = quoting_of(open);

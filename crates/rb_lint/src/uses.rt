@@ -52,6 +52,14 @@ pub(crate) struct Named<'a> {
     pub(crate) at: usize,
 }
 
+impl<'a> Named<'a> {
+    /// Adds a later use.
+    fn add(&mut self, other: &Named<'_>) {
+        self.last = other.last;
+        self.kind = self.kind.or(other.kind);
+    }
+}
+
 /// The uses of arguments in a message, in its order.
 #[derive(Drop)]
 pub(crate) struct Uses<'a> {
@@ -88,38 +96,59 @@ impl<'a> Uses<'a> {
 
     /// Checks whether an argument is a number, such as `{0}`.
     pub(crate) fn has_number(&self) -> bool {
-        self.uses.iter().any(|used| matches!(self.text.get(used.first as usize), Some(0x30..=0x39)))
+        for used in &self.uses {
+            if matches!(self.text.get(used.first as usize), Some(0x30..=0x39)) {
+                return true;
+            }
+        }
+        false
+    }
+
+    /// Checks whether an argument has a type.
+    pub(crate) fn has_type(&self) -> bool {
+        for used in &self.uses {
+            if used.of_type != ArgumentType::Any {
+                return true;
+            }
+        }
+        false
+    }
+
+    /// Returns the names of all uses in ascending order, each with its index.
+    fn names(&self) -> Result<Vec<(&'a [u16], usize)>, AllocError> {
+        let mut all = Vec::with_capacity(self.alloc, self.uses.len())?;
+        for (i, used) in self.uses.iter().enumerate() {
+            let range = used.first as usize..used.past as usize;
+            all.push((self.text.get(range).unwrap_or(&[]), i))?;
+        }
+        all.sort_by_key(|entry| entry.0)?;
+        Ok(all)
+    }
+
+    /// Returns the argument of one use, whose name is given.
+    fn named_by(&self, name: &'a [u16], i: usize) -> Named<'a> {
+        let (kind, at) = match self.uses.get(i) {
+            Some(used) => (ValueKind::of(used.of_type), used.first as usize),
+            None => (ValueKind::Any, 0),
+        };
+        Named {
+            name,
+            first: i,
+            last: i,
+            kind,
+            at,
+        }
     }
 
     /// Returns the arguments by ascending names.
     pub(crate) fn named(&self) -> Result<Vec<Named<'a>>, AllocError> {
-        let mut all = Vec::with_capacity(self.alloc, self.uses.len())?;
-        for (i, used) in self.uses.iter().enumerate() {
-            let name = self
-                .text
-                .get(used.first as usize..used.past as usize)
-                .unwrap_or(&[]);
-            all.push((name, i))?;
-        }
-        all.sort_by_key(|entry| entry.0)?;
+        let all = self.names()?;
         let mut named: Vec<Named<'a>> = Vec::new(self.alloc);
         for (name, i) in &all {
-            let (kind, at) = match self.uses.get(*i) {
-                Some(used) => (ValueKind::of(used.of_type), used.first as usize),
-                None => (ValueKind::Any, 0),
-            };
+            let one = self.named_by(*name, *i);
             match named.last_mut() {
-                Some(before) if before.name == *name => {
-                    before.last = *i;
-                    before.kind = before.kind.or(kind);
-                }
-                _ => named.push(Named {
-                    name: *name,
-                    first: *i,
-                    last: *i,
-                    kind,
-                    at,
-                })?,
+                Some(before) if before.name == one.name => before.add(&one),
+                _ => named.push(one)?,
             }
         }
         Ok(named)

@@ -11,9 +11,10 @@ use crate::path::{SHOWN_PATH, shortened, shown_name};
 use crate::pattern::{PatternDoubt, PlacedDoubt};
 use crate::report::Settings;
 use crate::rule::Rule;
+use crate::text_tokens::TextTokens;
 use crate::unit_walk::UnitWalk;
 use crate::warning::Doubt;
-use rb_lexer::{Mark, SourceFault, SourceKind, Token, Tokens};
+use rb_lexer::{Mark, Token};
 use rb_strings::{character_count, find_word};
 use rb_tree::{Entries, Kind, Node, Tree};
 use std::alloc::{AllocError, Global};
@@ -110,6 +111,38 @@ fn top_key<'a>(levels: &'a [Level<'_>]) -> &'a [u8] {
     }
 }
 
+/// Adds the key or the index of a level to a path.
+fn add_segment(alloc: Global, path: &mut Vec<u8>, segment: &Segment) -> Result<(), AllocError> {
+    match segment {
+        Segment::Bundle => Ok(()),
+        Segment::Key(key) => path.extend_from_slice(&shortened(alloc, key, SHOWN_PATH)?),
+        Segment::Index(index) => {
+            let index = format!(in alloc; "{index}")?;
+            path.extend_from_slice(index.as_bytes())
+        }
+    }
+}
+
+/// Adds a slash between the segments of a path.
+fn add_slash(path: &mut Vec<u8>) -> Result<(), AllocError> {
+    if !path.is_empty() {
+        path.push(b'/')?;
+    }
+    Ok(())
+}
+
+/// Checks whether an entry of a table of the text, with a key, isn't in the root's table.
+fn is_added(level: &Level<'_>, root: Option<&Tree>, key: &[u8]) -> bool {
+    root.is_none()
+        && matches!(level.root, Some(Tree::Table(_)))
+        && matches!(level.tree, Some(Tree::Table(_)))
+        && !is_icu_key(key)
+}
+
+fn is_array(level: &Level<'_>) -> bool {
+    matches!(level.tree, Some(Tree::Array(_)))
+}
+
 #[derive(Drop)]
 struct ValueSearch<'a> {
     alloc: Global,
@@ -141,24 +174,11 @@ impl<'a> ValueSearch<'a> {
     fn path(&self, entry: Option<&[u8]>) -> Result<Vec<u8>, AllocError> {
         let mut path = Vec::new(self.alloc);
         for level in &self.levels {
-            if !path.is_empty() {
-                path.push(b'/')?;
-            }
-            match &level.segment {
-                Segment::Bundle => {}
-                Segment::Key(key) => {
-                    path.extend_from_slice(&shortened(self.alloc, key, SHOWN_PATH)?)?;
-                }
-                Segment::Index(index) => {
-                    let index = format!(in self.alloc; "{index}")?;
-                    path.extend_from_slice(index.as_bytes())?;
-                }
-            }
+            add_slash(&mut path)?;
+            add_segment(self.alloc, &mut path, &level.segment)?;
         }
         if let Some(key) = entry {
-            if !path.is_empty() {
-                path.push(b'/')?;
-            }
+            add_slash(&mut path)?;
             path.extend_from_slice(&shortened(self.alloc, key, SHOWN_PATH)?)?;
         }
         shortened(self.alloc, &path, SHOWN_PATH)
@@ -298,6 +318,22 @@ impl<'a> ValueSearch<'a> {
         self.doubts(span, compared.doubts, found)
     }
 
+    /// Checks a String by itself, and compares it with the root's.
+    fn whole_string(
+        &mut self,
+        span: (usize, usize),
+        units: &[u16],
+        root: Option<&Tree>,
+        found: &mut Collector<'_>,
+    ) -> Result<(), AllocError> {
+        if is_bundle_key(top_key(&self.levels)) && !is_parent(units, &self.name) {
+            found.add(span.0, Doubt::BadParent)?;
+        }
+        self.length(span.0, units, found)?;
+        self.words(span, units, found)?;
+        self.string(span, units, root, found)
+    }
+
     /// Checks what the text of a String or an alias says, which is between two offsets.
     fn text_value(
         &mut self,
@@ -309,20 +345,11 @@ impl<'a> ValueSearch<'a> {
         };
         match (level.tree, level.root) {
             (Some(Tree::String(units)), root) => {
-                if is_bundle_key(top_key(&self.levels))
-                    && !is_parent(units.as_slice(), &self.name)
-                {
-                    found.add(span.0, Doubt::BadParent)?;
-                }
-                self.length(span.0, units.as_slice(), found)?;
-                self.words(span, units.as_slice(), found)?;
-                self.string(span, units.as_slice(), root, found)
+                self.whole_string(span, units.as_slice(), root, found)
             }
-            (Some(Tree::Alias(units)), _) => {
-                if leads_nowhere(units.as_slice(), self.tree, self.root, &self.name) {
-                    found.add(span.0, Doubt::AliasToNothing)?;
-                }
-                Ok(())
+            (Some(Tree::Alias(units)), _)
+                if leads_nowhere(units.as_slice(), self.tree, self.root, &self.name) => {
+                found.add(span.0, Doubt::AliasToNothing)
             }
             _ => Ok(()),
         }
@@ -405,6 +432,23 @@ impl<'a> ValueSearch<'a> {
         }
     }
 
+    /// Begins a level.
+    fn open(
+        &mut self,
+        segment: Segment,
+        tree: Option<&'a Tree>,
+        root: Option<&'a Tree>,
+    ) -> Result<(), AllocError> {
+        self.levels.push(Level {
+            segment,
+            tree,
+            root,
+            next: 0,
+            is_deferred: false,
+        })?;
+        Ok(())
+    }
+
     /// Begins an item of the innermost level, which is an array.
     fn item(&mut self, first: usize, found: &mut Collector<'_>) -> Result<(), AllocError> {
         let Some(level) = self.levels.last_mut() else {
@@ -413,13 +457,7 @@ impl<'a> ValueSearch<'a> {
         let i = level.next;
         level.next = i.saturating_add(1);
         let (tree, root) = (item_of(level.tree, i), item_of(level.root, i));
-        self.levels.push(Level {
-            segment: Segment::Index(i),
-            tree,
-            root,
-            next: 0,
-            is_deferred: false,
-        })?;
+        self.open(Segment::Index(i), tree, root)?;
         self.value(first, found)
     }
 
@@ -438,27 +476,22 @@ impl<'a> ValueSearch<'a> {
             return Ok(());
         };
         let (tree, root) = (entry_of(level.tree, &key), entry_of(level.root, &key));
-        let is_added = root.is_none()
-            && matches!(level.root, Some(Tree::Table(_)))
-            && matches!(level.tree, Some(Tree::Table(_)))
-            && !is_icu_key(&key);
-        if is_added {
+        if is_added(level, root, &key) {
             self.deferred(token.first, found)?;
-        }
-        self.levels.push(Level {
-            segment: Segment::Key(key),
-            tree,
-            root,
-            next: 0,
-            is_deferred: false,
-        })?;
-        if is_added {
+            self.open(Segment::Key(key), tree, root)?;
             self.report(token.first, None, Change::Additional, found)?;
+        } else {
+            self.open(Segment::Key(key), tree, root)?;
         }
+        self.entry_value(token.first, found)
+    }
+
+    /// Takes the value of an entry that has begun at a byte.
+    fn entry_value(&mut self, first: usize, found: &mut Collector<'_>) -> Result<(), AllocError> {
         if is_misspelled(top_key(&self.levels)) {
-            found.add(token.first, Doubt::MisspelledKey)?;
+            found.add(first, Doubt::MisspelledKey)?;
         }
-        self.value(token.first, found)
+        self.value(first, found)
     }
 
     /// Takes the value of the bundle.
@@ -482,19 +515,28 @@ impl<'a> ValueSearch<'a> {
     fn enter(&mut self, brace: usize, found: &mut Collector<'_>) -> Result<(), AllocError> {
         self.is_type = false;
         let text = self.text.take();
-        let Some(level) = self.levels.last() else {
-            self.levels.push(Level {
-                segment: Segment::Bundle,
-                tree: Some(self.tree),
-                root: self.root,
-                next: 0,
-                is_deferred: false,
-            })?;
-            return self.bundle(text, brace, found);
-        };
-        let is_array = matches!(level.tree, Some(Tree::Array(_)));
+        match self.levels.last() {
+            Some(level) => {
+                let is_list = is_array(level);
+                self.enter_level(text, is_list, brace, found)
+            }
+            None => {
+                self.open(Segment::Bundle, Some(self.tree), self.root)?;
+                self.bundle(text, brace, found)
+            }
+        }
+    }
+
+    /// Begins a body in another one, given the text before its brace.
+    fn enter_level(
+        &mut self,
+        text: Option<Token>,
+        is_list: bool,
+        brace: usize,
+        found: &mut Collector<'_>,
+    ) -> Result<(), AllocError> {
         match text {
-            Some(token) if is_array => {
+            Some(token) if is_list => {
                 self.item_text(&token, found)?;
                 self.item(brace, found)
             }
@@ -505,16 +547,31 @@ impl<'a> ValueSearch<'a> {
 
     /// Ends a text before a comma or a brace at an offset.
     fn end_text(&mut self, at: usize, found: &mut Collector<'_>) -> Result<(), AllocError> {
-        let is_array = match self.levels.last() {
-            Some(level) => matches!(level.tree, Some(Tree::Array(_))),
+        let is_list = match self.levels.last() {
+            Some(level) => is_array(level),
             None => false,
         };
         match self.text.take() {
-            Some(token) if is_array => self.item_text(&token, found),
+            Some(token) if is_list => self.item_text(&token, found),
             Some(token) => self.text_value((token.first, token.past), found),
-            None if is_array => Ok(()),
+            None if is_list => Ok(()),
             None => self.text_value((at, at), found),
         }
+    }
+
+    /// Takes all tokens.
+    fn run(
+        &mut self,
+        tokens: &mut TextTokens<'_>,
+        found: &mut Collector<'_>,
+    ) -> Result<(), AllocError> {
+        for _ in 0..u64::MAX {
+            let Some(token) = tokens.pop()? else {
+                break;
+            };
+            self.step(token, found)?;
+        }
+        Ok(())
     }
 
     fn step(&mut self, token: Token, found: &mut Collector<'_>) -> Result<(), AllocError> {
@@ -539,6 +596,34 @@ impl<'a> ValueSearch<'a> {
     }
 }
 
+/// Makes a search in a text at its beginning.
+fn search_of<'a>(
+    alloc: Global,
+    text: &'a [u8],
+    tree: &'a Tree,
+    settings: &Settings<'a>,
+) -> Result<ValueSearch<'a>, AllocError> {
+    let name = settings.name.unwrap_or(b"");
+    Ok(ValueSearch {
+        alloc,
+        tree,
+        root: settings.root,
+        forbidden: settings.forbidden,
+        longest: settings.longest,
+        parent: Parent::of(name, tree),
+        source: text,
+        name: name.to_vec(alloc)?,
+        language: match settings.name {
+            Some(name) => Some(Language::of(name)),
+            None => None,
+        },
+        levels: Vec::new(alloc),
+        text: None,
+        is_type: false,
+        passed: 0,
+    })
+}
+
 /// Checks the messages of a bundle text, and compares the text with that of the root locale, if it is
 /// known. Reports keys that only one of them has, items of another kind, and arguments of messages that
 /// only one of two Strings has or that they use differently. `tree` is the bundle that the text spells.
@@ -555,37 +640,12 @@ pub(crate) fn search_values(
     settings: &Settings<'_>,
     found: &mut Collector<'_>,
 ) -> Result<(), AllocError> {
-    let name = settings.name;
-    let mut search = ValueSearch {
-        alloc,
-        tree,
-        root: settings.root,
-        forbidden: settings.forbidden,
-        longest: settings.longest,
-        parent: Parent::of(name.unwrap_or(b""), tree),
-        source: text,
-        name: name.unwrap_or(b"").to_vec(alloc)?,
-        language: name.map(|name| Language::of(name)),
-        levels: Vec::new(alloc),
-        text: None,
-        is_type: false,
-        passed: 0,
-    };
-    let mut tokens = match Tokens::of(alloc, text) {
-        Ok(tokens) => tokens,
-        Err(
-            SourceFault {
-                kind: SourceKind::Memory,
-                ..
-            },
-        ) => return Err(AllocError),
-        Err(_) => return Ok(()),
-    };
-    for _ in 0..u64::MAX {
-        let Some(token) = tokens.pop()? else {
-            break;
-        };
-        search.step(token, found)?;
+    let mut search = search_of(alloc, text, tree, settings)?;
+    match TextTokens::of(alloc, text) {
+        Ok(tokens) => {
+            let mut tokens = tokens;
+            search.run(&mut tokens, found)
+        }
+        Err(error) => Err(error),
     }
-    Ok(())
 }
