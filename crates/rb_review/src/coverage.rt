@@ -151,6 +151,39 @@ fn count(counts: &mut Vec<Counts>, found: &[Found]) {
     }
 }
 
+/// Counts and prints what is found at the next key. Returns false after the last one.
+fn put_next<R: AllocGlobal + Print>(
+    rt: &R,
+    printed: Printed<'_>,
+    coverage: &mut Coverage<'_>,
+    counts: &mut Vec<Counts>,
+) -> io::Result<bool> {
+    let Some(found) = coverage.next_key()? else {
+        return Ok(false);
+    };
+    if !found.is_empty() {
+        count(counts, &found);
+        let path = coverage.path()?;
+        printed.put_key(rt, str::from_utf8(&path).unwrap_or("?"), &found)?;
+    }
+    Ok(true)
+}
+
+/// Counts and prints what is found at each key.
+fn put_keys<R: AllocGlobal + Print>(
+    rt: &R,
+    printed: Printed<'_>,
+    coverage: &mut Coverage<'_>,
+    counts: &mut Vec<Counts>,
+) -> io::Result<()> {
+    for _ in 0..u64::MAX {
+        if !put_next(rt, printed, coverage, counts)? {
+            break;
+        }
+    }
+    Ok(())
+}
+
 /// Prints what is found at each key, and the table of a module. Returns the counts of its trees.
 fn put_module<R: AllocGlobal + Print>(
     rt: &R,
@@ -158,17 +191,7 @@ fn put_module<R: AllocGlobal + Print>(
     coverage: &mut Coverage<'_>,
 ) -> io::Result<Vec<Counts>> {
     let mut counts = vec![in rt.alloc(); Counts::none(); printed.trees.len()]?;
-    for _ in 0..u64::MAX {
-        let Some(found) = coverage.next_key()? else {
-            break;
-        };
-        if found.is_empty() {
-            continue;
-        }
-        count(&mut counts, &found);
-        let path = coverage.path()?;
-        printed.put_key(rt, str::from_utf8(&path).unwrap_or("?"), &found)?;
-    }
+    put_keys(rt, printed, coverage, &mut counts)?;
     let locales = coverage.locales()?;
     printed.put_table(rt, coverage.keys(), &locales, &counts)?;
     Ok(counts)

@@ -1,6 +1,6 @@
 //! The warnings that the settings of a project leave out.
 use rb_lint::{Finding, Levels, Rule, RuleSet, paths_at};
-use rb_project::Modules;
+use rb_project::{Modules, Project};
 use rb_settings::{Section, matches};
 use std::alloc::{AllocError, Global};
 
@@ -41,6 +41,26 @@ pub(crate) fn is_one(patterns: &[&str], name: &str) -> bool {
     patterns
         .iter()
         .any(|pattern| matches(pattern.as_bytes(), name.as_bytes()))
+}
+
+/// Returns the path of a finding, or an empty one if paths aren't known.
+pub(crate) fn path_at(paths: &[String], i: usize) -> &str {
+    match paths.get(i) {
+        Some(path) => path.as_str(),
+        None => "",
+    }
+}
+
+/// Returns the places of findings, each a line and a column.
+pub(crate) fn places_of(
+    alloc: Global,
+    findings: &[Finding],
+) -> Result<Vec<(u64, u64)>, AllocError> {
+    let mut places = Vec::new(alloc);
+    for finding in findings {
+        places.push((finding.line, finding.column))?;
+    }
+    Ok(places)
 }
 
 /// Returns a set of rules with those of these names.
@@ -88,6 +108,20 @@ impl<'a> LeftOut<'a> {
         Ok(())
     }
 
+    /// Adds what the tables of the settings allow in a text.
+    fn add_allowances(
+        &mut self,
+        alloc: Global,
+        project: &'a Project,
+        name: &str,
+    ) -> Result<(), AllocError> {
+        let relative = project.relative(alloc, name)?;
+        for section in project.settings.sections(alloc, "allow")? {
+            self.add_allowance(alloc, section, relative.as_str())?;
+        }
+        Ok(())
+    }
+
     /// Adds the paths of a module that aren't messages.
     fn add_messages(
         &mut self,
@@ -117,10 +151,7 @@ impl<'a> LeftOut<'a> {
             levels,
             filters: Vec::new(alloc),
         };
-        let relative = modules.project.relative(alloc, name)?;
-        for section in modules.project.settings.sections(alloc, "allow")? {
-            left_out.add_allowance(alloc, section, relative.as_str())?;
-        }
+        left_out.add_allowances(alloc, modules.project, name)?;
         if let Some(module) = modules.of_text(alloc, name)? {
             left_out.add_messages(alloc, module.section, ("messages", true))?;
             left_out.add_messages(alloc, module.section, ("no-messages", false))?;
@@ -142,11 +173,7 @@ impl<'a> LeftOut<'a> {
         if !self.has_paths() {
             return Ok(Vec::new(alloc));
         }
-        let mut places = Vec::new(alloc);
-        for finding in findings {
-            places.push((finding.line, finding.column))?;
-        }
-        paths_at(alloc, text, &places)
+        paths_at(alloc, text, &places_of(alloc, findings)?)
     }
 
     /// Checks whether a warning at a path is left out.

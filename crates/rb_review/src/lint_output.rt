@@ -64,7 +64,7 @@ impl LintOutput {
         }
         print!(rt; "{SARIF_HEAD}")?;
         let mut comma = "";
-        for rule in Rule::ALL {
+        for rule in Rule::all() {
             let (name, about) = (rule.name(), JsonText(rule.about()));
             print!(rt;
                 "{comma}{{\"id\":\"{name}\",\"shortDescription\":{{\"text\":\"{about}\"}}}}"
@@ -124,35 +124,48 @@ impl LintOutput {
         };
         let snippet = Snippet::of(rt.alloc(), line, finding.column)?;
         let width = snippet.width(rt.alloc(), self.console)?;
-        let number = finding.line;
+        self.source_line(rt, &snippet, finding.line)?;
+        self.caret(rt, width, finding.severity.word())
+    }
+
+    /// Prints the part of a line around a place.
+    fn source_line<R: Print>(&self, rt: &R, snippet: &Snippet, number: u64) -> io::Result<()> {
         let (before, after) = (
             self.console.on_stdout(snippet.before.as_str()),
             self.console.on_stdout(snippet.after.as_str()),
         );
         let (frame, plain) = (self.style(FRAME), self.style(PLAIN));
-        println!(rt; "{frame}{number:>5} |{plain} {before}{after}")?;
-        print!(rt; "{frame}      |{plain} ")?;
-        for _ in 0..width {
-            print!(rt; " ")?;
-        }
-        let level = self.style(level_style(finding.severity.word()));
-        println!(rt; "{level}^{plain}\n")
+        println!(rt; "{frame}{number:>5} |{plain} {before}{after}")
     }
 
-    /// Prints the message of a finding, and its place in a line below.
-    fn full_line<R: Print>(&self, rt: &R, line: Line<'_>, is_rule: bool) -> io::Result<()> {
-        let (file, message) = (
-            self.console.on_stdout(line.file),
-            self.console.on_stdout(line.message),
-        );
-        let level = line.level;
+    /// Prints a caret in a column, in the style of a level.
+    fn caret<R: Print>(&self, rt: &R, column: usize, level: &str) -> io::Result<()> {
+        let (frame, plain) = (self.style(FRAME), self.style(PLAIN));
+        print!(rt; "{frame}      |{plain} ")?;
+        for _ in 0..column {
+            print!(rt; " ")?;
+        }
+        let style = self.style(level_style(level));
+        println!(rt; "{style}^{plain}\n")
+    }
+
+    /// Prints the level and the message of a finding.
+    fn full_message<R: Print>(&self, rt: &R, line: Line<'_>, is_rule: bool) -> io::Result<()> {
+        let (level, message) = (line.level, self.console.on_stdout(line.message));
         let (style, plain) = (self.style(level_style(level)), self.style(PLAIN));
-        let (bold, frame) = (self.style(BOLD), self.style(FRAME));
+        let bold = self.style(BOLD);
         match line.rule {
             Some(rule) if is_rule => print!(rt; "{style}{level}[{rule}]{plain}")?,
             _ => print!(rt; "{style}{level}{plain}")?,
         }
-        println!(rt; "{bold}: {message}{plain}")?;
+        println!(rt; "{bold}: {message}{plain}")
+    }
+
+    /// Prints the message of a finding, and its place in a line below.
+    fn full_line<R: Print>(&self, rt: &R, line: Line<'_>, is_rule: bool) -> io::Result<()> {
+        self.full_message(rt, line, is_rule)?;
+        let file = self.console.on_stdout(line.file);
+        let (frame, plain) = (self.style(FRAME), self.style(PLAIN));
         match line.place {
             Some((number, column)) => {
                 println!(rt; "{frame}     -->{plain} {file}:{number}:{column}")

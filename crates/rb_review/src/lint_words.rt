@@ -99,7 +99,7 @@ pub(crate) fn levels_of<R: Eprint>(
 /// Returns the names of all rules.
 pub(crate) fn rule_names(alloc: Global) -> Result<Vec<&'static str>, AllocError> {
     let mut names = Vec::new(alloc);
-    for rule in Rule::ALL {
+    for rule in Rule::all() {
         names.push(rule.name())?;
     }
     Ok(names)

@@ -1,6 +1,6 @@
 //! `resb lint`.
 use crate::baseline::Baseline;
-use crate::left_out::LeftOut;
+use crate::left_out::{LeftOut, path_at};
 use crate::lint_output::LintOutput;
 use crate::lint_words::{Format, LintWords, has_colors, levels_of, rule_names, with_settings};
 use crate::snippet::Lines;
@@ -63,7 +63,43 @@ fn bundle_name(name: &str) -> Option<&[u8]> {
     }
 }
 
+/// The count of the findings of a text.
+#[derive(Clone, Copy)]
+struct Tally {
+    /// There is none that counts for the status.
+    is_good: bool,
+    /// The numbers of warnings that are printed, and of those past the limit.
+    printed: usize,
+    more: u64,
+}
+
+impl Tally {
+    /// Counts a finding. Returns true if it is printed.
+    fn takes(&mut self, common: Common<'_>, finding: &Finding) -> bool {
+        if finding.rule.is_some() {
+            if self.printed >= common.limit {
+                self.more = self.more.saturating_add(1);
+                return false;
+            }
+            self.printed = self.printed.saturating_add(1);
+        }
+        if common.is_strict || finding.severity == Severity::Error {
+            self.is_good = false;
+        }
+        true
+    }
+}
+
 impl Linter {
+    /// Returns the root's text that a text is compared with.
+    fn root_text<'a>(&'a self, common: Common<'a>, has_root: bool) -> Option<&'a RootText> {
+        if has_root {
+            self.root.as_ref()
+        } else {
+            common.root
+        }
+    }
+
     /// Reads the root's text of a module, unless it is the last one that was read.
     fn read_root<R: Files + AllocGlobal + Eprint>(
         &mut self,
@@ -102,8 +138,7 @@ impl Linter {
         self.baseline.takes(rt.alloc(), file, finding)
     }
 
-    /// Prints the findings of a text that aren't left out. Returns true if there are none that
-    /// count.
+    /// Prints the findings of a text that aren't left out.
     fn print_findings<R: AllocGlobal + Print>(
         &mut self,
         rt: &R,
@@ -112,29 +147,22 @@ impl Linter {
         left_out: &LeftOut<'_>,
         (name, text): (&str, &[u8]),
         findings: &[Finding],
-    ) -> io::Result<(bool, u64)> {
+    ) -> io::Result<Tally> {
         let paths = left_out.paths(rt.alloc(), text, findings)?;
         let file = project.relative(rt.alloc(), name)?;
-        let (mut is_good, mut count, mut more) = (true, 0usize, 0u64);
+        let mut tally = Tally {
+            is_good: true,
+            printed: 0,
+            more: 0,
+        };
         let mut lines = Lines::of(text);
         for (i, finding) in findings.iter().enumerate() {
-            let path = paths.get(i).map_or("", |path| path.as_str());
-            if self.leaves_out(rt, left_out, finding, (file.as_str(), path))? {
-                continue;
-            }
-            if finding.rule.is_some() {
-                if count >= common.limit {
-                    more = more.saturating_add(1);
-                    continue;
-                }
-                count = count.saturating_add(1);
-            }
-            self.output.finding(rt, name, &mut lines, finding)?;
-            if common.is_strict || finding.severity == Severity::Error {
-                is_good = false;
+            let place = (file.as_str(), path_at(&paths, i));
+            if !self.leaves_out(rt, left_out, finding, place)? && tally.takes(common, finding) {
+                self.output.finding(rt, name, &mut lines, finding)?;
             }
         }
-        Ok((is_good, more))
+        Ok(tally)
     }
 
     /// Prints the findings of a text that was read. Returns true if there are none that count.
@@ -149,30 +177,16 @@ impl Linter {
         let alloc = rt.alloc();
         let left_out = LeftOut::of(alloc, modules, common.levels, name)?;
         let takes_all = !self.baseline.is_empty() || left_out.has_paths();
-        let report = if has_root {
-            let root = self.root.as_ref();
-            report_of(
-                alloc,
-                common,
-                modules,
-                &left_out,
-                takes_all,
-                (name, text),
-                root,
-            )?
-        } else {
-            let root = common.root;
-            report_of(
-                alloc,
-                common,
-                modules,
-                &left_out,
-                takes_all,
-                (name, text),
-                root,
-            )?
-        };
-        let (is_good, more) = self.print_findings(
+        let report = report_of(
+            alloc,
+            common,
+            modules,
+            &left_out,
+            takes_all,
+            (name, text),
+            self.root_text(common, has_root),
+        )?;
+        let tally = self.print_findings(
             rt,
             common,
             modules.project,
@@ -180,9 +194,9 @@ impl Linter {
             (name, text),
             &report.findings,
         )?;
-        self.output
-            .left_out(rt, name, report.left_out.saturating_add(more))?;
-        Ok(is_good)
+        let more = report.left_out.saturating_add(tally.more);
+        self.output.left_out(rt, name, more)?;
+        Ok(tally.is_good)
     }
 }
 
@@ -534,7 +548,7 @@ pub fn lint_all<R: Files + Input + AllocGlobal + Print + Eprint>(
 
 /// Prints the names of all rules, each with what it warns of.
 fn list<R: Print>(rt: &R) -> io::Result<()> {
-    for rule in Rule::ALL {
+    for rule in Rule::all() {
         let (name, about) = (rule.name(), rule.about());
         println!(rt; "{name}: {about}")?;
     }

@@ -1,7 +1,7 @@
 //! The words that the strings of a text may not have, and their greatest lengths.
-use crate::left_out::is_one;
+use crate::left_out::{is_one, path_at, places_of};
 use rb_lint::{Finding, Message, PathLength, PatternDoubt, paths_at};
-use rb_project::Modules;
+use rb_project::{Modules, Project};
 use rb_settings::Section;
 use std::alloc::{AllocError, Global};
 
@@ -66,6 +66,36 @@ impl<'a> StringLimits<'a> {
         Ok(())
     }
 
+    /// Adds the words of the tables for a text of this name.
+    fn add_forbidden(
+        &mut self,
+        alloc: Global,
+        project: &'a Project,
+        name: &str,
+    ) -> Result<(), AllocError> {
+        for section in project.settings.sections(alloc, "forbid")? {
+            if is_for(alloc, section, name)? {
+                self.add_words(alloc, section)?;
+            }
+        }
+        Ok(())
+    }
+
+    /// Adds the limits of the tables for a text of this name.
+    fn add_limits(
+        &mut self,
+        alloc: Global,
+        project: &'a Project,
+        name: &str,
+    ) -> Result<(), AllocError> {
+        for section in project.settings.sections(alloc, "limit")? {
+            if is_for(alloc, section, name)? {
+                self.add_limit(alloc, section)?;
+            }
+        }
+        Ok(())
+    }
+
     /// Returns the limits of a text's strings, given those of its comments.
     pub(crate) fn of(
         alloc: Global,
@@ -79,16 +109,8 @@ impl<'a> StringLimits<'a> {
             lengths,
         };
         let relative = modules.project.relative(alloc, name)?;
-        for section in modules.project.settings.sections(alloc, "forbid")? {
-            if is_for(alloc, section, relative.as_str())? {
-                limits.add_words(alloc, section)?;
-            }
-        }
-        for section in modules.project.settings.sections(alloc, "limit")? {
-            if is_for(alloc, section, relative.as_str())? {
-                limits.add_limit(alloc, section)?;
-            }
-        }
+        limits.add_forbidden(alloc, modules.project, relative.as_str())?;
+        limits.add_limits(alloc, modules.project, relative.as_str())?;
         Ok(limits)
     }
 
@@ -167,16 +189,21 @@ impl<'a> StringLimits<'a> {
         if !self.has_lengths() {
             return Ok(findings);
         }
-        let mut places = Vec::new(alloc);
-        for finding in &findings {
-            places.push((finding.line, finding.column))?;
-        }
-        let paths = paths_at(alloc, text, &places)?;
+        let paths = paths_at(alloc, text, &places_of(alloc, &findings)?)?;
+        self.counted(alloc, findings, &paths)
+    }
+
+    /// Leaves out the findings of strings that are short enough, given the paths of all.
+    fn counted(
+        &self,
+        alloc: Global,
+        findings: Vec<Finding>,
+        paths: &[String],
+    ) -> Result<Vec<Finding>, AllocError> {
         let mut counted = Vec::new(alloc);
         for (i, finding) in findings.into_iter().enumerate() {
             let mut finding = finding;
-            let path = paths.get(i).map_or("", |path| path.as_str());
-            if self.counts(&mut finding, path) {
+            if self.counts(&mut finding, path_at(paths, i)) {
                 counted.push(finding)?;
             }
         }
