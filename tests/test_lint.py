@@ -9,6 +9,8 @@ the line, the column and the message of the error.
 """
 import json
 import re
+import string
+import unicodedata
 import urllib.parse
 
 import pytest
@@ -62,6 +64,17 @@ def test_each_warning_and_the_nearest_text(resb, at):
     # a text that isn't compiled may have others: the code of its error has capitals
     assert rule in rules and (rules == {rule} or not all(map(str.islower, rules)))
     assert lint(resb, resb.put(name_of(nearest), nearest), *options) == ([], [])
+
+
+def test_mixed_forms_are_those_of_unicode(resb):
+    """A letter and a mark beside `é` have a warning if Unicode has both as one character."""
+    marks = [0x300, 0x301, 0x302, 0x303, 0x304, 0x306, 0x307, 0x308, 0x30A, 0x30C, 0x327, 0x328]
+    pairs = [letter + chr(mark) for mark in marks for letter in string.ascii_letters]
+    text = bundle(*(f'k{n} {{ "é {pair}" }}' for n, pair in enumerate(pairs)))
+    warnings, _ = lint(resb, resb.put("de.txt", text), "--all")
+    assert {finding["rule"] for finding in warnings} == {"mixed-forms"}
+    wanted = [pair for pair in pairs if len(unicodedata.normalize("NFC", pair)) == 1]
+    assert [pairs[finding["line"] - 2] for finding in warnings] == wanted
 
 
 # Strings with a stray brace behind `¦`: the warning is there, whatever comes before it.

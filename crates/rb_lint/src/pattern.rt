@@ -55,6 +55,7 @@ impl PatternDoubt {
             PatternDoubt::Style(_) => Rule::BadPattern,
             PatternDoubt::Damaged(Damage::Replacement) => Rule::ReplacementCharacter,
             PatternDoubt::Damaged(Damage::Mojibake) => Rule::Mojibake,
+            PatternDoubt::Damaged(Damage::MixedForms) => Rule::MixedForms,
             PatternDoubt::Damaged(Damage::MixedScripts) => Rule::MixedScripts,
             PatternDoubt::Forbidden(_) => Rule::ForbiddenWord,
             PatternDoubt::Long { .. } => Rule::TooLong,
@@ -86,6 +87,9 @@ fn damage_text(damage: Damage) -> &'static str {
     match damage {
         Damage::Replacement => "U+FFFD stands for a character that could not be read",
         Damage::Mojibake => "this text is UTF-8 that was read in another encoding",
+        Damage::MixedForms => {
+            "a letter and its mark are two characters here, and one elsewhere in this text"
+        }
         Damage::MixedScripts => {
             "a word has Latin and Cyrillic letters that look alike; are those of one script meant?"
         }

@@ -8,6 +8,8 @@ pub enum Damage {
     Replacement,
     /// UTF-8 that was read as Latin-1 or Windows-1252.
     Mojibake,
+    /// A letter and its mark as two characters, where other letters with marks are one.
+    MixedForms,
     /// A word of Latin and Cyrillic letters that look alike.
     MixedScripts,
 }
@@ -44,6 +46,45 @@ fn is_mojibake(before: Option<u16>, text: &[u16]) -> bool {
         0xC4 | 0xC5 | 0xD0 | 0xD1 => matches!(second, 0x80..=0x9F),
         _ => false,
     }
+}
+
+/// Returns the ASCII letters that Unicode can write as one character with a mark.
+fn letters_with(mark: u16) -> &'static str {
+    match mark {
+        0x0300 => "AEINOUWYaeinouwy",
+        0x0301 => "ACEGIKLMNOPRSUWYZacegiklmnoprsuwyz",
+        0x0302 => "ACEGHIJOSUWYZaceghijosuwyz",
+        0x0303 => "AEINOUVYaeinouvy",
+        0x0304 => "AEGIOUYaegiouy",
+        0x0306 => "AEGIOUaegiou",
+        0x0307 => "ABCDEFGHIMNOPRSTWXYZabcdefghmnoprstwxyz",
+        0x0308 => "AEHIOUWXYaehiotuwxy",
+        0x030A => "AUauwy",
+        0x030C => "ACDEGHIKLNORSTUZacdeghijklnorstuz",
+        0x0327 => "CDEGHKLNRSTcdeghklnrst",
+        0x0328 => "AEIOUaeiou",
+        _ => "",
+    }
+}
+
+/// Checks for a Latin letter with a mark as one character.
+fn is_composed(unit: u16) -> bool {
+    matches!(unit, 0xC0..=0x17F) && !is_among(unit, "ÆÐ×ØÞßæð÷øþĐđĦħıĲĳĸĿŀŁłŉŊŋŒœŦŧſ")
+}
+
+/// Returns the first letter that is apart from its mark, if another one isn't.
+fn mixed_form(text: &[u16]) -> Option<usize> {
+    let mut apart = None;
+    let mut has_composed = false;
+    let mut before: u16 = 0;
+    for (at, unit) in text.iter().enumerate() {
+        if apart.is_none() && is_among(before, letters_with(*unit)) {
+            apart = at.checked_sub(1);
+        }
+        has_composed = has_composed || is_composed(*unit);
+        before = *unit;
+    }
+    if has_composed { apart } else { None }
 }
 
 /// Checks for a Cyrillic letter.
@@ -156,13 +197,14 @@ fn placed(at: Option<usize>, damage: Damage) -> Option<(usize, Damage)> {
 }
 
 /// Returns the damages of a string, each once, with the unit at which it begins.
-pub fn damage_in(text: &[u16]) -> [Option<(usize, Damage)>; 3] {
+pub fn damage_in(text: &[u16]) -> [Option<(usize, Damage)>; 4] {
     if is_ascii(text) {
-        return [None, None, None];
+        return [None, None, None, None];
     }
     [
         placed(place_of(text, 0xFFFD), Damage::Replacement),
         placed(mojibake(text), Damage::Mojibake),
+        placed(mixed_form(text), Damage::MixedForms),
         placed(mixed_word(text), Damage::MixedScripts),
     ]
 }
