@@ -145,7 +145,7 @@ fn search_readable<'a, 'c>(
     }
 }
 
-/// What was found in a text.
+/// The findings of a text, and why it isn't compiled.
 #[derive(Drop)]
 struct Searched {
     /// The first warnings, in the order of the text.
