@@ -145,7 +145,7 @@ fn search_readable<'a, 'c>(
     }
 }
 
-/// The findings of a text, and why it isn't compiled.
+/// What was found in a text.
 #[derive(Drop)]
 struct Searched {
     /// The first warnings, in the order of the text.

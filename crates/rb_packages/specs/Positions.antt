@@ -1,5 +1,5 @@
 -- Defines the bundles of a package by their indices, in the order of installation, a rule of this project.
-use Rattle.std.specs.Prelude.{◌≡◌, ℕ, Bool, List, [], Option, Some, false, option_map, unwrap_or, ◌&&◌}
+use Rattle.std.specs.Prelude.{◌≡◌, ℕ, Bool, List, [], Option, Some, None, false, option_map, unwrap_or, ◌&&◌}
 use Rattle.std.specs.List.{slice_get}
 use Rattle.std.specs.Map.{lookup}
 use Rattle.std.specs.Str.{bytes_eq}
