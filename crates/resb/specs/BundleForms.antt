@@ -1,22 +1,20 @@
 -- Defines the forms of a prepared bundle in C, a rule of this project: its file, its text (rb_printer), and JSON (rb_json).
-use Rattle.std.specs.Prelude.{◌≡◌, ◌⊎◌, ◌<◌, ℕ, true, false, List, Option, Some, None, length}
+use Rattle.std.specs.Prelude.{◌≡◌, ◌⊎◌, ℕ, true, false, List, Option, Some, None}
 use Rattle.serde_json.specs.Written.{compact_text}
 use Rattle.rb_tree.specs.Resource.{Resource}
 use Rattle.rb_tree.specs.SourceTree.{SourceTree}
-use Rattle.rb_lexer.specs.Limits.{source_limit}
 use Rattle.rb_format.specs.File.{Denotes}
 use Rattle.rb_json.specs.Printed.{is_within}
 use Rattle.rb_json.specs.Value.{value_of}
 use Rattle.rb_json_reader.specs.Text.{IsJsonOf}
-use Rattle.rb_printer.specs.Page.{page_bytes}
 use Rattle.rb_printer.specs.Whole.{IsBundleText}
 use Rattle.resb.specs.Copied.{CopiesBytes}
 
--- a copy of a text of the bundle under a name; or the number of a text that would be too long
+-- a copy of a text of the bundle under a name; or the number of a text that would be too long, where how long it is is left open
 abbrev pub CopiesTextOf : Option (List ℕ) → SourceTree → ℕ → ℕ → ℕ → List ℕ → Type 0
 CopiesTextOf None source n count room copy = n ≡ 13
-CopiesTextOf (Some name) source n count room copy = ((n ≡ 44) × (source_limit < length (page_bytes name source)))
-    ⊎ ((text : List ℕ) × IsBundleText text name source × CopiesBytes text n count room copy)
+CopiesTextOf (Some name) source n count room copy =
+    (n ≡ 44) ⊎ ((text : List ℕ) × IsBundleText text name source × CopiesBytes text n count room copy)
 
 -- a copy of a tree as JSON; or the number of a tree that weighs too much
 abbrev pub CopiesJson : Resource → ℕ → ℕ → ℕ → List ℕ → Type 0

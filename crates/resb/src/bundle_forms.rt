@@ -1,15 +1,12 @@
 //! Prepared bundles as files, as texts and as JSON.
-ghost use Rattle.std.specs.Prelude.{◌≡◌, ◌≢◌, ◌⊎◌, ◌<◌, IfErr, IfNone, IfOk, IfSome, length, take};
+ghost use Rattle.std.specs.Prelude.{◌≡◌, ◌≢◌, ◌⊎◌, IfErr, IfNone, IfOk, IfSome, length, take};
 ghost use Rattle.std.specs.Prelude.{false, true};
 ghost use Rattle.serde_json.specs.Written.{compact_text};
-ghost use Rattle.rb_lexer.specs.Limits.{source_limit};
 ghost use Rattle.rb_format.specs.File.{source_tree_of, tree_of};
 ghost use Rattle.rb_json.specs.Printed.{is_within as fits_json};
 ghost use Rattle.rb_json.specs.Value.{value_of};
 ghost use Rattle.rb_locales.specs.Locale.{name as name_of};
-ghost use Rattle.rb_printer.specs.Page.{page_bytes};
 ghost use Rattle.rb_printer.specs.Whole.{IsBundleText};
-ghost use Rattle.rb_printer.specs.declared.error.PrintError.TheVariants as print_errors;
 ghost use Rattle.resb.specs.BundleForms.{CopiesJson, CopiesTextOf};
 ghost use Rattle.resb.specs.Copied.{CopiesBytes};
 
@@ -51,8 +48,6 @@ pub extern "C" fn resb_bundle_file(
 fn text_of(alloc: Global, name: &Name, bundle: &Bundle) -> Result<Vec<u8>, PrintError>
     ensures text { IfOk result
         (λ bytes. IsBundleText bytes.items name.now (source_tree_of bundle.now)) }
-    ensures error { IfErr result (λ e. e ≡ print_errors.TooLarge
-        → source_limit < length (page_bytes name.now (source_tree_of bundle.now))) }
 {
     let units: Vec<u16> = name
         .as_bytes()
