@@ -47,12 +47,12 @@ def is_locale(name: str) -> bool:
     return name != "res_index" and re.fullmatch(r"root|[a-z]{2,3}(_\w+)*", name) is not None
 
 
-def files(data: str, folder: object) -> str:
-    """Returns a folder with the .res files of the locales in a package, in version 1 of the format."""
+def files(data: str, folder: object, tree: str | None = None) -> str:
+    """Returns a folder with the .res files of the locales in a package or in a tree of it, in version 1 of the format."""
     need("genrb")
-    into = pathlib.Path(str(folder), "files")
+    into = pathlib.Path(str(folder), f"{tree or ''}files")
     into.mkdir()
-    sources = [text for text in texts(data, folder) if is_locale(text.stem)]
+    sources = [text for text in texts(data, folder, tree) if is_locale(text.stem)]
     genrb(sources, into, "-e", "UTF-8", "-s", str(sources[0].parent))
     return str(into)
 
