@@ -12,6 +12,8 @@ import (
 	"time"
 
 	"luvdregan.example/resb/deploy/internal/auth"
+	"luvdregan.example/resb/deploy/internal/engine"
+	"luvdregan.example/resb/deploy/internal/serve"
 )
 
 // notInFile are the options that only a command line has.
@@ -36,7 +38,7 @@ func (s *settings) readConfig(f *flag.FlagSet) error {
 		return fmt.Errorf("%s: line %d: %w", s.config, line, err)
 	}
 	c := &configFile{content: content, tokens: json.NewDecoder(bytes.NewReader(content)), flags: f,
-		given: map[string]bool{"arguments": len(s.arguments) > 0}, seen: map[string]bool{}}
+		given: map[string]bool{}, seen: map[string]bool{}}
 	c.tokens.UseNumber()
 	f.Visit(func(one *flag.Flag) { c.given[one.Name] = true })
 	if err := c.read(s); err != nil {
@@ -82,8 +84,8 @@ func (c *configFile) read(s *settings) error {
 			return fmt.Errorf("%q is there twice", name)
 		}
 		c.seen[name] = true
-		if name == "arguments" {
-			err = c.arguments(s)
+		if name == "icudata" {
+			err = c.list(name, &s.icuData)
 		} else {
 			err = c.option(name)
 		}
@@ -130,7 +132,7 @@ func textOf(of flag.Value, value json.Token) (string, error) {
 	switch kind.(type) {
 	case bool:
 		fits, wants = isBool, "true or false"
-	case int, int64:
+	case int, int64, uint64:
 		fits, wants = isNumber, "a number"
 	case time.Duration:
 		fits, wants = isText, "a text such as \"30s\""
@@ -143,13 +145,13 @@ func textOf(of flag.Value, value json.Token) (string, error) {
 	return fmt.Sprint(value), nil
 }
 
-// arguments reads the arguments of `resb serve`, and takes them unless the command line has some.
-func (c *configFile) arguments(s *settings) error {
-	wrong := errors.New("\"arguments\" must be a list of texts")
+// list reads a list of texts, and takes it unless the command line has one.
+func (c *configFile) list(name string, to *listValue) error {
+	wrong := fmt.Errorf("%q must be a list of texts", name)
 	if open, err := c.tokens.Token(); err != nil || open != json.Delim('[') {
 		return wrong
 	}
-	var all []string
+	var all listValue
 	for c.tokens.More() {
 		token, err := c.tokens.Token()
 		text, isText := token.(string)
@@ -158,8 +160,8 @@ func (c *configFile) arguments(s *settings) error {
 		}
 		all = append(all, text)
 	}
-	if !c.given["arguments"] {
-		s.arguments = all
+	if !c.given[name] {
+		*to = all
 	}
 	_, err := c.tokens.Token()
 	return err
@@ -170,7 +172,7 @@ func (s settings) checkFiles() error {
 	if _, err := auth.Open(s.tokenFile); err != nil {
 		return err
 	}
-	if _, err := openPair(s.cert, s.key); err != nil {
+	if _, err := serve.OpenPair(s.cert, s.key); err != nil {
 		return err
 	}
 	for _, address := range []string{s.listen, s.inside} {
@@ -178,10 +180,17 @@ func (s settings) checkFiles() error {
 			return err
 		}
 	}
-	if _, err := s.login(); err != nil {
+	if err := s.sources(); err != nil {
+		return err
+	}
+	if _, err := engine.Open(s.engine); err != nil {
 		return err
 	}
 	if _, err := exec.LookPath(s.program); err != nil {
+		return err
+	}
+	if s.etcd != "" {
+		_, err := s.etcdOptions()
 		return err
 	}
 	if _, err := os.Stat(s.state); err != nil && !s.create {
