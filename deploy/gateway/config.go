@@ -12,8 +12,6 @@ import (
 	"time"
 
 	"luvdregan.example/resb/deploy/internal/auth"
-	"luvdregan.example/resb/deploy/internal/engine"
-	"luvdregan.example/resb/deploy/internal/serve"
 )
 
 // notInFile are the options that only a command line has.
@@ -38,7 +36,7 @@ func (s *settings) readConfig(f *flag.FlagSet) error {
 		return fmt.Errorf("%s: line %d: %w", s.config, line, err)
 	}
 	c := &configFile{content: content, tokens: json.NewDecoder(bytes.NewReader(content)), flags: f,
-		given: map[string]bool{}, seen: map[string]bool{}}
+		given: map[string]bool{"arguments": len(s.arguments) > 0}, seen: map[string]bool{}}
 	c.tokens.UseNumber()
 	f.Visit(func(one *flag.Flag) { c.given[one.Name] = true })
 	if err := c.read(s); err != nil {
@@ -84,8 +82,8 @@ func (c *configFile) read(s *settings) error {
 			return fmt.Errorf("%q is there twice", name)
 		}
 		c.seen[name] = true
-		if name == "icudata" {
-			err = c.list(name, &s.icuData)
+		if name == "arguments" {
+			err = c.arguments(s)
 		} else {
 			err = c.option(name)
 		}
@@ -132,7 +130,7 @@ func textOf(of flag.Value, value json.Token) (string, error) {
 	switch kind.(type) {
 	case bool:
 		fits, wants = isBool, "true or false"
-	case int, int64, uint64:
+	case int, int64:
 		fits, wants = isNumber, "a number"
 	case time.Duration:
 		fits, wants = isText, "a text such as \"30s\""
@@ -145,13 +143,13 @@ func textOf(of flag.Value, value json.Token) (string, error) {
 	return fmt.Sprint(value), nil
 }
 
-// list reads a list of texts, and takes it unless the command line has one.
-func (c *configFile) list(name string, to *listValue) error {
-	wrong := fmt.Errorf("%q must be a list of texts", name)
+// arguments reads the arguments of `resb serve`, and takes them unless the command line has some.
+func (c *configFile) arguments(s *settings) error {
+	wrong := errors.New("\"arguments\" must be a list of texts")
 	if open, err := c.tokens.Token(); err != nil || open != json.Delim('[') {
 		return wrong
 	}
-	var all listValue
+	var all []string
 	for c.tokens.More() {
 		token, err := c.tokens.Token()
 		text, isText := token.(string)
@@ -160,8 +158,8 @@ func (c *configFile) list(name string, to *listValue) error {
 		}
 		all = append(all, text)
 	}
-	if !c.given[name] {
-		*to = all
+	if !c.given["arguments"] {
+		s.arguments = all
 	}
 	_, err := c.tokens.Token()
 	return err
@@ -172,7 +170,7 @@ func (s settings) checkFiles() error {
 	if _, err := auth.Open(s.tokenFile); err != nil {
 		return err
 	}
-	if _, err := serve.OpenPair(s.cert, s.key); err != nil {
+	if _, err := openPair(s.cert, s.key); err != nil {
 		return err
 	}
 	for _, address := range []string{s.listen, s.inside} {
@@ -180,17 +178,10 @@ func (s settings) checkFiles() error {
 			return err
 		}
 	}
-	if err := s.sources(); err != nil {
-		return err
-	}
-	if _, err := engine.Open(s.engine); err != nil {
+	if _, err := s.login(); err != nil {
 		return err
 	}
 	if _, err := exec.LookPath(s.program); err != nil {
-		return err
-	}
-	if s.etcd != "" {
-		_, err := s.etcdOptions()
 		return err
 	}
 	if _, err := os.Stat(s.state); err != nil && !s.create {

@@ -1,10 +1,11 @@
-// The gateway answers HTTP for applications over resource bundles, which it stores in a database of this machine, or in an etcd that several
-// gateways share. README.md says how it is used and what it promises.
+// The gateway answers HTTP for applications by its own `resb serve`, and stores their bundles: in a database of this machine, or
+// in a log in NATS that several gateways share. README.md says how it is used and what it promises.
 package main
 
 import (
 	"bytes"
 	"context"
+	_ "embed" // for the description
 	"errors"
 	"flag"
 	"fmt"
@@ -20,89 +21,77 @@ import (
 
 	"luvdregan.example/resb/deploy/internal/api"
 	"luvdregan.example/resb/deploy/internal/auth"
-	"luvdregan.example/resb/deploy/internal/convert"
-	"luvdregan.example/resb/deploy/internal/engine"
-	"luvdregan.example/resb/deploy/internal/front"
 	"luvdregan.example/resb/deploy/internal/replica"
-	"luvdregan.example/resb/deploy/internal/serve"
-	"luvdregan.example/resb/deploy/internal/wire"
+	"luvdregan.example/resb/deploy/internal/store/sqlite"
 )
 
 // version and commit name the sources of the gateway; `-ldflags "-X main.version=.. -X main.commit=.."` sets them.
 var version, commit = "unknown", "unknown"
 
-// Requests leave much garbage and little is kept, so memory is collected less often as long as there is little of it.
-const (
-	garbage   = 400 // percent
-	softLimit = 1 << 30
-)
-
-// conversions bound what other forms of bundles cost.
-var conversions = convert.Bounds{Time: 20 * time.Second, Memory: 1 << 30, Output: 128 << 20}
+//go:embed openapi.json
+var openAPI []byte
 
 func main() {
+	log.SetFlags(log.LstdFlags | log.Lmicroseconds)
 	if len(os.Args) > 1 && strings.TrimLeft(os.Args[1], "-") == "healthcheck" {
 		os.Exit(healthCommand(os.Args[2:], os.Stderr))
+	}
+	if os.Getenv("GOGC") == "" {
+		// Requests leave much garbage and little is kept, so memory is collected less often as long as there is little of it.
+		debug.SetGCPercent(400)
+		debug.SetMemoryLimit(least(1<<30, machineMemory()/4))
 	}
 	if len(os.Args) > 1 && os.Args[1] == "token" {
 		os.Exit(tokenCommand(os.Args[2:], os.Stdout, os.Stderr))
 	}
+	if len(os.Args) > 1 && os.Args[1] == "state" {
+		os.Exit(stateCommand(os.Args[2:], os.Stdout, os.Stderr))
+	}
 	if len(os.Args) > 1 && operatorCommands[os.Args[1]] != nil {
 		os.Exit(operatorCommand(os.Args[1], os.Args[2:], os.Stdout, os.Stderr))
-	}
-	if len(os.Args) > 1 && os.Args[1] == "options" {
-		os.Exit(describeOptions(os.Args[2:], os.Stdout))
 	}
 	s, err := readSettings(os.Args[1:], os.Stderr)
 	if errors.Is(err, flag.ErrHelp) {
 		return
 	}
-	serve.StartLog(s.log)
-	status := 0
+	if s.log == "json" {
+		logJSON(os.Stderr)
+	}
 	switch {
 	case err != nil:
-		status = s.fail(err, 2)
+		s.fail(err, 2)
 	case s.version:
 		fmt.Printf("resb-gateway %s (%s)\n", version, commit)
 	case s.checkOnly:
 		if err := s.checkFiles(); err != nil {
-			status = s.fail(err, 2)
-		} else {
-			fmt.Println("the configuration can be used")
+			s.fail(err, 2)
 		}
+		fmt.Println("the configuration can be used")
 	default:
 		if err := run(s); err != nil {
-			status = s.fail(err, 1)
+			s.fail(err, 1)
 		}
 	}
-	serve.FlushLog()
-	os.Exit(status)
 }
 
-// fail reports an error in the form of the log, and returns the status.
-func (s settings) fail(err error, status int) int {
+// fail reports an error in the form of the log, and ends the process.
+func (s settings) fail(err error, status int) {
 	if s.log == "json" {
 		log.Print(err)
 	} else {
 		fmt.Fprintln(os.Stderr, "gateway:", err)
 	}
-	return status
+	os.Exit(status)
 }
 
 // run serves until a signal ends it.
 func run(s settings) error {
-	if os.Getenv("GOGC") == "" {
-		debug.SetGCPercent(garbage)
-	}
-	if os.Getenv("GOMEMLIMIT") == "" {
-		debug.SetMemoryLimit(softLimit)
-	}
 	leaving, stop := signal.NotifyContext(context.Background(), os.Interrupt, syscall.SIGTERM)
 	defer stop()
 	if s.addTokens != "" {
 		defer os.Remove(s.addTokens) // of a gateway that fails to start
 	}
-	pair, err := serve.OpenPair(s.cert, s.key)
+	pair, err := openPair(s.cert, s.key)
 	if err != nil {
 		return err
 	}
@@ -114,8 +103,13 @@ func run(s settings) error {
 	if err != nil {
 		return err
 	}
-	defer g.close()
+	defer g.Backend.Close()
 	go g.refresh(leaving, pair)
+	end, err := openControl(s.state, g.Backend)
+	if err != nil {
+		return err
+	}
+	defer end()
 	if s.inside != "" {
 		inner, err := net.Listen("tcp", s.inside)
 		if err != nil {
@@ -129,14 +123,14 @@ func run(s settings) error {
 // A gateway is a handler with the settings of its listeners.
 type gateway struct {
 	settings
-	*front.Handler
+	*api.Handler
 	leaving   context.Context // is done when the gateway ends
 	refreshed chan struct{}   // is closed when nothing is read again any more
-	access    *serve.Journal
-	audit     *serve.Journal
+	access    *journal
+	audit     *journal
 }
 
-// newGateway reads the tokens and begins to follow the store.
+// newGateway reads the tokens and begins with the backend.
 func newGateway(leaving context.Context, s settings) (*gateway, error) {
 	known, err := auth.Open(s.tokenFile)
 	if err != nil {
@@ -147,45 +141,64 @@ func newGateway(leaving context.Context, s settings) (*gateway, error) {
 			return nil, err
 		}
 	}
-	g := &gateway{settings: s, leaving: leaving, refreshed: make(chan struct{})}
-	if g.access, err = serve.OpenJournal(s.accessLog); err != nil {
-		return nil, err
-	}
-	if g.audit, err = serve.OpenJournal(s.auditLog); err != nil {
-		return nil, err
-	}
-	if err := s.sources(); err != nil {
-		return nil, err
-	}
-	e, err := engine.Open(s.engine)
+	access, err := openJournal(s.accessLog)
 	if err != nil {
 		return nil, err
 	}
-	of, err := s.openStore()
+	audit, err := openJournal(s.auditLog)
+	if err != nil {
+		return nil, err
+	}
+	b, err := connect(s)
 	if err != nil {
 		return nil, err
 	}
 	options := s.options
-	options.Access, options.Audit = serve.JournalOf(g.access), serve.JournalOf(g.audit)
-	options.Version, options.Commit, options.Leaving = version, commit, leaving
-	g.Handler = api.New(&front.Handler{Backend: replica.Open(of, e, s.replica), Engine: e, Tokens: known,
-		Convert: convert.New(s.program, conversions), Options: options})
-	g.Metrics.Gauge("log_lines_dropped_total", "Lines of logs that were left out, as nobody took them.", serve.Dropped)
-	return g, nil
+	if options.Scratch, err = scratchOf(s.state); err != nil {
+		b.Close()
+		return nil, err
+	}
+	options.Origins = s.originList()
+	options.Access, options.Audit = journalOf(access), journalOf(audit)
+	options.Version, options.Commit = version, commit
+	options.OpenAPI, options.Leaving, options.Inside = openAPI, leaving, s.inside != ""
+	options.Peer = peer
+	return &gateway{s, api.New(b, known, options), leaving, make(chan struct{}), access, audit}, nil
 }
 
-// close ends what newGateway began.
-func (g *gateway) close() {
-	g.Backend.Close()
-	for _, j := range []*serve.Journal{g.access, g.audit} {
-		if j != nil {
-			j.Flush()
-		}
+// connect returns the replica that the settings ask for.
+func connect(s settings) (*replica.Replica, error) {
+	shared, err := openLog(s)
+	if err != nil {
+		return nil, err
 	}
+	create := s.create || shared != nil // the store is only a copy of what the log has
+	changes, err := sqlite.Open(s.state, sqlite.Options{Create: create, Logf: log.Printf, Follow: shared != nil})
+	if err != nil {
+		return nil, err
+	}
+	return replica.Open(changes, replica.Settings{
+		Program: s.program, Arguments: s.serverArguments(), Memory: s.memory / 2, Patience: s.hangs, Log: shared,
+	}), nil
+}
+
+// login returns the name and the password for NATS, or "".
+func (s settings) login() (string, error) {
+	if s.natsLogin == "" {
+		return "", nil
+	}
+	text, err := os.ReadFile(s.natsLogin)
+	if err != nil {
+		return "", err
+	}
+	if len(strings.Fields(string(text))) != 2 {
+		return "", fmt.Errorf("%s: a user and a password are missing", s.natsLogin)
+	}
+	return strings.Join(strings.Fields(string(text)), " "), nil
 }
 
 // refresh reads the file of tokens and the certificates again when they change.
-func (g *gateway) refresh(ctx context.Context, p *serve.Pair) {
+func (g *gateway) refresh(ctx context.Context, p *pair) {
 	defer close(g.refreshed)
 	hangups := make(chan os.Signal, 1)
 	signal.Notify(hangups, syscall.SIGHUP)
@@ -199,20 +212,16 @@ func (g *gateway) refresh(ctx context.Context, p *serve.Pair) {
 			return
 		case <-ticks.C:
 			g.Tokens.Reload(false)
-			p.Again()
 		case <-soon.C:
 			if g.keepTokens(); g.addTokens == "" {
 				soon.Stop()
 			}
 		case <-hangups:
 			g.Tokens.Reload(true)
-			p.Again()
-			for _, j := range []*serve.Journal{g.access, g.audit} {
-				if err := j.Again(); err != nil {
-					log.Print(err)
-				}
-			}
+			g.access.again()
+			g.audit.again()
 		}
+		p.again()
 	}
 }
 
@@ -233,7 +242,7 @@ func (g *gateway) keepTokens() {
 func (g *gateway) server(handler http.Handler) *http.Server {
 	return &http.Server{
 		Handler: handler, ReadHeaderTimeout: g.headerTime, ReadTimeout: g.options.ReadTime, WriteTimeout: g.writeTime,
-		IdleTimeout: g.idleTime, MaxHeaderBytes: 16 << 10, ConnState: serve.State, ConnContext: wire.WithConn,
+		IdleTimeout: g.idleTime, MaxHeaderBytes: 16 << 10, ConnState: state, ConnContext: api.WithConn,
 		ErrorLog: log.New(quiet{}, "", 0),
 	}
 }
@@ -249,11 +258,11 @@ func (quiet) Write(b []byte) (int, error) {
 }
 
 // listenOn answers until the gateway is to end; then what is on its way is answered, and no more taken.
-func (g *gateway) listenOn(outer net.Listener, p *serve.Pair) error {
+func (g *gateway) listenOn(outer net.Listener, p *pair) error {
 	server := g.server(g)
-	var l net.Listener = &serve.Listener{Listener: outer, Metrics: g.Metrics, Most: g.connections, Plain: p == nil}
+	var l net.Listener = &listener{Listener: outer, metrics: g.Metrics, most: g.connections, plain: p == nil}
 	if p != nil {
-		l = serve.NewSecure(l, p.Configuration(), g.headerTime)
+		l = newSecure(l, p.configuration(), g.headerTime)
 	}
 	ended := make(chan error, 1)
 	go func() { ended <- server.Serve(l) }()

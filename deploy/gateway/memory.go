@@ -2,11 +2,48 @@ package main
 
 import (
 	"bytes"
+	"fmt"
 	"os"
 	"path/filepath"
 	"strconv"
 	"strings"
 )
+
+// leastMemory is what two servers need without bundles.
+const leastMemory = 256 << 20
+
+// bytesValue is a flag of a number of bytes, perhaps with K, M or G.
+type bytesValue int64
+
+// String returns the number.
+func (b *bytesValue) String() string { return fmt.Sprint(int64(*b)) }
+
+// Set reads a number.
+func (b *bytesValue) Set(text string) error {
+	unit := map[string]int64{"K": 1 << 10, "M": 1 << 20, "G": 1 << 30}
+	factor := int64(1)
+	for letter, of := range unit {
+		if digits := strings.TrimSuffix(text, letter); digits != text {
+			text, factor = digits, of
+		}
+	}
+	n, err := strconv.ParseInt(text, 10, 32)
+	if factor == 1 {
+		n, err = strconv.ParseInt(text, 10, 64)
+	}
+	if err == nil && n < 0 {
+		err = fmt.Errorf("not a number of bytes")
+	}
+	*b = bytesValue(n * factor)
+	return err
+}
+
+func least(a, b int64) int64 {
+	if a < b {
+		return a
+	}
+	return b
+}
 
 // machineMemory returns the memory of the machine, or of the control group if that has less.
 func machineMemory() int64 {
@@ -18,9 +55,15 @@ func machineMemory() int64 {
 			}
 		}
 	}
-	groups, _ := os.ReadFile("/proc/self/cgroup") // without one there is no limit
+	groups, err := os.ReadFile("/proc/self/cgroup")
+	if err != nil {
+		groups = nil
+	}
 	if most := groupMemory("/sys/fs/cgroup", string(groups)); most > 0 && most < memory {
 		memory = most
+	}
+	if memory < 2*leastMemory {
+		return 2 * leastMemory
 	}
 	return memory
 }

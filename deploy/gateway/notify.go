@@ -26,10 +26,10 @@ func notify(state string) error {
 	return err
 }
 
-// Messages to the service manager. Reading the bundles may take long, so the time for the start is extended until it is done.
+// Messages to the service manager. Filling a server may take long, so the time for the start is extended until it is done.
 const (
 	serving  = "READY=1\nSTATUS=serves"
-	filling  = "STATUS=reads the bundles\nEXTEND_TIMEOUT_USEC=30000000"
+	filling  = "STATUS=fills the servers\nEXTEND_TIMEOUT_USEC=30000000"
 	stopping = "STOPPING=1\nSTATUS=answers what is on its way"
 )
 

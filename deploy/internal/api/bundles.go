@@ -2,124 +2,133 @@ package api
 
 import (
 	"context"
-	"luvdregan.example/resb/deploy/internal/front"
 	"net/http"
 	"strings"
 	"time"
 
-	"luvdregan.example/resb/deploy/internal/engine"
-	"luvdregan.example/resb/deploy/internal/manifest"
-	"luvdregan.example/resb/deploy/internal/names"
-	"luvdregan.example/resb/deploy/internal/wire"
+	"luvdregan.example/resb/deploy/internal/convert"
+	"luvdregan.example/resb/deploy/internal/store"
 )
 
-// A form is one in which a bundle is returned.
-type form struct {
-	suffix string
-	kind   []string
-	is     string // of the bodies which are the submitted bytes, or ""
+// conversions bound what conversions of bundles cost beside lookups.
+var conversions = convert.Bounds{Time: 20 * time.Second, Memory: 1 << 30, Output: 64 << 20, AtOnce: 2}
+
+// A rendering is a form in which a bundle is returned.
+type rendering struct {
+	suffix, kind string
+	form         store.Form // the one in which it is the submitted bytes
 }
 
-var forms = []form{
-	{"txt", []string{"text/plain; charset=utf-8"}, engine.Text},
-	{"res", []string{fileBody}, engine.File},
-	{"json", front.JSONType, ""},
+var renderings = []rendering{
+	{"txt", "text/plain; charset=utf-8", store.Text},
+	{"res", "application/octet-stream", store.File},
+	{"json", "application/json", store.NoForm},
 }
 
-// formOf returns the form that the suffix of a name says, and the name without it.
-func formOf(name string) (locale string, of form, ok bool) {
-	for _, f := range forms {
-		if locale = strings.TrimSuffix(name, "."+f.suffix); locale != name {
-			return locale, f, true
+// renderingOf returns the form that the suffix of a name says, and the name without it.
+func renderingOf(name string) (locale string, of rendering, ok bool) {
+	for _, r := range renderings {
+		if locale = strings.TrimSuffix(name, "."+r.suffix); locale != name {
+			return locale, r, true
 		}
 	}
 	return name, of, false
 }
 
-// fetch answers with a bundle: as it was submitted, or converted.
-func (c call) fetch(locale string, of form) {
-	c.Operation = &fetches
-	now := c.Backend.Now(c.App)
-	c.W.Header()["Resb-Revision"] = now.Header()
-	name, ok := names.Canonical(locale)
-	if !ok {
-		c.Refuse(wire.BadLocale)
+// fetch answers with a bundle: as it was submitted, or converted by the program.
+func (c *call) fetch(locale string, of rendering) {
+	c.kind = "fetch"
+	b, there := c.Backend.Bundle(c.app, locale)
+	if !there {
+		c.refuse(absent)
 		return
 	}
-	b := now.Find(name)
-	if b == nil {
-		c.Refuse(wire.Absent)
-		return
-	}
-	c.render(*b, of)
+	c.render(b, of, func() (store.Bundle, []byte, error) {
+		now, body, there, err := c.kept(locale, b.Bytes)
+		if err == nil && !there {
+			err = errAbsent // it was removed meanwhile
+		}
+		return now, body, err
+	})
 }
 
-var fetches = front.Operation{Kind: front.KindFetch}
-
 // render writes a version of a bundle in a form, unless the caller has it.
-func (c call) render(b manifest.Bundle, of form) {
-	h := c.W.Header()
-	h["Cache-Control"], h["Vary"] = front.Privately, append(h["Vary"], front.ByToken...)
-	suffix := of.suffix
-	if of.is == b.Kind {
-		suffix = ""
-	}
-	tag := wire.BundleTag(b.Digest, suffix)
-	switch {
-	case !wire.ConditionsOf(http.Header{"If-Match": c.R.Header["If-Match"]}).Hold(&b):
-		c.Refuse(wire.Unmet)
-		return
-	case c.unchanged(tag, wire.At(&b)):
-		h.Set("Last-Modified", wire.At(&b).Format(http.TimeFormat))
-		c.Write(http.StatusNotModified, nil, nil)
+func (c *call) render(b store.Bundle, of rendering, load func() (store.Bundle, []byte, error)) {
+	h := c.w.Header()
+	h.Set("Cache-Control", "private, no-cache")
+	h.Add("Vary", "Authorization")
+	tag := of.describe(h, b)
+	if c.unchanged(tag, b.At) {
+		c.write(http.StatusNotModified, "", nil)
 		return
 	}
-	ctx, cancel := c.Patiently()
-	defer cancel()
-	var body []byte
-	err := c.Hold(b.Bytes)
+	body, err := []byte(nil), c.hold(int64(b.Bytes))
 	if err == nil {
-		err = c.Long(ctx, b.Bytes, func() (err error) {
-			body, err = c.converted(ctx, b, of)
-			return err
-		})
+		b, body, err = load()
+	}
+	if err == nil {
+		of.describe(h, b)
+		body, err = c.converted(b, body, of)
 	}
 	if err != nil {
 		h.Del("ETag")
-		c.Fail(err)
+		h.Del("Last-Modified")
+		c.fail(err)
 		return
 	}
-	h.Set("Last-Modified", wire.At(&b).Format(http.TimeFormat))
-	c.Write(http.StatusOK, of.kind, body)
+	c.write(http.StatusOK, of.kind, body)
 }
 
-// unchanged sets the tag, and returns true if the caller has what it names.
-func (c call) unchanged(tag string, at time.Time) bool {
-	reply, has := wire.Has(c.R, tag)
-	c.W.Header().Set("ETag", reply)
-	if len(c.R.Header["If-None-Match"]) > 0 {
-		return has
+// describe sets the headers that name a version of a bundle, and returns its tag.
+func (r rendering) describe(h http.Header, b store.Bundle) (tag string) {
+	suffix := r.suffix
+	if r.form == b.Form {
+		suffix = ""
 	}
-	since, err := http.ParseTime(c.R.Header.Get("If-Modified-Since"))
+	tag = bundleTag(b.Digest, suffix)
+	h.Set("ETag", tag)
+	h.Set("Last-Modified", b.At.UTC().Format(http.TimeFormat))
+	return tag
+}
+
+// hold counts memory of the request, if its application may have it.
+func (c *call) hold(bytes int64) error {
+	err := c.Limits.hold(c.app, bytes)
+	if err == nil {
+		c.counted += bytes
+	}
+	return err
+}
+
+// free takes back what hold counted, down to a number of bytes.
+func (c *call) free(bytes int64) {
+	c.Limits.free(c.app, c.counted-bytes)
+	c.counted = bytes
+}
+
+// unchanged returns true if the caller has what the tag names.
+func (c *call) unchanged(tag string, at time.Time) bool {
+	if len(c.r.Header.Values("If-None-Match")) > 0 {
+		return c.has(tag)
+	}
+	since, err := http.ParseTime(c.r.Header.Get("If-Modified-Since"))
 	return err == nil && !at.Truncate(time.Second).After(since)
 }
 
 // converted returns a bundle in a form. Its memory counts as that of the request.
-func (c call) converted(ctx context.Context, b manifest.Bundle, of form) (made []byte, err error) {
-	body, err := c.Backend.Body(ctx, c.App, b)
-	if err != nil || of.is == b.Kind {
-		return body, err
-	}
+func (c *call) converted(b store.Bundle, body []byte, of rendering) (made []byte, err error) {
+	ctx, cancel := context.WithTimeout(c.r.Context(), c.options.Patience)
+	defer cancel()
 	switch of.suffix {
 	case "txt":
-		made, err = c.Convert.Text(b.Locale, b.Kind, body)
+		made, err = c.convert.Text(ctx, c.app, b.Locale, b.Form, body)
 	case "res":
-		made, err = c.Convert.File(b.Kind, body)
+		made, err = c.convert.File(ctx, c.app, b.Form, body)
 	default:
-		made, err = c.Convert.JSON(b.Kind, body)
+		made, err = c.convert.JSON(ctx, c.app, b.Form, body)
 	}
-	if err == nil {
-		err = c.Hold(int64(len(made)))
+	if err == nil && of.form != b.Form {
+		err = c.hold(int64(len(made)))
 	}
 	return made, err
 }

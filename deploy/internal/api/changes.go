@@ -2,259 +2,242 @@ package api
 
 import (
 	"context"
-	"errors"
-	"fmt"
-	"luvdregan.example/resb/deploy/internal/front"
+	"crypto/sha256"
 	"mime"
+	"net"
 	"net/http"
 	"strings"
 	"time"
+	"unicode/utf8"
 
-	"luvdregan.example/resb/deploy/internal/auth"
 	"luvdregan.example/resb/deploy/internal/convert"
-	"luvdregan.example/resb/deploy/internal/engine"
-	"luvdregan.example/resb/deploy/internal/manifest"
-	"luvdregan.example/resb/deploy/internal/names"
 	"luvdregan.example/resb/deploy/internal/replica"
-	"luvdregan.example/resb/deploy/internal/wire"
+	"luvdregan.example/resb/deploy/internal/store"
 )
 
-// A payload is a bundle that a request has, in which nothing is refused yet.
-type payload struct {
-	locale string // as given
-	kind   string // or "" if nothing says it
-	body   []byte
-}
+// rounds is how often a PUT is tried as the one operation and the other, where others change the bundle at the same time.
+const rounds = 4
 
-// put answers PUT and POST of a bundle.
-func (c call) put() {
-	given := c.payloadOf(c.Parts[0])
-	c.Asked(given.locale, nil)
-	edit := replica.Edit{}
-	edit.If = c.condition()
-	edit.Kind, edit.MustBeAbsent = given.kind, c.R.Method == http.MethodPost
-	p := c.readPut(&given, &edit)
-	if p != nil {
-		c.Refuse(*p)
-		return
+// change answers PUT, POST and DELETE.
+func (c *call) change(name string) {
+	c.kind = "change"
+	asked := store.Change{App: c.app, Locale: name, Op: store.Remove, Who: c.who}
+	if c.r.Method != http.MethodDelete {
+		asked.Locale, asked.Form = c.form(name)
+		asked.Op = store.Install
 	}
-	c.Asked(given.locale, given.body)
-	ctx, cancel := c.Patiently()
-	defer cancel()
-	err := c.prepare(ctx, &edit, given)
-	defer edit.Bundle.Discard()
-	if err != nil {
-		c.refuseBundle(err, given, "")
-		return
+	holds, p := c.judge(asked.Locale)
+	if p == nil && asked.Op == store.Install {
+		asked.Body, p = c.bundle(asked.Form)
 	}
-	made, same, err := c.change(ctx, "put", func(context.Context, *replica.View) ([]replica.Edit, error) { return []replica.Edit{edit}, nil })
-	if err != nil {
-		c.refuseChange(made, err)
-		return
-	}
-	c.done(made, same, edit, otherName(given))
-}
-
-// readPut reads the bundle of a PUT or POST. If its condition doesn't hold it is refused before the body is sent, unless the gateway may be
-// behind another one.
-func (c call) readPut(given *payload, edit *replica.Edit) (p *wire.Problem) {
-	if p := c.accepts(*given); p != nil {
-		return p
-	}
-	var ok bool
-	if edit.Locale, ok = names.Canonical(given.locale); !ok {
-		return &wire.BadLocale
-	}
-	if now := c.Backend.Now(c.App); edit.If != nil && c.Options.Alone && !edit.If(now.Find(edit.Locale)) {
-		c.Tell(now.Revision)
-		return &wire.Unmet
-	}
-	if p := c.readBody(given); p != nil {
-		return p
-	}
-	if reason := otherName(*given); reason != "" && c.Asks("strict") {
-		return &wire.Problem{Status: wire.OtherName.Status, Code: wire.OtherName.Code, Message: reason}
-	}
-	return nil
-}
-
-// accepts refuses a body that says in no way, or in a wrong one, what it is.
-func (c call) accepts(given payload) *wire.Problem {
-	encoding := c.R.Header.Get("Content-Encoding")
 	switch {
-	case given.kind == "", encoding != "" && !strings.EqualFold(encoding, "identity"):
-		return &wire.BadType
-	case c.R.Header.Get("Content-Range") != "": // a part would replace the whole (RFC 9110, 14.4)
-		return &wire.BadLength
+	case p == nil:
+	case p.word == badText.word:
+		c.answerChange(p.status, asked, c.explained(asked, p.reply()))
+		return
+	default:
+		c.refuse(*p)
+		return
 	}
-	return nil
-}
-
-// readBody reads the body of a bundle.
-func (c call) readBody(given *payload) (p *wire.Problem) {
-	limit := c.Options.TextBytes
-	if given.kind == engine.File {
-		limit = c.Options.FileBytes
-	}
-	given.body, p = c.Body(limit)
-	return p
-}
-
-// condition returns the condition of the request for a bundle, or nil.
-func (c call) condition() func(*manifest.Bundle) bool {
-	if given := wire.ConditionsOf(c.R.Header); given.Any() {
-		return given.Hold
-	}
-	return nil
-}
-
-// prepare reads and checks the bundle of an edit, once it is the turn of the application.
-func (c call) prepare(ctx context.Context, edit *replica.Edit, given payload) error {
-	return c.Long(ctx, int64(len(given.body)), func() (err error) {
-		edit.Body, edit.Digest = given.body, manifest.DigestOf(given.body)
-		if edit.Bundle, err = engine.Prepare(given.kind, given.body); err == nil {
-			edit.Compiled = edit.Bundle.Compiled()
+	if _, strict := c.r.URL.Query()["strict"]; strict {
+		if reason := otherName(asked); reason != "" {
+			c.refuseFor(otherNamed, reason)
+			return
 		}
-		return err
-	})
+	}
+	c.make(asked, c.r.Method == http.MethodPut, holds)
 }
 
-// payloadOf finds the form of the body: the suffix of the name says it, or else the type.
-func (c call) payloadOf(name string) payload {
-	switch {
-	case strings.HasSuffix(name, ".txt"):
-		return payload{locale: strings.TrimSuffix(name, ".txt"), kind: engine.Text}
-	case strings.HasSuffix(name, ".res"):
-		return payload{locale: strings.TrimSuffix(name, ".res"), kind: engine.File}
+// patiently returns the context of a change. On one machine a caller that has gone doesn't take back what it asked. Over a shared log
+// it may have made a newer change at another gateway, which an older one must not undo: so that isn't published any more.
+func (c *call) patiently() (context.Context, context.CancelFunc) {
+	ctx := context.Background()
+	if c.Backend.IsShared() {
+		ctx = replica.WithCaller(c.r.Context(), c.awaitEnd())
 	}
-	kind, parameters, err := mime.ParseMediaType(c.R.Header.Get("Content-Type"))
-	set, there := parameters["charset"]
-	switch {
-	case err != nil:
-		return payload{locale: name}
-	case kind == textBody && (!there || strings.EqualFold(set, "utf-8") || strings.EqualFold(set, "us-ascii")):
-		return payload{locale: name, kind: engine.Text}
-	case kind == fileBody:
-		return payload{locale: name, kind: engine.File}
-	}
-	return payload{locale: name}
+	return context.WithTimeout(ctx, c.options.Patience)
 }
 
-// otherName returns what is doubtful about the name of a text that is put as a locale, or "".
-func otherName(given payload) string {
-	name, ok := names.InText(given.body)
-	if given.kind != engine.Text || !ok {
-		return ""
+// mostTrip is the longest round trip that awaitEnd waits for.
+const mostTrip = time.Second / 2
+
+// awaitEnd waits for two round trips of the connection. If the network held back the request and the end of the connection, the end
+// comes one round trip after the request. It returns a function that asks whether the connection has ended.
+func (c *call) awaitEnd() (isGone func() bool) {
+	conn, known := c.r.Context().Value(connKey{}).(net.Conn)
+	if !known || c.options.Peer == nil {
+		return nil
 	}
-	locale, _ := names.Canonical(given.locale)
-	if is, _ := names.Canonical(name); is == locale {
-		return ""
+	_, trip := c.options.Peer(conn)
+	if trip == 0 || trip > mostTrip {
+		trip = mostTrip
 	}
-	return fmt.Sprintf("the text has the name '%.80s', and it is put as '%.80s'", name, locale)
+	late := time.NewTimer(2 * trip)
+	defer late.Stop()
+	select {
+	case <-late.C:
+	case <-c.r.Context().Done():
+	}
+	return func() bool {
+		gone, _ := c.options.Peer(conn)
+		return gone
+	}
 }
 
-// change has a change made.
-func (c call) change(ctx context.Context, op string, make func(context.Context, *replica.View) ([]replica.Edit, error)) (
-	made *manifest.Manifest, same bool, err error) {
-	return c.Backend.Change(ctx, replica.Request{App: c.App, Who: c.Who.Name(), Op: op, Erase: make == nil, Make: make,
-		IsGone: func() bool { return c.R.Context().Err() != nil },
-		Mine:   func(name string) bool { return c.Who.May(name, time.Now()) == auth.Write }})
-}
-
-// remove answers DELETE of a bundle.
-func (c call) remove() {
-	c.Asked(c.Parts[0], nil)
-	edit := replica.Edit{}
-	edit.If = c.condition()
-	var ok bool
-	if edit.Locale, ok = names.Canonical(c.Parts[0]); !ok {
-		c.Refuse(wire.BadLocale)
-		return
-	}
-	ctx, cancel := c.Patiently()
-	defer cancel()
-	made, _, err := c.change(ctx, "remove", func(context.Context, *replica.View) ([]replica.Edit, error) { return []replica.Edit{edit}, nil })
+// refuseFor refuses a change for a reason.
+func (c *call) refuseFor(p problem, reason string) {
+	text, err := convert.Marshal(map[string]string{"error": p.word, "message": reason})
 	if err != nil {
-		c.refuseChange(made, err)
-		return
+		text = p.reply()
 	}
-	c.done(made, false, replica.Edit{}, "")
+	c.answerChange(p.status, store.Change{Op: store.Remove}, text)
 }
 
-// erase removes the bundles of the application and its history, if the query asks for it.
-func (c call) erase() {
-	if asked, is := c.Query["erase"]; !is || len(asked) > 1 || asked[0] != "" && asked[0] != "true" {
-		c.Refuse(wire.BadQuery)
+// make has a change made if its condition holds, as an installation or a replacement if it puts a bundle, and answers.
+func (c *call) make(asked store.Change, puts bool, holds store.Condition) {
+	if c.refusesOld() {
 		return
 	}
-	ctx, cancel := c.Patiently()
+	ctx, cancel := c.patiently()
 	defer cancel()
-	made, _, err := c.change(ctx, "erase", nil)
-	if err != nil {
-		c.refuseChange(made, err)
-		return
+	var reply []byte
+	var revision store.Revision
+	var err error
+	if puts {
+		asked.Op, reply, revision, err = c.put(ctx, asked, holds)
+	} else {
+		reply, revision, err = c.Backend.Change(ctx, asked, holds)
 	}
-	c.done(made, false, replica.Edit{}, "")
+	c.audit.note(c, asked.Op.String(), asked, reply, err)
+	c.respond(asked, reply, revision, err)
 }
 
-// done answers that a change was made, or that all is as it asks already. If a bundle is there now, the tag is its own.
-func (c call) done(made *manifest.Manifest, same bool, edit replica.Edit, warning string) {
-	c.Tell(made.Revision)
-	h := c.W.Header()
+// respond answers a change that was made or refused.
+func (c *call) respond(asked store.Change, reply []byte, revision store.Revision, err error) {
+	if err != nil {
+		c.refuse(problemOf(err))
+		return
+	}
 	status := http.StatusOK
-	h["Cache-Control"] = front.NoStore
-	if edit.Digest != "" {
-		h.Set("ETag", wire.BundleTag(edit.Digest, ""))
-	}
-	if edit.Digest != "" && !same && made.Made[0].Op == manifest.Install {
+	if asked.Op == store.Install {
 		status = http.StatusCreated
-		h.Set("Location", "/v1/"+c.App+"/"+edit.Locale)
 	}
-	reply := []byte(`{"ok":true}`)
-	if warning != "" {
-		reply = convert.Marshal(map[string]any{"ok": true, "warning": warning})
+	if revision > 0 {
+		c.tellRevision(revision)
 	}
-	c.Write(status, front.JSONType, append(reply, '\n'))
-}
-
-// refuseChange answers why a change wasn't made. The revision is that against which it was judged.
-func (c call) refuseChange(judged *manifest.Manifest, err error) {
-	if judged != nil {
-		c.Tell(judged.Revision)
-	}
-	c.Fail(err)
+	status = statusOf(reply, status)
+	c.answerChange(status, asked, warned(asked, c.explained(asked, reply)))
 }
 
 // explanations is how long the reason of a refusal may take.
 const explanations = 10 * time.Second
 
-// refuseBundle answers why a bundle isn't one: with the code and the line of its first error, and what is known of it, if it is found in time.
-// The name is that of an entry of a release, or "".
-func (c call) refuseBundle(err error, given payload, name string) {
-	var fault *engine.Fault
-	if !errors.As(err, &fault) {
-		c.Fail(err)
-		return
+// explained adds to the refusal of a bundle which error the program finds in it, and in which line, if it finds it in time.
+func (c *call) explained(asked store.Change, reply []byte) []byte {
+	word, _ := refusal(reply)
+	if word != "BadText" && word != "BadFile" {
+		return reply
 	}
-	code := map[string]string{engine.Text: "BadText", engine.File: "BadFile"}[given.kind]
-	c.Code = code
-	c.W.Header()["Cache-Control"] = front.NoStore
-	c.Write(http.StatusBadRequest, front.JSONType, append(convert.Marshal(struct {
+	ctx, cancel := context.WithTimeout(c.r.Context(), explanations)
+	defer cancel()
+	fault, found := c.convert.Fault(ctx, c.app, asked.Form, asked.Body)
+	if !found {
+		return reply
+	}
+	text, err := convert.Marshal(struct {
 		Code    string `json:"code"`
 		Error   string `json:"error"`
-		Line    uint64 `json:"line,omitempty"`
+		Line    int    `json:"line,omitempty"`
 		Message string `json:"message,omitempty"`
-		Name    string `json:"name,omitempty"`
-	}{fault.Code, code, fault.Line, c.explained(fault, given), name}), '\n'))
+	}{fault.Code, word, fault.Line, fault.Message})
+	if err != nil {
+		return reply
+	}
+	return text
 }
 
-// explained returns what is known of a fault, or "".
-func (c call) explained(fault *engine.Fault, given payload) (message string) {
-	ctx, cancel := context.WithTimeout(c.R.Context(), explanations)
-	defer cancel()
-	_ = c.Work(ctx, func() error { // without a reason the code remains
-		message = c.Convert.Explain(ctx, fault, given.kind, given.body)
-		return nil
-	})
-	return message
+// answerChange writes the reply to a change. If a bundle is there now, the tag is its own.
+func (c *call) answerChange(status int, asked store.Change, reply []byte) {
+	h := c.w.Header()
+	h.Set("Cache-Control", "no-store")
+	if status < 300 && asked.Op != store.Remove {
+		sum := sha256.Sum256(asked.Body)
+		h.Set("ETag", bundleTag(sum[:], ""))
+	}
+	switch status {
+	case http.StatusCreated:
+		h.Set("Location", "/v1/"+asked.App+"/"+store.Canonical(asked.Locale))
+	case http.StatusServiceUnavailable:
+		h.Set("Retry-After", "1")
+	}
+	c.write(status, "application/json", append(reply[:len(reply):len(reply)], '\n'))
+}
+
+// put installs a bundle or puts it in the place of the one that is there, and tells which it was.
+func (c *call) put(ctx context.Context, asked store.Change, holds store.Condition) (
+	done store.Operation, reply []byte, revision store.Revision, err error) {
+	asked.Op = store.Install
+	if c.Backend.Has(c.app, asked.Locale) {
+		asked.Op = store.Replace
+	}
+	for round := 0; ; round++ {
+		reply, revision, err = c.Backend.Change(ctx, asked, holds)
+		word, _ := refusal(reply)
+		switch {
+		case err != nil || round == rounds:
+			return asked.Op, reply, revision, err
+		case asked.Op == store.Install && word == "Exists":
+			asked.Op = store.Replace
+		case asked.Op == store.Replace && word == "Absent":
+			asked.Op = store.Install
+		default:
+			return asked.Op, reply, revision, nil
+		}
+	}
+}
+
+// bundle reads the bundle that a request carries.
+func (c *call) bundle(form store.Form) (body []byte, p *problem) {
+	limit := c.options.TextBytes
+	switch {
+	case form == store.NoForm:
+		return nil, &badType
+	case c.isEncoded():
+		return nil, &badType
+	case form == store.File:
+		limit = c.options.FileBytes
+	}
+	body, p = c.body(limit)
+	if p == nil && form == store.Text && !utf8.Valid(body) {
+		return body, &badText
+	}
+	return body, p
+}
+
+// isEncoded returns true if the body is compressed, or encoded in another way.
+func (c *call) isEncoded() bool {
+	encoding := c.r.Header.Get("Content-Encoding")
+	return encoding != "" && !strings.EqualFold(encoding, "identity")
+}
+
+// form tells the form of the body: the suffix of the name says it, where it has one, and else the type. It gives the name
+// without the suffix.
+func (c *call) form(name string) (locale string, f store.Form) {
+	switch {
+	case strings.HasSuffix(name, ".txt"):
+		return strings.TrimSuffix(name, ".txt"), store.Text
+	case strings.HasSuffix(name, ".res"):
+		return strings.TrimSuffix(name, ".res"), store.File
+	}
+	kind, parameters, err := mime.ParseMediaType(c.r.Header.Get("Content-Type"))
+	set, there := parameters["charset"]
+	switch {
+	case err != nil:
+		return name, store.NoForm
+	case kind == "text/plain" && (!there || strings.EqualFold(set, "utf-8") || strings.EqualFold(set, "us-ascii")):
+		return name, store.Text
+	case kind == "application/octet-stream":
+		return name, store.File
+	}
+	return name, store.NoForm
 }

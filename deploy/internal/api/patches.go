@@ -1,132 +1,170 @@
 package api
 
 import (
+	"bytes"
 	"context"
 	"errors"
-	"luvdregan.example/resb/deploy/internal/front"
 	"mime"
 	"net/http"
 	"strings"
+	"sync/atomic"
 
 	"luvdregan.example/resb/deploy/internal/convert"
-	"luvdregan.example/resb/deploy/internal/engine"
-	"luvdregan.example/resb/deploy/internal/manifest"
-	"luvdregan.example/resb/deploy/internal/names"
-	"luvdregan.example/resb/deploy/internal/replica"
-	"luvdregan.example/resb/deploy/internal/wire"
+	"luvdregan.example/resb/deploy/internal/store"
 )
 
+// patchType is the type of a JSON merge patch (RFC 7396).
+const patchType = "application/merge-patch+json"
+
+// mostPatchRounds is how often a patch is made where others change the bundle at the same time.
+const mostPatchRounds = 64
+
 // patch changes items of a bundle by a merge patch of its JSON. The bundle keeps the form in which it was submitted.
-func (c call) patch() {
-	locale := strings.TrimSuffix(c.Parts[0], ".json")
-	c.Asked(locale, nil)
-	encoding := c.R.Header.Get("Content-Encoding")
-	kind, _, err := mime.ParseMediaType(c.R.Header.Get("Content-Type"))
-	if err != nil || kind != patchBody || encoding != "" && !strings.EqualFold(encoding, "identity") {
-		c.W.Header().Set("Accept-Patch", patchBody)
-		c.Refuse(wire.BadType)
+func (c *call) patch(name string) {
+	c.kind = "change"
+	locale := strings.TrimSuffix(name, ".json")
+	if kind, _, err := mime.ParseMediaType(c.r.Header.Get("Content-Type")); err != nil || kind != patchType || c.isEncoded() {
+		c.w.Header().Set("Accept-Patch", patchType)
+		c.refuse(badType)
 		return
 	}
-	name, ok := names.Canonical(locale)
-	if !ok {
-		c.Refuse(wire.BadLocale)
-		return
-	}
-	body, p := c.Body(c.Options.TextBytes)
+	given, p := c.judge(locale)
 	if p != nil {
-		c.Refuse(*p)
+		c.refuse(*p)
 		return
 	}
-	c.Asked(locale, body)
-	ctx, cancel := c.Patiently()
+	body, p := c.body(c.options.TextBytes)
+	if p != nil {
+		c.refuse(*p)
+		return
+	}
+	ctx, cancel := c.patiently()
 	defer cancel()
+	asked := store.Change{App: c.app, Locale: locale, Op: store.Replace, Who: c.who}
 	var patch *convert.MergePatch
-	err = c.Long(ctx, int64(len(body)), func() (err error) {
-		patch, err = convert.ParsePatch(body, c.Hold)
+	err := c.long(len(body), func() (err error) {
+		patch, err = convert.ParsePatch(body, c.hold)
 		return err
 	})
+	if err == nil {
+		err = c.Backend.Catch(ctx, c.app, c.who)
+	}
 	if err != nil {
-		c.refusePatch(ctx, nil, err)
+		c.refusePatch(ctx, asked, err)
 		return
 	}
-	c.makePatch(ctx, name, patch)
-}
-
-// makePatch merges the patch into the bundle that is there, and does it again if another change came first.
-func (c call) makePatch(ctx context.Context, locale string, patch *convert.MergePatch) {
-	var edit replica.Edit
-	defer func() { edit.Bundle.Discard() }()
-	holds, before := c.condition(), c.Ticket.Held()
-	made, same, err := c.change(ctx, "patch", func(ctx context.Context, now *replica.View) ([]replica.Edit, error) {
-		edit.Bundle.Discard()
-		c.Ticket.Free(before)
-		edit = replica.Edit{}
-		edit.If = holds
-		edit.Locale = locale
-		b := now.Find(locale)
-		switch {
-		case holds != nil && !holds(b):
-			return nil, &manifest.Refusal{Code: manifest.Unmet, Locale: locale}
-		case b == nil:
-			return nil, &manifest.Refusal{Code: manifest.Absent, Locale: locale}
+	for round := 0; round < mostPatchRounds; round++ {
+		if c.patchOnce(ctx, asked, patch, given) {
+			return
 		}
-		err := c.Work(ctx, func() error { return c.merge(ctx, &edit, *b, patch) })
-		return []replica.Edit{edit}, err
-	})
-	if err != nil {
-		c.refusePatch(ctx, made, err)
-		return
 	}
-	c.done(made, same, edit, "")
+	c.audit.note(c, "patch", asked, nil, errFull)
+	c.refuse(busy)
 }
 
-// merge makes the edit of a patch.
-func (c call) merge(ctx context.Context, edit *replica.Edit, b manifest.Bundle, patch *convert.MergePatch) error {
-	if err := c.Hold(b.Bytes); err != nil { // before it is read
-		return err
+// patchOnce has the present bundle patched, and answers. It returns false if another caller has changed the bundle meanwhile, and
+// the condition of this one still holds.
+func (c *call) patchOnce(ctx context.Context, asked store.Change, patch *convert.MergePatch, given store.Condition) (answered bool) {
+	before := c.counted
+	defer func() {
+		if !answered {
+			c.free(before)
+		}
+	}()
+	now, same, err := c.patched(ctx, &asked, patch, given)
+	switch {
+	case err != nil:
+		c.refusePatch(ctx, asked, err)
+		return true
+	case same:
+		done := []byte(`{"ok":true}`)
+		c.audit.note(c, "patch", asked, done, nil)
+		c.tellRevision(c.Backend.Revision())
+		c.answerChange(http.StatusOK, asked, done)
+		return true
+	case c.refusesOld():
+		return true
 	}
-	body, err := c.Backend.Body(ctx, c.App, b)
-	if err != nil {
-		return err
+	var refuses atomic.Bool
+	reply, revision, err := c.Backend.Change(ctx, asked, func(b *store.Bundle) bool {
+		refuses.Store(given != nil && !given(b))
+		return !refuses.Load() && b != nil && b.Form == now.Form && bytes.Equal(b.Digest, now.Digest)
+	})
+	if errors.Is(err, store.ErrCondition) && !refuses.Load() {
+		return false
 	}
-	made, same, err := c.Convert.Patched(ctx, b, body, patch, c.Hold)
-	if err != nil {
-		return err
+	c.audit.note(c, "patch", asked, reply, err)
+	c.respond(asked, reply, revision, err)
+	return true
+}
+
+// patched sets the body of a change to the present bundle with a patch, or to that of the bundle if it has the same items.
+func (c *call) patched(ctx context.Context, asked *store.Change, patch *convert.MergePatch, given store.Condition) (
+	now store.Bundle, same bool, err error) {
+	b, there := c.Backend.Bundle(c.app, asked.Locale)
+	if there {
+		if err := c.hold(int64(b.Bytes)); err != nil { // before it is read
+			return b, false, err
+		}
 	}
-	edit.Kind, edit.Body, edit.Digest, edit.Compiled = b.Kind, body, b.Digest, b.Compiled
-	if same {
+	now, body, there, err := c.kept(asked.Locale, b.Bytes)
+	switch {
+	case err != nil:
+		return now, false, err
+	case given != nil && !given(bundleOr(now, there)):
+		return now, false, store.ErrCondition
+	case !there:
+		return now, false, errAbsent
+	}
+	asked.Locale, asked.Form = now.Locale, now.Form
+	made, same, err := c.convert.Patched(ctx, c.app, now.Form, body, patch, c.hold)
+	if err != nil || same {
+		asked.Body = body
+		return now, same, err
+	}
+	limit := c.options.FileBytes
+	if asked.Body = made; now.Form == store.Text {
+		limit = c.options.TextBytes
+		asked.Body, err = c.convert.Text(ctx, c.app, now.Locale, store.File, made)
+	}
+	if err == nil && int64(len(asked.Body)) > limit {
+		err = store.ErrTooLong
+	}
+	if err == nil {
+		err = c.hold(int64(len(asked.Body)))
+	}
+	return now, false, err
+}
+
+// bundleOr returns a bundle, or nil if it isn't there.
+func bundleOr(b store.Bundle, there bool) *store.Bundle {
+	if !there {
 		return nil
 	}
-	limit := map[string]int64{engine.Text: c.Options.TextBytes, engine.File: c.Options.FileBytes}[b.Kind]
-	if int64(len(made)) > limit {
-		return wire.TooLarge
-	}
-	edit.Body, edit.Digest = made, manifest.DigestOf(made)
-	if edit.Bundle, err = engine.Prepare(b.Kind, made); err == nil {
-		edit.Compiled = edit.Bundle.Compiled()
-	}
-	return err
+	return &b
 }
 
 // refusePatch answers why nothing is changed: with the place in the patch, if it is an error of that.
-func (c call) refusePatch(ctx context.Context, judged *manifest.Manifest, err error) {
+func (c *call) refusePatch(ctx context.Context, asked store.Change, err error) {
 	var fault *convert.JSONFault
 	if !errors.As(err, &fault) {
-		c.refuseChange(judged, err)
+		c.audit.note(c, "patch", asked, nil, err)
+		c.fail(err)
 		return
 	}
-	_ = c.Work(ctx, func() error { // without a reason the code remains
-		c.Convert.ExplainJSON(ctx, fault)
-		return nil
-	})
-	c.Code = "BadPatch"
-	c.W.Header()["Cache-Control"] = front.NoStore
-	c.Write(http.StatusBadRequest, front.JSONType, append(convert.Marshal(struct {
+	c.convert.Explain(ctx, c.app, fault)
+	reply, err := convert.Marshal(struct {
 		Code    string `json:"code"`
 		Column  int    `json:"column"`
 		Error   string `json:"error"`
 		Line    int    `json:"line"`
 		Message string `json:"message,omitempty"`
 		Path    string `json:"path"`
-	}{fault.Code, fault.Column, c.Code, fault.Line, fault.Message, fault.Path}), '\n'))
+	}{fault.Code, fault.Column, "BadPatch", fault.Line, fault.Message, fault.Path})
+	if err != nil {
+		c.fail(err)
+		return
+	}
+	c.audit.note(c, "patch", asked, []byte(`{"error":"BadPatch"}`), nil)
+	c.answerChange(http.StatusBadRequest, store.Change{Op: store.Remove}, reply)
 }

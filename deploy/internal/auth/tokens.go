@@ -48,7 +48,6 @@ func (g grant) holds(now time.Time) bool { return g.expires.IsZero() || now.Befo
 // A Holder is who has a token.
 type Holder struct {
 	digest   digest
-	id       string // of the digest
 	name     string // in the file, or ""
 	shown    string
 	apps     map[string][]grant
@@ -57,9 +56,6 @@ type Holder struct {
 
 // Name names the holder in logs and in the history: by its name, or by the first digits of the token's digest.
 func (h Holder) Name() string { return h.shown }
-
-// ID returns a text that differs for each token.
-func (h *Holder) ID() string { return h.id }
 
 // May returns what the holder may do now for an application; 0 is nothing.
 func (h Holder) May(app string, now time.Time) (most Right) {
@@ -112,7 +108,6 @@ type Tokens struct {
 	mu    sync.Mutex
 	seen  []byte // what the tokens are from
 	last  []byte // what was read last
-	state string // of the file when it was read last
 	added []byte // lines that aren't in the file yet
 }
 
@@ -151,9 +146,6 @@ func Open(path string) (*Tokens, error) {
 	if err == nil && len(wrong) > 0 {
 		err = wrong[0]
 	}
-	if err == nil && othersMayWrite(path) {
-		err = errors.New("all users of the machine may change it, so anybody could make a token; chmod o-w it")
-	}
 	if err != nil {
 		return nil, fmt.Errorf("%s: %w", path, err)
 	}
@@ -168,13 +160,9 @@ func Open(path string) (*Tokens, error) {
 func (t *Tokens) Reload(atOnce bool) {
 	t.mu.Lock()
 	defer t.mu.Unlock()
-	state := stateOf(t.path)
-	if !atOnce && state != "" && state == t.state && t.seen != nil && bytes.Equal(t.last, t.seen) {
-		return
-	}
 	content, err := readFile(t.path)
 	before := t.last
-	t.last, t.state = content, state
+	t.last = content
 	if err == nil && (t.seen != nil && bytes.Equal(content, t.seen) || !atOnce && !bytes.Equal(content, before)) {
 		return
 	}
@@ -191,35 +179,15 @@ func (t *Tokens) Reload(atOnce bool) {
 		return
 	}
 	bad := int32(0)
-	if othersMayWrite(t.path) {
-		wrong = append(wrong, errors.New("all users of the machine may change the file"))
-	}
 	for i, one := range wrong {
 		if bad = 1; i < 10 {
-			log.Printf("tokens: %s: %v", t.path, one) // a wrong line is left out
+			log.Printf("tokens: %s: %v; the line is left out", t.path, one)
 		}
 	}
 	atomic.StoreInt32(&t.isBad, bad)
 	t.seen = content
 	t.now.Store(g)
 	log.Printf("tokens: read again: %d", len(g.holders))
-}
-
-// stateOf returns what differs once a file is changed, or "" if it can't be known. A file that was changed less than some seconds ago may be changed
-// again without a difference.
-func stateOf(path string) string {
-	info, err := os.Stat(path)
-	if err != nil || time.Since(info.ModTime()) < 5*time.Second {
-		return ""
-	}
-	of := info.Sys().(*syscall.Stat_t)
-	return fmt.Sprint(of.Ino, of.Size, of.Mtim, of.Ctim, of.Mode)
-}
-
-// othersMayWrite returns true if all users of the machine may change a file.
-func othersMayWrite(path string) bool {
-	info, err := os.Stat(path)
-	return err == nil && info.Mode().Perm()&0o002 != 0
 }
 
 // join returns the lines of both.
@@ -320,7 +288,7 @@ func (g *grants) add(l line) error {
 	place := g.place(l.digest)
 	h, there := g.holders[place]
 	if !there {
-		h = Holder{digest: l.digest, id: string(l.digest[:]), shown: hex.EncodeToString(l.digest[:4]), apps: map[string][]grant{}, prefixes: map[string][]grant{}}
+		h = Holder{digest: l.digest, shown: hex.EncodeToString(l.digest[:4]), apps: map[string][]grant{}, prefixes: map[string][]grant{}}
 	}
 	if l.name != "" && h.name != "" && l.name != h.name {
 		return fmt.Errorf("the token has the name %s in another line", h.name)

@@ -104,7 +104,7 @@ func (t *tree) open() (k kind, value json.RawMessage) {
 		if !t.from.More() || !isSpecial(t.next()) {
 			return table, nil
 		}
-		name := Marshal(t.key)
+		name, _ := Marshal(t.key)
 		t.has = false
 		var rest json.RawMessage
 		if err := t.from.Decode(&rest); err != nil && t.err == nil {
@@ -113,7 +113,7 @@ func (t *tree) open() (k kind, value json.RawMessage) {
 		t.token() // the brace
 		return leaf, json.RawMessage("{" + string(name) + ":" + string(rest) + "}")
 	default:
-		value = Marshal(token)
+		value, _ = Marshal(token)
 		return leaf, value
 	}
 }
@@ -121,6 +121,15 @@ func (t *tree) open() (k kind, value json.RawMessage) {
 // isSpecial returns true for the only name in an object that is no table (docs/JSON.md).
 func isSpecial(key string) bool {
 	return strings.HasPrefix(key, ":") && !strings.HasPrefix(key, "::")
+}
+
+// Marshal returns a value as JSON without escapes that only HTML needs.
+func Marshal(value any) (json.RawMessage, error) {
+	var out bytes.Buffer
+	to := json.NewEncoder(&out)
+	to.SetEscapeHTML(false)
+	err := to.Encode(value)
+	return bytes.TrimSuffix(out.Bytes(), []byte("\n")), err
 }
 
 // A differ walks through two trees. The path is that of the item at which it is.
@@ -232,15 +241,4 @@ func (d *differ) within(t *tree, k kind, value json.RawMessage, add func(json.Ra
 		d.at(key, func() { d.all(t, add) })
 	}
 	t.token()
-}
-
-// Marshal returns a value as JSON without escapes that only HTML needs.
-func Marshal(value any) json.RawMessage {
-	var out bytes.Buffer
-	to := json.NewEncoder(&out)
-	to.SetEscapeHTML(false)
-	if err := to.Encode(value); err != nil {
-		panic(err) // the values have only texts, numbers and JSON
-	}
-	return bytes.TrimSuffix(out.Bytes(), []byte("\n"))
 }

@@ -11,8 +11,7 @@ import (
 	"strings"
 	"unicode/utf8"
 
-	"luvdregan.example/resb/deploy/internal/engine"
-	"luvdregan.example/resb/deploy/internal/manifest"
+	"luvdregan.example/resb/deploy/internal/store"
 )
 
 // ErrNoCommand is the error of a program that hasn't the command, since it is an earlier version.
@@ -292,7 +291,8 @@ func (m *merger) name(name string) {
 	if text := m.out.Bytes(); text[len(text)-1] != '{' {
 		m.out.WriteByte(',')
 	}
-	m.out.Write(Marshal(name))
+	text, _ := Marshal(name) // a string
+	m.out.Write(text)
 	m.out.WriteByte(':')
 }
 
@@ -312,56 +312,63 @@ func (m *merger) fresh(v value) {
 	m.out.WriteByte('}')
 }
 
-// Patched returns a bundle with a patch of its JSON (docs/JSON.md) in the form in which it was, and whether it has the same items. The error is a
-// *JSONFault if what the patch makes is no bundle. The memory of what is made is given to a function.
-func (r *Runner) Patched(ctx context.Context, b manifest.Bundle, body []byte, p *MergePatch, hold func(bytes int64) error) (
+// Patched returns a bundle with a patch of its JSON (docs/JSON.md) as a file, and whether that has the same items. The error is a
+// *JSONFault if the program refuses what the patch makes. The memory of what is made is given to a function.
+func (r *Runner) Patched(ctx context.Context, app string, form store.Form, body []byte, p *MergePatch, hold func(bytes int64) error) (
 	made []byte, same bool, err error) {
-	file, err := r.File(b.Kind, body)
-	if err != nil {
-		return nil, false, err
-	}
-	old, err := r.JSON(engine.File, file)
-	if err == nil {
-		err = hold(int64(len(file) + 2*len(old) + len(p.text)))
+	file, err := r.File(ctx, app, form, body)
+	if err == nil && form != store.File {
+		err = hold(int64(len(file)))
 	}
 	if err != nil {
 		return nil, false, err
 	}
-	merged, err := p.merge(ctx, old)
-	if err == nil {
-		file, err = r.fromJSON(ctx, p, merged, isNoFallback(file))
-	}
+	old, err := r.held(ctx, app, hold, file, "json", "--", standardInput)
 	if err != nil {
 		return nil, false, err
 	}
-	new, err := r.JSON(engine.File, file)
-	if err == nil && b.Kind == engine.Text {
-		file, err = r.Text(b.Locale, engine.File, file)
+	if err := hold(int64(len(old) + len(p.text))); err != nil {
+		return nil, false, err
 	}
-	if err == nil {
-		err = hold(int64(len(file) + len(new)))
-	}
-	return file, bytes.Equal(old, new), err
-}
-
-// fromJSON returns the file of a text of JSON which a patch made. The program does it, as it names the places of errors.
-func (r *Runner) fromJSON(ctx context.Context, p *MergePatch, text []byte, noFallback bool) ([]byte, error) {
-	if !noFallback {
-		b, err := engine.PrepareJSON(text)
-		if err == nil {
-			defer b.Discard()
-			return b.File(r.bounds.Output)
-		}
+	merged, err := r.merged(ctx, app, p, old)
+	if err != nil {
+		return nil, false, err
 	}
 	arguments := []string{"compile", "-q", "--json"}
-	if noFallback {
+	if isNoFallback(file) {
 		arguments = append(arguments, "--no-fallback")
 	}
-	made, said, failed, err := r.run(ctx, text, append(arguments, "-", "-")...)
+	made, said, failed, err := r.Run(ctx, app, merged, append(arguments, "-", "-")...)
 	if err == nil && failed {
-		err = r.faultOf(ctx, p, said)
+		err = r.faultOf(ctx, app, p, said)
 	}
-	return made, err
+	if err == nil {
+		err = hold(int64(len(made)))
+	}
+	if err != nil {
+		return nil, false, err
+	}
+	new, err := r.held(ctx, app, hold, made, "json", "--", standardInput)
+	return made, bytes.Equal(old, new), err
+}
+
+// merged merges a patch into the JSON of a bundle, once it is the application's turn.
+func (r *Runner) merged(ctx context.Context, app string, p *MergePatch, old []byte) ([]byte, error) {
+	end, err := r.Begin(ctx, app)
+	if err != nil {
+		return nil, err
+	}
+	defer end()
+	return p.merge(ctx, old)
+}
+
+// held returns what a command prints, whose memory is given to a function.
+func (r *Runner) held(ctx context.Context, app string, hold func(bytes int64) error, body []byte, arguments ...string) ([]byte, error) {
+	out, err := r.one(ctx, app, body, arguments...)
+	if err == nil {
+		err = hold(int64(len(out)))
+	}
+	return out, err
 }
 
 // The first line that compile prints for an error of JSON: NAME:LINE:COLUMN: CODE, with a JSON pointer if it isn't that of all.
@@ -369,7 +376,7 @@ var jsonFaultLine = regexp.MustCompile(`^[^\n]*?:[0-9]+:[0-9]+: ([A-Z][A-Za-z0-9
 
 // faultOf reads what the program says of the JSON that a patch makes. It names the place of the patch that is on the way to the
 // item with the error.
-func (r *Runner) faultOf(ctx context.Context, p *MergePatch, said []byte) error {
+func (r *Runner) faultOf(ctx context.Context, app string, p *MergePatch, said []byte) error {
 	parts := jsonFaultLine.FindSubmatch(said)
 	if parts == nil {
 		return fmt.Errorf("%w: %.200s", ErrNoCommand, said)
@@ -377,14 +384,14 @@ func (r *Runner) faultOf(ctx context.Context, p *MergePatch, said []byte) error 
 	path := strings.ToValidUTF8(string(parts[2]), "\uFFFD")
 	f := faultAt(p.text, string(parts[1]), p.find(path).from)
 	f.Path = path
-	f.Message = r.meaning(ctx, f.Code, asJSON)
+	f.Message = r.meaning(ctx, app, f.Code, store.NoForm)
 	return f
 }
 
-// ExplainJSON adds to a fault that ParsePatch found what its code means.
-func (r *Runner) ExplainJSON(ctx context.Context, f *JSONFault) {
+// Explain adds to a fault that ParsePatch found what its code means.
+func (r *Runner) Explain(ctx context.Context, app string, f *JSONFault) {
 	if f.Message == "" {
-		f.Message = r.meaning(ctx, f.Code, asJSON)
+		f.Message = r.meaning(ctx, app, f.Code, store.NoForm)
 	}
 }
 

@@ -1,5 +1,4 @@
-// Package convert writes bundles in other forms, merges patches into them, and finds the items that differ. Commands of the program, within
-// bounds, say why a bundle is refused and what is doubtful in it.
+// Package convert has the program's commands read and write bundles for callers, within bounds.
 package convert
 
 import (
@@ -20,35 +19,47 @@ var (
 	ErrRun    = errors.New("the program can't be run")
 )
 
-// Bounds limit each run of the program. Who runs commands sees to it that there are few at once.
+// Bounds limit each run of the program, and how many there are at once.
 type Bounds struct {
 	Time   time.Duration // of the processor, and twice that by the clock
 	Memory int64         // bytes of address space
-	Output int           // bytes, also of what the library makes
+	Output int           // bytes
+	AtOnce int
 }
 
-// A Runner converts, and runs commands of the program.
+// A Runner runs commands of the program: one of an application at a time, and a fixed number at once.
 type Runner struct {
-	program string
+	*Slots
+	program func() string
 	bounds  Bounds
 
 	mu       sync.Mutex
 	meanings map[string]string
 }
 
-// New returns a runner of a program.
-func New(program string, bounds Bounds) *Runner {
-	return &Runner{program: program, bounds: bounds, meanings: map[string]string{}}
+// New returns a runner of the program that a function names.
+func New(program func() string, bounds Bounds) *Runner {
+	return &Runner{Slots: NewSlots(bounds.AtOnce), program: program, bounds: bounds, meanings: map[string]string{}}
 }
 
-// run runs a command with the body as its standard input, under limits of the system, and returns what it prints to standard output and
-// standard error. Failed says that it ended with another status than 0.
-func (r *Runner) run(ctx context.Context, body []byte, arguments ...string) (out, said []byte, failed bool, err error) {
+// Run runs a command with the body as its standard input, and returns what it prints to standard output and standard error. Failed
+// says that it ended with another status than 0.
+func (r *Runner) Run(ctx context.Context, app string, body []byte, arguments ...string) (out, said []byte, failed bool, err error) {
+	end, err := r.Begin(ctx, app)
+	if err != nil {
+		return nil, nil, false, err
+	}
+	defer end()
+	return r.run(ctx, body, arguments)
+}
+
+// run runs a command under limits of the system.
+func (r *Runner) run(ctx context.Context, body []byte, arguments []string) (out, said []byte, failed bool, err error) {
 	ctx, cancel := context.WithTimeout(ctx, 2*r.bounds.Time)
 	defer cancel()
 	const limited = `ulimit -v "$0" && ulimit -t "$1" && ulimit -c 0 && shift && exec "$@"`
 	seconds := int64((r.bounds.Time + time.Second - 1) / time.Second)
-	given := append([]string{"-c", limited, fmt.Sprint(r.bounds.Memory >> 10), fmt.Sprint(seconds), r.program}, arguments...)
+	given := append([]string{"-c", limited, fmt.Sprint(r.bounds.Memory >> 10), fmt.Sprint(seconds), r.program()}, arguments...)
 	command := exec.Command("/bin/sh", given...)
 	command.SysProcAttr = &syscall.SysProcAttr{Setpgid: true}
 	answer, errors := &bounded{most: r.bounds.Output, full: cancel}, &bounded{most: 1 << 12, full: func() {}}
@@ -69,7 +80,7 @@ func (r *Runner) run(ctx context.Context, body []byte, arguments ...string) (out
 	return answer.text, errors.text, status != 0, nil
 }
 
-// lower is by how much the priority of a command is below that of the gateway, if the system allows it.
+// lower is by how much the priority of a command is below that of the servers, if the system allows it.
 const lower = 10
 
 // endWith runs a command, and kills all its processes when the context ends.
