@@ -1,7 +1,7 @@
 """`resb lint`: each warning and the nearest text without it, the texts of lint/texts.jsonl, docs/LINT.md, and the four formats.
 
 A line of lint/warnings.jsonl has a "rule", a "text" that has this warning, and the "nearest" text that has none. In place of the text it may have
-"entries": the text is the one in German of lint/entries.json with these entries in place of its own, beside the root's; so is "nearest" then.
+"entries": they replace those of the German text in lint/entries.json, which is compared with the root's there; so is "nearest" then.
 
 A line of lint/texts.jsonl has "text" (or "hex", its bytes), "name" (that of the file, without .txt), "root" if it is linted against that text, and
 "options". What is expected: "warnings", the line and the rule of each in order; "among", some of them; "messages", those of the warnings; "error",
