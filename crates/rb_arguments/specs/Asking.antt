@@ -1,5 +1,5 @@
 -- Defines the command that a command line asks for, by the rows of values that clap returned for it.
-use Rattle.std.specs.Prelude.{◌≡◌, ◌++◌, ◌∷◌, [], Bool, true, false, List, Option, Some, None, codes, option_map}
+use Rattle.std.specs.Prelude.{◌≡◌, ◌++◌, ◌||◌, ◌∷◌, [], Bool, true, false, List, Option, Some, None, codes, option_map}
 use Rattle.std.specs.List.{list_any}
 use Rattle.std.specs.Option.{option_or}
 use Rattle.std.specs.Str.{bytes_eq}
@@ -13,14 +13,25 @@ use Rattle.rb_arguments.specs.declared.asking.Asked.TheVariants.{Check, Get, Jso
 use Rattle.rb_arguments.specs.declared.asking.Asked.TheVariants.{Inherited, Diff, Lint, Format, Coverage, Init, Explain}
 use Rattle.rb_arguments.specs.declared.asking.Asked.TheVariants.{Lines, Look, Serve}
 
--- the names of the commands
-abbrev pub names : List Text
-names =
-    codes "compile" ∷ codes "check" ∷ codes "get" ∷ codes "json" ∷ codes "text" ∷ codes "diff" ∷ codes "lint" ∷ codes "fmt"
-    ∷ codes "coverage" ∷ codes "init" ∷ codes "explain" ∷ codes "lines" ∷ codes "look" ∷ codes "serve" ∷ []
+-- the names of the commands for single files
+abbrev pub file_names : List Text
+file_names =
+    codes "compile" ∷ codes "check" ∷ codes "get" ∷ codes "json" ∷ codes "text" ∷ codes "diff" ∷ []
+
+-- the names of the other commands
+abbrev pub other_names : List Text
+other_names =
+    codes "lint" ∷ codes "fmt" ∷ codes "coverage" ∷ codes "init" ∷ codes "explain" ∷ codes "lines" ∷ codes "look"
+    ∷ codes "serve" ∷ []
+
+abbrev pub is_file_command : Text → Bool
+is_file_command name = list_any (bytes_eq name) file_names
+
+abbrev pub is_other_command : Text → Bool
+is_other_command name = list_any (bytes_eq name) other_names
 
 abbrev pub is_command : Text → Bool
-is_command name = list_any (bytes_eq name) names
+is_command name = is_file_command name || is_other_command name
 
 -- the texts of `compile --to`: IN, OUT and TEXT, in this order
 abbrev pub texts_in : List Row → List Text

@@ -4,14 +4,15 @@ ghost use Rattle.clap.specs.Walk.{texts};
 ghost use Rattle.clap.specs.Words.{first_of, found_of, rows_of, subcommand_rows_of};
 ghost use Rattle.rb_arguments.specs.Rows.{IsFlagIn, IsNumberIn, alone, word_in, words_in};
 ghost use Rattle.rb_arguments.specs.Limits.{AreGiven};
-ghost use Rattle.rb_arguments.specs.Asking.{AsksFor, EntersFor, enters_command, is_command};
+ghost use Rattle.rb_arguments.specs.Asking.{AsksFor, EntersFor, enters_command};
+ghost use Rattle.rb_arguments.specs.Asking.{is_command, is_file_command, is_other_command};
 ghost use Rattle.rb_arguments.specs.Asking.{files_in, root_in, texts_in};
 
 use clap::ArgMatches;
 use std::alloc::{AllocError, Global};
 
 /// A command with its arguments.
-#[derive(Debug, Drop)]
+#[derive(Drop)]
 pub enum Asked<'a> {
     /// `compile IN OUT`
     Compile {
@@ -487,13 +488,13 @@ fn lines_asked<'a>(alloc: Global, given: &ArgMatches<'a>) -> Result<Asked<'a>, A
     })
 }
 
-/// Returns what a command asks for, or None if there is no such command.
-fn command_asked<'a>(
+/// Returns what a command for single files asks for, or None if there is no such command.
+fn file_command_asked<'a>(
     alloc: Global,
     command: &str,
     given: &ArgMatches<'a>,
 ) -> Result<Option<Asked<'a>>, AllocError>
-    ensures variant { IfOk result (λ asked. is_some asked ≡ is_command command.now) }
+    ensures variant { IfOk result (λ asked. is_some asked ≡ is_file_command command.now) }
     ensures asked { IfOk result (λ asked.
         IfSome asked (AsksFor command.now (rows_of (found_of given.now)))) }
 {
@@ -504,6 +505,22 @@ fn command_asked<'a>(
         "json" => json_asked(alloc, given),
         "text" => Ok(text_asked(given)),
         "diff" => Ok(diff_asked(given)),
+        _ => return Ok(None),
+    };
+    Ok(Some(asked?))
+}
+
+/// Returns what another command asks for, or None if there is no such command.
+fn other_command_asked<'a>(
+    alloc: Global,
+    command: &str,
+    given: &ArgMatches<'a>,
+) -> Result<Option<Asked<'a>>, AllocError>
+    ensures variant { IfOk result (λ asked. is_some asked ≡ is_other_command command.now) }
+    ensures asked { IfOk result (λ asked.
+        IfSome asked (AsksFor command.now (rows_of (found_of given.now)))) }
+{
+    let asked = match command {
         "lint" => lint_asked(alloc, given),
         "fmt" => format_asked(alloc, given),
         "coverage" => coverage_asked(alloc, given),
@@ -519,6 +536,22 @@ fn command_asked<'a>(
         _ => return Ok(None),
     };
     Ok(Some(asked?))
+}
+
+/// Returns what a command asks for, or None if there is no such command.
+fn command_asked<'a>(
+    alloc: Global,
+    command: &str,
+    given: &ArgMatches<'a>,
+) -> Result<Option<Asked<'a>>, AllocError>
+    ensures variant { IfOk result (λ asked. is_some asked ≡ is_command command.now) }
+    ensures asked { IfOk result (λ asked.
+        IfSome asked (AsksFor command.now (rows_of (found_of given.now)))) }
+{
+    match file_command_asked(alloc, command, given)? {
+        Some(asked) => Ok(Some(asked)),
+        None => other_command_asked(alloc, command, given),
+    }
 }
 
 /// Returns what a command line asks for, or None if it names no command. `Err` means out of memory.

@@ -1,7 +1,7 @@
 use crate::finding::Finding;
 
 /// The number of keys of a locale with each finding.
-#[derive(Clone, Copy, PartialEq, Eq)]
+#[derive(Clone, Copy)]
 pub struct Counts {
     pub missing: u64,
     pub unused: u64,

@@ -1,7 +1,7 @@
 use rb_parents::TrailFault;
 
 /// The reasons why the bundles of a module can't be compared.
-#[derive(Clone, Copy, Debug, PartialEq, Eq)]
+#[derive(Clone, Copy)]
 pub enum CoverageFault {
     /// No bundle is the root's.
     NoRoot,

@@ -34,7 +34,7 @@ impl Finding {
 }
 
 /// A finding in the locale whose bundle is at an index.
-#[derive(Clone, Copy, PartialEq, Eq)]
+#[derive(Clone, Copy)]
 pub struct Found {
     pub finding: Finding,
     pub locale: usize,

@@ -327,7 +327,7 @@ a number that is none or too large; DELETE of an application without ?erase\t\
 GET /openapi.json describes each query
 BadRevision\t\
 the value of ?after= is no revision\t\
-a revision of another log, or none\t\
+a revision that is no number\t\
 send the header Resb-Revision of a reply
 BadType\t\
 neither the name's suffix nor the type says what the body is, or it is encoded\t\
@@ -355,7 +355,7 @@ another writer changed the bundle meanwhile; If-None-Match: * where a bundle is\
 get the bundle again, make the change in it, and put it with its new tag
 NoVersion\t\
 the history doesn't have this change, or what was submitted isn't kept\t\
-one of another application; a version past the 64 MB that are kept; a removal, which has no text\t\
+one of another application; a version past the limits of the history; a removal, which has no text\t\
 GET /v1/APP/_history says which versions are kept
 CutOff\t\
 the body ended early\t\
@@ -378,28 +378,24 @@ the gateway failed\t\
 a fault of the gateway or of its disk\t\
 its log says why
 NotOffered\t\
-the stream in NATS doesn't permit that entries are purged\t\
-?erase, where somebody made the stream with deny_purge\t\
-remove the bundles one by one; the earlier ones may stay in the stream
+the gateway doesn't find the program resb, which compares versions and explains errors\t\
+a gateway that was installed without resb, or whose -program names another file\t\
+install resb beside the gateway
 Busy\t\
 there are too many requests or connections at once\t\
 many callers; -all and -connections of the gateway are the limits\t\
 ask again after Retry-After
 Replaying\t\
-no server answers now: the bundles are being installed\t\
-the gateway or the server starts\t\
+the gateway doesn't have all bundles yet\t\
+the gateway starts\t\
 ask again after Retry-After; /readyz says when it answers
 Behind\t\
 the gateway doesn't have the revision of ?after= yet\t\
-a gateway that doesn't reach NATS; a slow disk\t\
+a gateway that doesn't reach etcd; a slow disk\t\
 ask again after Retry-After, or another gateway
-ServerEnded\t\
-the server ended while it had this request\t\
-a text that takes all its memory; the end of the process\t\
-ask again; if it stays so, the log says how the server ended
 Unreached\t\
-the gateway doesn't reach NATS, so no change can be made\t\
-a stopped nats-server; most of its servers are down\t\
+the gateway doesn't reach its store, so no change can be made\t\
+a stopped etcd; most of its members are down\t\
 ask again after Retry-After; lookups are answered meanwhile
 NotKept\t\
 the change could not be stored, and was taken back\t\
@@ -410,8 +406,8 @@ no reply came in time\t\
 expensive changes of other applications; a change that may still be made\t\
 ask whether it was made before you ask again; -patience is the limit
 NoRoom\t\
-the disk, or the stream of changes, is full\t\
-a full disk\t\
+the disk, or the space of etcd, is full\t\
+a full disk; etcd's quota\t\
 remove bundles, which works on a full disk, or make space";
 
 pub(crate) const OF_LOOKUP: &str = "\

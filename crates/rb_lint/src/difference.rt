@@ -1,3 +1,4 @@
+use crate::pattern::alone;
 use crate::rule::Rule;
 use crate::uses::ValueKind;
 use rb_explain::kind_word;
@@ -113,21 +114,17 @@ fn value_word(kind: ValueKind) -> &'static str {
 /// Describes a change after the item's path: the words before a name, the name, and those after it.
 fn words_of(change: &Change) -> (&'static str, &str, &'static str) {
     match change {
-        Change::Absent => ("isn't here, and is in the root", "", ""),
-        Change::Additional => ("isn't in the root", "", ""),
+        Change::Absent => alone("isn't here, and is in the root"),
+        Change::Additional => alone("isn't in the root"),
         Change::OtherKind { here, .. } => ("is ", kind_word(*here), ", and not in the root"),
         Change::Lacks(name) => ("has no {", shown(name), "}, which it has in the root"),
         Change::Adds(name) => ("has {", shown(name), "}, which it hasn't in the root"),
         Change::OtherUse { name, .. } => ("uses {", shown(name), "} in another way than the root"),
-        Change::OtherLength { .. } => ("has another number of items than in the root", "", ""),
-        Change::Unreadable(_) => (
-            "is a message in the root, and can't be formatted here",
-            "",
-            "",
-        ),
+        Change::OtherLength { .. } => alone("has another number of items than in the root"),
+        Change::Unreadable(_) => alone("is a message in the root, and can't be formatted here"),
         Change::LacksMark(_, mark) => ("has no ", shown(mark), ", which it has in the root"),
         Change::AddsMark(_, mark) => ("has ", shown(mark), ", which it hasn't in the root"),
-        Change::Blanks(edge) => (edge_text(*edge), "", ""),
+        Change::Blanks(edge) => alone(edge_text(*edge)),
         Change::LacksEnding(ending) => {
             (
                 "doesn't end with '",
@@ -135,8 +132,8 @@ fn words_of(change: &Change) -> (&'static str, &str, &'static str) {
                 "', as it does in the root",
             )
         }
-        Change::Empty => ("is empty, and not in the root", "", ""),
-        Change::Same => ("is the root's text; is it to be translated?", "", ""),
+        Change::Empty => alone("is empty, and not in the root"),
+        Change::Same => alone("is the root's text; is it to be translated?"),
     }
 }
 

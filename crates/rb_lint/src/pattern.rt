@@ -96,14 +96,17 @@ fn damage_text(damage: Damage) -> &'static str {
     }
 }
 
+/// Describes something that has no name.
+pub(crate) fn alone<'a>(text: &'static str) -> (&'static str, &'a str, &'static str) {
+    (text, "", "")
+}
+
 /// Describes a doubt: the words before a name, the name, and those after it.
 fn words_of(doubt: &PatternDoubt) -> (&'static str, &str, &'static str) {
     match doubt {
-        PatternDoubt::Invalid(_) => ("this message can't be formatted", "", ""),
-        PatternDoubt::Stray => (
+        PatternDoubt::Invalid(_) => alone("this message can't be formatted"),
+        PatternDoubt::Stray => alone(
             "a closing brace closes no argument; is an opening brace missing?",
-            "",
-            "",
         ),
         PatternDoubt::Quoted(name) => (
             "{",
@@ -131,10 +134,10 @@ fn words_of(doubt: &PatternDoubt) -> (&'static str, &str, &'static str) {
             shown(name),
             "} is in only one of the messages to choose from; is it missing in the others?",
         ),
-        PatternDoubt::Style(fault) => (style_text(*fault), "", ""),
-        PatternDoubt::Damaged(damage) => (damage_text(*damage), "", ""),
+        PatternDoubt::Style(fault) => alone(style_text(*fault)),
+        PatternDoubt::Damaged(damage) => alone(damage_text(*damage)),
         PatternDoubt::Forbidden(word) => ("the settings forbid '", shown(word), "'"),
-        PatternDoubt::Long { .. } => ("this text is too long", "", ""),
+        PatternDoubt::Long { .. } => alone("this text is too long"),
     }
 }
 

@@ -57,7 +57,7 @@ impl<'a, 'c> PieceSearch<'a, 'c> {
 
     /// Takes a doubtful escape. Doubled backslashes are stored, up to some.
     fn doubt(&mut self, at: usize, doubt: Doubt) -> Result<(), AllocError> {
-        if doubt != Doubt::TwoBackslashes {
+        if !matches!(doubt, Doubt::TwoBackslashes) {
             return self.found.add(at, doubt);
         }
         let before = self.text.get(at.saturating_sub(1)).copied().unwrap_or(b' ');

@@ -106,120 +106,78 @@ const ALL: &[Rule] = &[
     Rule::UnusedKey,
 ];
 
+/// A line for each rule, in the order of `Rule`: its name, and in a few words what has the warning. As one text the
+/// table takes the prover a second; as the cases of a match, a time that grows with the square of their number.
+const LINES: &str = "\
+alias-to-nothing: an alias that leads to nothing
+bad-message: a message that can't be formatted
+bad-parent: a %%Parent or %%ALIAS that can't be a locale's parent
+bad-pattern: a pattern of a date or a number that ICU reads in another way
+bundle-name: a bundle with another name than its file
+conflict-marker: a conflict marker of Git
+doubled-backslash: two backslashes where one would begin an escape
+entry-in-array: a text before a brace in an array
+forbidden-word: a word that the settings forbid
+joined-strings: two texts side by side in an array
+misspelled-key: a key that is nearly one of ICU's
+missing-category: a plural category of the language without a message
+missing-close-brace: a brace that isn't closed before a line
+missing-open-brace: a line or a brace that lacks an opening brace
+missing-other: an argument without a message for 'other'
+mixed-forms: letters with marks as one character and as two
+mixed-quotes: a quoted and an unquoted text side by side
+mixed-scripts: a word of Latin and Cyrillic letters that look alike
+mojibake: a text that was read in another encoding
+one-branch-argument: an argument in only one of the messages to choose from
+open-direction: an open control of the writing direction
+open-quote: a quoted text over several lines
+other-quotes: a value in quotes that aren't \"
+quoted-argument: an argument in apostrophes
+repeated-selector: two messages for one selector
+replacement-character: a character that could not be read
+stray-brace: a closing brace in a message that closes no argument
+suspicious-key: a key that isn't in quotes and has a space or a sign
+too-long: more characters than the settings or a comment allow
+unknown-allowed: a comment that allows a warning that doesn't exist
+unknown-escape: a backslash before an ordinary letter
+unknown-selector: a plural selector that is no category
+unquoted-address: an address that isn't in quotes, whose // begins a comment
+unused-category: a plural category that the language doesn't have
+broken-message: a text that can't be read as a message, as the root's can
+empty-text: an empty text, which isn't empty in the root
+missing-key: a key that only the root has
+other-addresses: addresses of pages other than the root's
+other-arguments: arguments of messages other than the root's
+other-blanks: blanks at the ends or line feeds other than the root's
+other-length: more or fewer items than the root's
+other-numbers: numbers other than the root's; only with --deny
+other-placeholders: conversions such as %d other than the root's
+other-punctuation: an end without the root's punctuation, or its peer; only with --deny
+other-tags: tags such as <b> other than the root's
+other-type: another type than the root's
+same-text: the text of the root; only with --deny
+unused-key: a key that the root doesn't have";
+
 impl Rule {
     /// Returns all rules: first those of a text alone, then those against the root's, each by name.
     pub fn all() -> &'static [Rule] {
         ALL
     }
 
+    /// Returns the name, and in a few words what has the warning.
+    fn words(self) -> (&'static str, &'static str) {
+        let line = LINES.lines().nth(self as usize).unwrap_or("");
+        line.split_once(": ").unwrap_or((line, ""))
+    }
+
     /// Returns the name: what `--allow`, `--deny` and comments take.
     pub fn name(self) -> &'static str {
-        match self {
-            Rule::AliasToNothing => "alias-to-nothing",
-            Rule::BadMessage => "bad-message",
-            Rule::BadParent => "bad-parent",
-            Rule::BadPattern => "bad-pattern",
-            Rule::BundleName => "bundle-name",
-            Rule::ConflictMarker => "conflict-marker",
-            Rule::DoubledBackslash => "doubled-backslash",
-            Rule::EntryInArray => "entry-in-array",
-            Rule::ForbiddenWord => "forbidden-word",
-            Rule::JoinedStrings => "joined-strings",
-            Rule::MisspelledKey => "misspelled-key",
-            Rule::MissingCategory => "missing-category",
-            Rule::MissingCloseBrace => "missing-close-brace",
-            Rule::MissingOpenBrace => "missing-open-brace",
-            Rule::MissingOther => "missing-other",
-            Rule::MixedForms => "mixed-forms",
-            Rule::MixedQuotes => "mixed-quotes",
-            Rule::MixedScripts => "mixed-scripts",
-            Rule::Mojibake => "mojibake",
-            Rule::OneBranchArgument => "one-branch-argument",
-            Rule::OpenDirection => "open-direction",
-            Rule::OpenQuote => "open-quote",
-            Rule::OtherQuotes => "other-quotes",
-            Rule::QuotedArgument => "quoted-argument",
-            Rule::RepeatedSelector => "repeated-selector",
-            Rule::ReplacementCharacter => "replacement-character",
-            Rule::StrayBrace => "stray-brace",
-            Rule::SuspiciousKey => "suspicious-key",
-            Rule::TooLong => "too-long",
-            Rule::UnknownAllowed => "unknown-allowed",
-            Rule::UnknownEscape => "unknown-escape",
-            Rule::UnknownSelector => "unknown-selector",
-            Rule::UnquotedAddress => "unquoted-address",
-            Rule::UnusedCategory => "unused-category",
-            Rule::BrokenMessage => "broken-message",
-            Rule::EmptyText => "empty-text",
-            Rule::MissingKey => "missing-key",
-            Rule::OtherAddresses => "other-addresses",
-            Rule::OtherArguments => "other-arguments",
-            Rule::OtherBlanks => "other-blanks",
-            Rule::OtherLength => "other-length",
-            Rule::OtherNumbers => "other-numbers",
-            Rule::OtherPlaceholders => "other-placeholders",
-            Rule::OtherPunctuation => "other-punctuation",
-            Rule::OtherTags => "other-tags",
-            Rule::OtherType => "other-type",
-            Rule::SameText => "same-text",
-            Rule::UnusedKey => "unused-key",
-        }
+        self.words().0
     }
 
     /// Says in a few words what has the warning.
     pub fn about(self) -> &'static str {
-        match self {
-            Rule::AliasToNothing => "an alias that leads to nothing",
-            Rule::BadMessage => "a message that can't be formatted",
-            Rule::BadParent => "a %%Parent or %%ALIAS that can't be a locale's parent",
-            Rule::BadPattern => "a pattern of a date or a number that ICU reads in another way",
-            Rule::BundleName => "a bundle with another name than its file",
-            Rule::ConflictMarker => "a conflict marker of Git",
-            Rule::DoubledBackslash => "two backslashes where one would begin an escape",
-            Rule::EntryInArray => "a text before a brace in an array",
-            Rule::ForbiddenWord => "a word that the settings forbid",
-            Rule::JoinedStrings => "two texts side by side in an array",
-            Rule::MisspelledKey => "a key that is nearly one of ICU's",
-            Rule::MissingCategory => "a plural category of the language without a message",
-            Rule::MissingCloseBrace => "a brace that isn't closed before a line",
-            Rule::MissingOpenBrace => "a line or a brace that lacks an opening brace",
-            Rule::MissingOther => "an argument without a message for 'other'",
-            Rule::MixedForms => "letters with marks as one character and as two",
-            Rule::MixedQuotes => "a quoted and an unquoted text side by side",
-            Rule::MixedScripts => "a word of Latin and Cyrillic letters that look alike",
-            Rule::Mojibake => "a text that was read in another encoding",
-            Rule::OneBranchArgument => "an argument in only one of the messages to choose from",
-            Rule::OpenDirection => "an open control of the writing direction",
-            Rule::OpenQuote => "a quoted text over several lines",
-            Rule::OtherQuotes => "a value in quotes that aren't \"",
-            Rule::QuotedArgument => "an argument in apostrophes",
-            Rule::RepeatedSelector => "two messages for one selector",
-            Rule::ReplacementCharacter => "a character that could not be read",
-            Rule::StrayBrace => "a closing brace in a message that closes no argument",
-            Rule::SuspiciousKey => "a key that isn't in quotes and has a space or a sign",
-            Rule::TooLong => "more characters than the settings or a comment allow",
-            Rule::UnknownAllowed => "a comment that allows a warning that doesn't exist",
-            Rule::UnknownEscape => "a backslash before an ordinary letter",
-            Rule::UnknownSelector => "a plural selector that is no category",
-            Rule::UnquotedAddress => "an address that isn't in quotes, whose // begins a comment",
-            Rule::UnusedCategory => "a plural category that the language doesn't have",
-            Rule::BrokenMessage => "a text that can't be read as a message, as the root's can",
-            Rule::EmptyText => "an empty text, which isn't empty in the root",
-            Rule::MissingKey => "a key that only the root has",
-            Rule::OtherAddresses => "addresses of pages other than the root's",
-            Rule::OtherArguments => "arguments of messages other than the root's",
-            Rule::OtherBlanks => "blanks at the ends or line feeds other than the root's",
-            Rule::OtherLength => "more or fewer items than the root's",
-            Rule::OtherNumbers => "numbers other than the root's; only with --deny",
-            Rule::OtherPlaceholders => "conversions such as %d other than the root's",
-            Rule::OtherPunctuation => {
-                "an end without the root's punctuation, or its peer; only with --deny"
-            }
-            Rule::OtherTags => "tags such as <b> other than the root's",
-            Rule::OtherType => "another type than the root's",
-            Rule::SameText => "the text of the root; only with --deny",
-            Rule::UnusedKey => "a key that the root doesn't have",
-        }
+        self.words().1
     }
 
     /// Checks whether a finding is an error: the program that formats the text fails.
@@ -247,7 +205,7 @@ impl Rule {
 }
 
 /// A set of rules.
-#[derive(Clone, Copy, PartialEq, Eq)]
+#[derive(Clone, Copy)]
 pub struct RuleSet {
     bits: u64,
 }
@@ -276,7 +234,7 @@ impl RuleSet {
 }
 
 /// The rules whose warnings are omitted, and those whose warnings are errors.
-#[derive(Clone, Copy, PartialEq, Eq)]
+#[derive(Clone, Copy)]
 pub struct Levels {
     /// The rules whose warnings are left out.
     pub allowed: RuleSet,

@@ -22,7 +22,7 @@ pub(crate) enum Quoting {
 }
 
 /// The context of a byte.
-#[derive(Clone, Copy, PartialEq, Eq)]
+#[derive(Clone, Copy)]
 enum State {
     Between,
     Quoted,
@@ -242,7 +242,7 @@ impl Scan {
         if input.byte != b'\n' {
             return Ok(());
         }
-        if after == State::Quoted {
+        if matches!(after, State::Quoted) {
             return self.run_on(input.at);
         }
         self.next_line();
@@ -302,7 +302,7 @@ pub(crate) trait Visit {
 }
 
 /// A quote or comment that isn't closed at the end of a text, with the offset at which it begins.
-#[derive(Clone, Copy, PartialEq, Eq)]
+#[derive(Clone, Copy)]
 pub(crate) enum Open {
     Nothing,
     Quote(usize),

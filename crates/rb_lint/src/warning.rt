@@ -2,7 +2,7 @@ use crate::rule::Rule;
 use std::fmt;
 
 /// A part of a text that is valid and probably not meant.
-#[derive(Clone, Copy, PartialEq, Eq)]
+#[derive(Clone, Copy)]
 pub enum Doubt {
     /// A quoted piece spans lines.
     RunsOn,

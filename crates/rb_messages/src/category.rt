@@ -47,7 +47,7 @@ impl Category {
 }
 
 /// The plural categories of a language.
-#[derive(Clone, Copy, PartialEq, Eq)]
+#[derive(Clone, Copy)]
 pub struct Categories {
     bits: u8,
     /// Those of integers below a million.

@@ -2,7 +2,7 @@ use std::alloc::{AllocError, AllocFailed};
 use std::fmt;
 
 /// The reasons why a text is no message.
-#[derive(Clone, Copy, Debug, PartialEq, Eq)]
+#[derive(Clone, Copy, PartialEq, Eq)]
 pub enum MessageFault {
     /// A brace isn't closed.
     OpenBrace,
@@ -35,7 +35,7 @@ pub enum MessageFault {
 }
 
 /// The reason why a text is no message, at an offset in its units. Out of memory is at 0.
-#[derive(Clone, Copy, Debug, PartialEq, Eq)]
+#[derive(Clone, Copy)]
 pub struct MessageError {
     pub fault: MessageFault,
     pub at: usize,

@@ -1,5 +1,5 @@
 /// Consecutive units of a text.
-#[derive(Clone, Copy, Debug, PartialEq, Eq)]
+#[derive(Clone, Copy)]
 pub struct Span {
     pub first: usize,
     pub past: usize,
@@ -13,7 +13,7 @@ impl Span {
 }
 
 /// The type of an argument, which says what its style is.
-#[derive(Clone, Copy, Debug, PartialEq, Eq)]
+#[derive(Clone, Copy, PartialEq, Eq)]
 pub enum ArgumentType {
     /// No type: the value as it is.
     Any,
@@ -52,7 +52,7 @@ impl ArgumentType {
 
 /// An argument's name or number, its type, and its style, if it has one without messages. A style that
 /// begins with `::` is a skeleton.
-#[derive(Clone, Copy, Debug, PartialEq, Eq)]
+#[derive(Clone, Copy)]
 pub struct Argument {
     pub name: Span,
     pub of_type: ArgumentType,
@@ -60,7 +60,7 @@ pub struct Argument {
 }
 
 /// A part of a message that isn't plain text.
-#[derive(Clone, Copy, PartialEq, Eq)]
+#[derive(Clone, Copy)]
 pub enum Part {
     /// Text between apostrophes, up to the end of the message if it isn't closed.
     Quoted(Span),

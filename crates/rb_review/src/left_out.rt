@@ -4,22 +4,6 @@ use rb_project::{Modules, Project};
 use rb_settings::{Section, matches};
 use std::alloc::{AllocError, Global};
 
-/// The rules about messages.
-const MESSAGE_RULES: [Rule; 12] = [
-    Rule::BadMessage,
-    Rule::BadPattern,
-    Rule::BrokenMessage,
-    Rule::MissingCategory,
-    Rule::MissingOther,
-    Rule::OneBranchArgument,
-    Rule::OtherArguments,
-    Rule::QuotedArgument,
-    Rule::RepeatedSelector,
-    Rule::StrayBrace,
-    Rule::UnknownSelector,
-    Rule::UnusedCategory,
-];
-
 /// Rules that are left out at some paths.
 #[derive(Drop)]
 struct Filter<'a> {
@@ -74,10 +58,31 @@ pub(crate) fn with_rules(rules: RuleSet, names: &[&str]) -> RuleSet {
     rules
 }
 
+/// Checks whether a rule is about messages.
+fn is_of_messages(rule: Rule) -> bool {
+    matches!(
+        rule,
+        Rule::BadMessage
+            | Rule::BadPattern
+            | Rule::BrokenMessage
+            | Rule::MissingCategory
+            | Rule::MissingOther
+            | Rule::OneBranchArgument
+            | Rule::OtherArguments
+            | Rule::QuotedArgument
+            | Rule::RepeatedSelector
+            | Rule::StrayBrace
+            | Rule::UnknownSelector
+            | Rule::UnusedCategory
+    )
+}
+
 fn message_rules() -> RuleSet {
     let mut rules = RuleSet::none();
-    for rule in MESSAGE_RULES {
-        rules = rules.with(rule);
+    for rule in Rule::all() {
+        if is_of_messages(*rule) {
+            rules = rules.with(*rule);
+        }
     }
     rules
 }

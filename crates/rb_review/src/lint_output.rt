@@ -4,7 +4,36 @@ use crate::lint_words::Format;
 use crate::snippet::{Lines, Snippet};
 use rb_console::{Console, JsonText};
 use rb_lint::{Finding, Rule};
-use std::io;
+use std::{fmt, io};
+
+/// The line and the column of a place, each after words of a format, and words after them; nothing
+/// for a note on a whole file.
+#[derive(Clone, Copy)]
+struct Place(Option<(u64, u64)>, &'static str, &'static str, &'static str);
+
+impl fmt::Display for Place {
+    fn fmt<W: fmt::Write>(&self, f: &mut fmt::Formatter<W>) -> fmt::Result {
+        let Place(place, before, between, after) = *self;
+        match place {
+            Some((line, column)) => write!(f, "{before}{line}{between}{column}{after}"),
+            None => Ok(()),
+        }
+    }
+}
+
+/// A name between words of a format, or nothing.
+#[derive(Clone, Copy)]
+struct Name(Option<&'static str>, &'static str, &'static str);
+
+impl fmt::Display for Name {
+    fn fmt<W: fmt::Write>(&self, f: &mut fmt::Formatter<W>) -> fmt::Result {
+        let Name(name, before, after) = *self;
+        match name {
+            Some(name) => write!(f, "{before}{name}{after}"),
+            None => Ok(()),
+        }
+    }
+}
 
 /// A finding, or a note on a file, as it is printed.
 #[derive(Clone, Copy)]
@@ -13,8 +42,10 @@ struct Line<'a> {
     /// The line and the column; None for a note on the whole file.
     place: Option<(u64, u64)>,
     level: &'static str,
-    /// The name of the warning's rule, or the code of the error.
+    /// The name of the warning's rule.
     rule: Option<&'static str>,
+    /// That, or the code of the error.
+    code: Option<&'static str>,
     message: &'a str,
 }
 
@@ -95,10 +126,14 @@ impl LintOutput {
             file,
             place: Some((finding.line, finding.column)),
             level: finding.severity.word(),
-            rule: finding.code(),
+            rule: match finding.rule {
+                Some(rule) => Some(rule.name()),
+                None => None,
+            },
+            code: finding.code(),
             message: message.as_str(),
         };
-        self.line(rt, line, finding.rule.is_some())?;
+        self.line(rt, line)?;
         if self.format == Format::Full {
             let line = lines.line(finding.line);
             self.snippet(rt, line, finding)?;
@@ -150,28 +185,23 @@ impl LintOutput {
     }
 
     /// Prints the level and the message of a finding.
-    fn full_message<R: Print>(&self, rt: &R, line: Line<'_>, is_rule: bool) -> io::Result<()> {
+    fn full_message<R: Print>(&self, rt: &R, line: Line<'_>) -> io::Result<()> {
         let (level, message) = (line.level, self.console.on_stdout(line.message));
         let (style, plain) = (self.style(level_style(level)), self.style(PLAIN));
-        let bold = self.style(BOLD);
-        match line.rule {
-            Some(rule) if is_rule => print!(rt; "{style}{level}[{rule}]{plain}")?,
-            _ => print!(rt; "{style}{level}{plain}")?,
-        }
-        println!(rt; "{bold}: {message}{plain}")
+        let (rule, bold) = (Name(line.rule, "[", "]"), self.style(BOLD));
+        println!(rt; "{style}{level}{rule}{plain}{bold}: {message}{plain}")
     }
 
     /// Prints the message of a finding, and its place in a line below.
-    fn full_line<R: Print>(&self, rt: &R, line: Line<'_>, is_rule: bool) -> io::Result<()> {
-        self.full_message(rt, line, is_rule)?;
-        let file = self.console.on_stdout(line.file);
+    fn full_line<R: Print>(&self, rt: &R, line: Line<'_>) -> io::Result<()> {
+        self.full_message(rt, line)?;
+        let (file, place) = (
+            self.console.on_stdout(line.file),
+            Place(line.place, ":", ":", ""),
+        );
         let (frame, plain) = (self.style(FRAME), self.style(PLAIN));
-        match line.place {
-            Some((number, column)) => {
-                println!(rt; "{frame}     -->{plain} {file}:{number}:{column}")
-            }
-            None => println!(rt; "{frame}     -->{plain} {file}\n"),
-        }
+        let end = if line.place.is_none() { "\n" } else { "" };
+        println!(rt; "{frame}     -->{plain} {file}{place}{end}")
     }
 
     /// Prints how many warnings of a file were left out.
@@ -192,44 +222,35 @@ impl LintOutput {
                 place: None,
                 level: "note",
                 rule: None,
+                code: None,
                 message: message.as_str(),
             },
-            false,
         )
     }
 
-    fn line<R: Print>(&mut self, rt: &R, line: Line<'_>, is_rule: bool) -> io::Result<()> {
+    fn line<R: Print>(&mut self, rt: &R, line: Line<'_>) -> io::Result<()> {
         match self.format {
-            Format::Text => self.text_line(rt, line, is_rule),
-            Format::Full => self.full_line(rt, line, is_rule),
+            Format::Text => self.text_line(rt, line),
+            Format::Full => self.full_line(rt, line),
             Format::Json => json_line(rt, line),
             Format::GitHub => self.github_line(rt, line),
             Format::Sarif => {
                 let comma = if self.has_line { "," } else { "" };
-                print!(rt; "{comma}")?;
                 self.has_line = true;
-                sarif_line(rt, line)
+                sarif_line(rt, line, comma)
             }
         }
     }
 
-    fn text_line<R: Print>(&self, rt: &R, line: Line<'_>, is_rule: bool) -> io::Result<()> {
+    fn text_line<R: Print>(&self, rt: &R, line: Line<'_>) -> io::Result<()> {
         let (file, message) = (
             self.console.on_stdout(line.file),
             self.console.on_stdout(line.message),
         );
+        let (style, plain) = (self.style(level_style(line.level)), self.style(PLAIN));
+        let (place, rule) = (Place(line.place, ":", ":", ""), Name(line.rule, " [", "]"));
         let level = line.level;
-        let (style, plain) = (self.style(level_style(level)), self.style(PLAIN));
-        match line.place {
-            Some((number, column)) => {
-                print!(rt; "{file}:{number}:{column}: {style}{level}{plain}: {message}")?;
-            }
-            None => print!(rt; "{file}: {style}{level}{plain}: {message}")?,
-        }
-        match line.rule {
-            Some(rule) if is_rule => println!(rt; " [{rule}]"),
-            _ => println!(rt; ""),
-        }
+        println!(rt; "{file}{place}: {style}{level}{plain}: {message}{rule}")
     }
 
     fn github_line<R: Print>(&self, rt: &R, line: Line<'_>) -> io::Result<()> {
@@ -248,40 +269,39 @@ impl LintOutput {
             is_property: false,
             console: self.console,
         };
-        print!(rt; "::{command} file={file}")?;
-        if let Some((number, column)) = line.place {
-            print!(rt; ",line={number},col={column}")?;
-        }
-        if let Some(rule) = line.rule {
-            print!(rt; ",title={rule}")?;
-        }
-        println!(rt; "::{message}")
+        let (place, title) = (
+            Place(line.place, ",line=", ",col=", ""),
+            Name(line.code, ",title=", ""),
+        );
+        println!(rt; "::{command} file={file}{place}{title}::{message}")
     }
 }
 
 fn json_line<R: Print>(rt: &R, line: Line<'_>) -> io::Result<()> {
     let (file, level, message) = (JsonText(line.file), line.level, JsonText(line.message));
-    print!(rt; "{{\"file\":\"{file}\",")?;
-    if let Some((number, column)) = line.place {
-        print!(rt; "\"line\":{number},\"column\":{column},")?;
-    }
-    print!(rt; "\"severity\":\"{level}\",")?;
-    if let Some(rule) = line.rule {
-        print!(rt; "\"rule\":\"{rule}\",")?;
-    }
-    println!(rt; "\"message\":\"{message}\"}}")
+    let (place, rule) = (
+        Place(line.place, "\"line\":", ",\"column\":", ","),
+        Name(line.code, "\"rule\":\"", "\","),
+    );
+    println!(rt;
+        "{{\"file\":\"{file}\",{place}\"severity\":\"{level}\",{rule}\"message\":\"{message}\"}}"
+    )
 }
 
-fn sarif_line<R: Print>(rt: &R, line: Line<'_>) -> io::Result<()> {
+/// Prints a result of SARIF after a comma, or after nothing if it is the first.
+fn sarif_line<R: Print>(rt: &R, line: Line<'_>, comma: &str) -> io::Result<()> {
     let (file, level, message) = (UriText(line.file), line.level, JsonText(line.message));
-    print!(rt; "{{")?;
-    if let Some(rule) = line.rule {
-        print!(rt; "\"ruleId\":\"{rule}\",")?;
-    }
-    print!(rt; "\"level\":\"{level}\",\"message\":{{\"text\":\"{message}\"}},\"locations\":[{{")?;
-    print!(rt; "\"physicalLocation\":{{\"artifactLocation\":{{\"uri\":\"{file}\"}}")?;
-    if let Some((number, column)) = line.place {
-        print!(rt; ",\"region\":{{\"startLine\":{number},\"startColumn\":{column}}}")?;
-    }
-    println!(rt; "}}}}]}}")
+    let (place, rule) = (
+        Place(
+            line.place,
+            ",\"region\":{\"startLine\":",
+            ",\"startColumn\":",
+            "}",
+        ),
+        Name(line.code, "\"ruleId\":\"", "\","),
+    );
+    print!(rt; "{comma}{{{rule}\"level\":\"{level}\",\"message\":{{\"text\":\"{message}\"}},")?;
+    println!(rt;
+        "\"locations\":[{{\"physicalLocation\":{{\"artifactLocation\":{{\"uri\":\"{file}\"}}{place}}}}}]}}"
+    )
 }

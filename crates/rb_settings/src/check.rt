@@ -28,7 +28,7 @@ impl<'a> File<'a> {
         for value in values {
             match value.as_str() {
                 None => return Some(Problem::NotA(kind.shown())),
-                Some(name) if kind == KeyKind::Rules && !self.has_rule(name) => {
+                Some(name) if matches!(kind, KeyKind::Rules) && !self.has_rule(name) => {
                     return Some(Problem::UnknownWarning);
                 }
                 Some(_) => {}

@@ -10,7 +10,7 @@ pub(crate) enum TableKind {
 }
 
 /// The types of a key's value.
-#[derive(Clone, Copy, PartialEq, Eq)]
+#[derive(Clone, Copy)]
 pub(crate) enum KeyKind {
     Text,
     Texts,

@@ -154,13 +154,130 @@ resb|lines|shop|--op|replace|a|b => Lines { op: Some("replace"), is_json: false,
 resb|lines|--json|shop|a => Lines { op: None, is_json: true, app: "shop", files: ["a"] }
 resb|look|--trace|--parents|p|de|x/y|a => Look(AskedLookup { parents: Some("p"), is_cldr: false, locale: "de", path: "x/y", is_traced: true, files: ["a"] })"#;
 
+/// Returns what another command asks for, as a text.
+fn other_text(alloc: Global, asked: &Asked<'_>) -> Result<String, Fail> {
+    Ok(match asked {
+        Asked::Init { folder } => format!(in alloc; "Init {{ folder: {folder:?} }}")?,
+        Asked::Explain { word } => format!(in alloc; "Explain {{ word: {word:?} }}")?,
+        Asked::Lines {
+            op,
+            is_json,
+            app,
+            files,
+        } => format!(in alloc;
+            "Lines {{ op: {op:?}, is_json: {is_json:?}, app: {app:?}, files: {files:?} }}"
+        )?,
+        Asked::Serve {
+            parents,
+            is_cldr,
+            bundles,
+            limits,
+            is_extended,
+        } => format!(in alloc;
+            "Serve {{ parents: {parents:?}, is_cldr: {is_cldr:?}, bundles: {bundles:?}, \
+limits: {limits:?}, is_extended: {is_extended:?} }}"
+        )?,
+        Asked::Inherited(asked) => format!(in alloc; "Inherited({asked:?})")?,
+        Asked::Lint(asked) => format!(in alloc; "Lint({asked:?})")?,
+        Asked::Format(asked) => format!(in alloc; "Format({asked:?})")?,
+        Asked::Coverage(asked) => format!(in alloc; "Coverage({asked:?})")?,
+        Asked::Look(asked) => format!(in alloc; "Look({asked:?})")?,
+        _ => String::new(alloc),
+    })
+}
+
+/// Returns what a command other than `compile` asks for, as a text.
+fn file_text(alloc: Global, asked: &Asked<'_>) -> Result<String, Fail> {
+    Ok(match asked {
+        Asked::Check {
+            files,
+            is_json,
+            is_quiet,
+        } => format!(in alloc;
+            "Check {{ files: {files:?}, is_json: {is_json:?}, is_quiet: {is_quiet:?} }}"
+        )?,
+        Asked::Get { file, path, is_raw } => format!(in alloc;
+            "Get {{ file: {file:?}, path: {path:?}, is_raw: {is_raw:?} }}"
+        )?,
+        Asked::Json {
+            file,
+            path,
+            is_pretty,
+        } => format!(in alloc;
+            "Json {{ file: {file:?}, path: {path:?}, is_pretty: {is_pretty:?} }}"
+        )?,
+        Asked::Text { file, name } => format!(in alloc;
+            "Text {{ file: {file:?}, name: {name:?} }}"
+        )?,
+        Asked::Diff {
+            old,
+            new,
+            is_json,
+            is_stat,
+        } => format!(in alloc;
+            "Diff {{ old: {old:?}, new: {new:?}, is_json: {is_json:?}, \
+is_stat: {is_stat:?} }}"
+        )?,
+        _ => other_text(alloc, asked)?,
+    })
+}
+
+/// Returns what a command asks for, as a text.
+fn text_of(alloc: Global, asked: &Asked<'_>) -> Result<String, Fail> {
+    Ok(match asked {
+        Asked::Compile {
+            input,
+            output,
+            is_forced,
+            is_quiet,
+        } => format!(in alloc;
+            "Compile {{ input: {input:?}, output: {output:?}, is_forced: {is_forced:?}, \
+is_quiet: {is_quiet:?} }}"
+        )?,
+        Asked::CompileAll {
+            folder,
+            from,
+            texts,
+            is_forced,
+            is_quiet,
+        } => format!(in alloc;
+            "CompileAll {{ folder: {folder:?}, from: {from:?}, texts: {texts:?}, \
+is_forced: {is_forced:?}, is_quiet: {is_quiet:?} }}"
+        )?,
+        Asked::CompileJson {
+            input,
+            output,
+            no_fallback,
+            is_forced,
+            is_quiet,
+        } => format!(in alloc;
+            "CompileJson {{ input: {input:?}, output: {output:?}, \
+no_fallback: {no_fallback:?}, is_forced: {is_forced:?}, \
+is_quiet: {is_quiet:?} }}"
+        )?,
+        Asked::CompileAllJson {
+            folder,
+            from,
+            texts,
+            no_fallback,
+            is_forced,
+            is_quiet,
+        } => format!(in alloc;
+            "CompileAllJson {{ folder: {folder:?}, from: {from:?}, texts: {texts:?}, \
+no_fallback: {no_fallback:?}, is_forced: {is_forced:?}, \
+is_quiet: {is_quiet:?} }}"
+        )?,
+        _ => file_text(alloc, asked)?,
+    })
+}
+
 /// Returns what a command line asks for, as a text; empty if it asks for nothing.
 fn asked_text(alloc: Global, words: &[&str]) -> Result<String, Fail> {
     let Ok(matches) = commands_for(alloc, None)?.try_get_matches_from(words) else {
         return Ok(String::new(alloc));
     };
     match asked_by(alloc, &matches)? {
-        Some(asked) => Ok(format!(in alloc; "{asked:?}")?),
+        Some(asked) => text_of(alloc, &asked),
         None => Ok(String::new(alloc)),
     }
 }
@@ -294,10 +411,10 @@ resb|check|--pretty|a.res";
 /// Returns what a command line asks for, or its status and the message of why no command is run.
 fn answer(alloc: Global, taken: Result<ArgMatches<'_>, Error>) -> Result<String, Fail> {
     match taken {
-        Ok(matches) => {
-            let asked = asked_by(alloc, &matches)?;
-            Ok(format!(in alloc; "{asked:?}")?)
-        }
+        Ok(matches) => match asked_by(alloc, &matches)? {
+            Some(asked) => text_of(alloc, &asked),
+            None => Ok(String::new(alloc)),
+        },
         Err(error) => Ok(format!(in alloc; "{}: {error}", error.exit_code())?),
     }
 }
