@@ -13,27 +13,25 @@ import sys
 import tempfile
 import time
 
+import hostile
 from measuring import MB, RUNS, Case, Goal, seconds
 from support import icu, texts
 from support.measured import measured
-from support.program import TOP, Skipped
+from support.program import TOP, Resb, Skipped
 from support.server import SETTINGS, Server, line_of
 
 
-class Bench:
+class Bench(Resb):
     """The program, a folder, the folder of a built library, and the package of ICU's data, which is made when it is first asked for."""
 
     def __init__(self, program, folder, package=None, library=None):
-        self.program, self.folder, self.named, self.library = program, pathlib.Path(folder), package, library and pathlib.Path(library).resolve()
+        super().__init__(program, pathlib.Path(folder))
+        self.named, self.library = package, library and pathlib.Path(library).resolve()
 
     def put(self, name, data):
-        path = self.folder / name
-        path.parent.mkdir(parents=True, exist_ok=True)
-        path.write_bytes(data if isinstance(data, bytes) else data.encode())
-        return path
+        return self.folder / super().put(name, data)
 
     def compiled(self, name, text):
-        """Returns the path of the file of a bundle text."""
         source, made = self.put(f"{name}/root.txt", text), self.folder / name / "root.res"
         subprocess.run([self.program, "compile", "-q", source, made], check=True)
         return made
@@ -77,7 +75,6 @@ COMPILE_GOALS = {"nested text of 8 MB": [Goal("time", 0.3), Goal("memory", 0.6)]
 
 
 def check_speed(bench, compiling, output):
-    """Returns the MB a second of a check of what a command compiles."""
     if not output.exists():
         seconds(compiling)
     return os.path.getsize(output) / MB / max(seconds([bench.program, "check", output]), 1e-3)
@@ -88,9 +85,8 @@ def compile_case(bench, name, sources, output, goals):
     genrb = shutil.which("genrb")
     ours = [[bench.program, "compile", "-q", source, output] for source in sources]
     theirs = [[genrb, "--formatVersion", "1", "-q", "-e", "UTF-8", "-d", bench.folder, source] for source in sources]
-    memory = [ours[-1], theirs[-1]] if genrb else [ours[-1]]
-    return Case("compile", name, lambda: measured(*ours).seconds, genrb and (lambda: measured(*theirs).seconds), "genrb", goals=goals, memory=memory,
-                size=sum(map(os.path.getsize, sources)))
+    return Case("compile", name, lambda: measured(*ours).seconds, genrb and (lambda: measured(*theirs).seconds), "genrb", goals=goals,
+                memory=[ours[-1], *[theirs[-1]] * bool(genrb)], size=sum(map(os.path.getsize, sources)))
 
 
 def compile_cases(bench):
@@ -141,10 +137,6 @@ def binaries(size):
 PRINTED = {"strings": strings, "keys": lambda size: texts.keys(size // 33), "numbers": numbers, "binaries": binaries, "nested": lambda size: texts.nested(size * 3 // 8)}
 
 
-def derb_words(file):
-    return ["derb", "-A", "-c", "-s", file.parent, file.stem]
-
-
 def print_cases(bench, size=8_000_000):
     """`resb text` and `resb json` beside `derb`. Goals: 60 MB of output a second, and five times derb's speed."""
     derb = shutil.which("derb")
@@ -153,9 +145,9 @@ def print_cases(bench, size=8_000_000):
         for command in ("text", "json"):
             words = [bench.program, command, file]
             length = len(subprocess.run(words, check=True, stdout=subprocess.PIPE).stdout)
-            most = max((file.stat().st_size + 2 * length) / MB, 10)
-            yield Case("print", f"{command} of {name}, {length / MB:.2f} MB", lambda words=words: seconds(words), derb and (lambda file=file: seconds([derb, *derb_words(file)[1:]])),
-                       "derb", goals=[Goal("seconds", length / MB / 60), Goal("speed", 5, True), Goal("MB", most)], memory=[words], size=length)
+            goals = [Goal("seconds", length / MB / 60), Goal("speed", 5, True), Goal("MB", max((file.stat().st_size + 2 * length) / MB, 10))]
+            yield Case("print", f"{command} of {name}, {length / MB:.2f} MB", lambda words=words: seconds(words),
+                       derb and (lambda file=file: seconds([derb, "-A", "-c", "-s", file.parent, file.stem])), "derb", goals=goals, memory=[words], size=length)
 
 
 def groups(count):
@@ -166,7 +158,6 @@ def groups(count):
 
 
 def speed_case(bench, table, name, path, words, bound, runs=7):
-    """Returns a case of the MB a second of a command over a file."""
     size = os.path.getsize(path)
     return Case(table, name, lambda: size / MB / seconds([bench.program, *words]), unit="MB/s", goals=[Goal("MB/s", bound, True)], size=size, runs=runs)
 
@@ -221,11 +212,7 @@ def ahead_case(bench, name, setup, asked, goals=()):
     """The microseconds of a lookup, where all lines are written ahead: the time of all lines less that of the installs."""
     before, whole = bench.put("setup", setup), bench.put("whole", setup + asked)
     words = [bench.program, "serve"]
-
-    def used():
-        return (seconds(words, whole) - seconds(words, before)) / LOOKS * 1e6
-
-    return Case("serve", name, used, unit="microseconds", goals=goals)
+    return Case("serve", name, lambda: (seconds(words, whole) - seconds(words, before)) / LOOKS * 1e6, unit="microseconds", goals=goals)
 
 
 class Asked(Server):
@@ -240,22 +227,15 @@ class Asked(Server):
         self.send(asked)
         self.await_replies(count)
 
-    def ahead(self, asked):
-        """Returns microseconds of processor time a line, where all lines are written before the first reply is awaited."""
+    def used(self, parts):
+        """Returns microseconds of processor time a line, where each part, one or more lines, is written when the one before is answered."""
         before = self.microseconds()
-        self.send_all(asked)
-        return (self.microseconds() - before) / asked.count(b"\n")
-
-    def one_by_one(self, wanted):
-        """Returns microseconds of processor time a line, where each line is written when the one before is answered."""
-        before = self.microseconds()
-        for line in wanted:
-            self.send_all(line)
-        return (self.microseconds() - before) / len(wanted)
+        for part in parts:
+            self.send_all(part)
+        return (self.microseconds() - before) / sum(part.count(b"\n") for part in parts)
 
 
 def install_case(bench, name, member, value, size, bound, count=100):
-    """MB of text or of file a second of processor time."""
     path, words = bench.put("installs", lines({"op": "install", **spot(i), member: value} for i in range(count))), [bench.program, "serve"]
     return Case("serve", f"installs of {name}", lambda: count * size / MB / (seconds(words, path) - seconds(words)), unit="MB/s", goals=[Goal("MB/s", bound, True)])
 
@@ -288,11 +268,11 @@ def serve_cases(bench):
         if bundles == 1_000:
             few, wanted = (setup, asked), asked.splitlines(keepends=True)[:LOOKS // 4]
             server = Asked([bench.program, "serve"], setup)
-            yield Case("serve", "a lookup in 1,000 bundles, one by one", lambda server=server: server.one_by_one(wanted), unit="microseconds")
+            yield Case("serve", "a lookup in 1,000 bundles, one by one", lambda server=server: server.used(wanted), unit="microseconds")
             server.end()
     words = ["env", *(f"{name}={value}" for name, value in SETTINGS.items()), bench.program, "serve"]
     one, other = Asked(words, setup), Asked(words, few[0])
-    yield Case("serve", "a lookup in 100,000 bundles, with the settings of bin/resb", lambda: one.ahead(asked), lambda: other.ahead(few[1]), "a server of 1,000",
+    yield Case("serve", "a lookup in 100,000 bundles, with the settings of bin/resb", lambda: one.used([asked]), lambda: other.used([few[1]]), "a server of 1,000",
                "microseconds", [Goal("time", 1.5)], runs=3 * RUNS)
     one.end()
     other.end()
@@ -309,9 +289,9 @@ def text_to_lookup(bench):
     ours = bench.put("install", lines([{"op": "install", "app": "app0", "locale": "root", "text": text}, asked]))
     source, look = bench.put("root.txt", text), bench.put("look", lines([asked]))
     icu.need("genrb")
-    genrb, other = ["genrb", "--formatVersion", "1", "-q", "-d", bench.folder, source], [bench.icu_server, bench.folder]
+    genrb = [shutil.which("genrb"), "--formatVersion", "1", "-q", "-d", bench.folder, source]
     yield Case("serve", "an install of nested text of 8 MB and a lookup", lambda: seconds([bench.program, "serve"], ours),
-               lambda: seconds([shutil.which("genrb"), *genrb[1:]]) + seconds(other, look), "genrb and ures_open", goals=[Goal("time", 0.3)])
+               lambda: seconds(genrb) + seconds([bench.icu_server, bench.folder], look), "genrb and ures_open", goals=[Goal("time", 0.3)])
 
 
 # ---- all of CLDR
@@ -377,11 +357,11 @@ def cldr_cases(bench):
         is_whole = count == len(installs)
         for kind, bound in (("cold", 1.3), ("hot", 2.2)):
             wanted = b"".join(kinds[kind])
-            yield Case("cldr", f"{kind} lookups in {count} bundles", lambda both=both, wanted=wanted: both[0].ahead(wanted),
-                       lambda both=both, wanted=wanted: both[1].ahead(wanted), "the C server", "microseconds", [Goal("speed", bound, True)] if is_whole else ())
+            yield Case("cldr", f"{kind} lookups in {count} bundles", lambda both=both, wanted=wanted: both[0].used([wanted]),
+                       lambda both=both, wanted=wanted: both[1].used([wanted]), "the C server", "microseconds", [Goal("speed", bound, True)] if is_whole else ())
         if is_whole:
             wanted = (asked * (ONE_BY_ONE // len(asked) + 1))[:ONE_BY_ONE]
-            yield Case("cldr", f"one by one lookups in {count} bundles", lambda: both[0].one_by_one(wanted), lambda: both[1].one_by_one(wanted), "the C server",
+            yield Case("cldr", f"one by one lookups in {count} bundles", lambda: both[0].used(wanted), lambda: both[1].used(wanted), "the C server",
                        "microseconds", [Goal("speed", 1.1, True)])
         for one in both:
             one.end()
@@ -389,16 +369,15 @@ def cldr_cases(bench):
 
 
 def extended_cases(bench):
-    """Trees and exports of `resb serve --extended`, over CLDR's texts."""
     sources = [path for path in bench.cldr_texts if icu.is_locale(path.stem)]
     puts = (lines([{"op": "put", "app": "cldr", "locale": path.stem, "text": path.read_text(encoding="utf-8")}]) for path in sources)
     asked = Asked([bench.program, "serve", "--extended"], b"".join(puts), True)
     for locale, goals in (("de_AT", [Goal("ms", 5)]), ("root", [])):
         line = line_of({"op": "tree", "app": "cldr", "locale": locale}) + b"\n"
-        yield Case("cldr", f"a tree of {locale}", lambda line=line: asked.one_by_one([line] * 20) / 1e3, unit="ms", goals=goals)
+        yield Case("cldr", f"a tree of {locale}", lambda line=line: asked.used([line] * 20) / 1e3, unit="ms", goals=goals)
     sizes = json.loads(asked.ask(line_of({"op": "list", "app": "cldr", "sizes": True})))["bundles"]
     exports, size = [lines([{"op": "export", "app": "cldr", "locale": bundle["locale"]}]) for bundle in sizes], sum(bundle["bytes"] for bundle in sizes)
-    yield Case("cldr", "exports of all files", lambda: size / (asked.one_by_one(exports) * len(exports)), unit="MB/s", goals=[Goal("MB/s", 300, True)], size=size)
+    yield Case("cldr", "exports of all files", lambda: size / (asked.used(exports) * len(exports)), unit="MB/s", goals=[Goal("MB/s", 300, True)], size=size)
     asked.end()
 
 
@@ -450,7 +429,6 @@ def instructions(bench, files, part):
 
 
 def library_cases(bench):
-    """The turns of library.c have a figure for each library."""
     if not bench.library:
         raise Skipped("--library names no folder that tools/library made")
     files = icu.files(bench.data, bench.folder)
@@ -494,11 +472,5 @@ def python_cases(bench, files):
         yield Case("library", f"a lookup in Python, {name} in PyICU", lambda: timed(ours), theirs, "PyICU", "microseconds", [Goal("time", 1.2)])
 
 
-def hostile_cases(bench):
-    import hostile
-
-    yield from hostile.cases(bench)
-
-
 TABLES = {"compile": compile_cases, "print": print_cases, "text": text_cases, "serve": serve_cases, "cldr": cldr_cases, "daily": daily_cases,
-          "hostile": hostile_cases, "library": library_cases}
+          "hostile": hostile.cases, "library": library_cases}

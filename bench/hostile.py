@@ -29,15 +29,9 @@ def made(words):
     return made(name)(*(word if isinstance(word, int) else made(word) for word in arguments))
 
 
-def plain_file(bench, size):
-    path = bench.folder / f"plain{size}.res"
-    return path if path.exists() else bench.put(path.name, hostile.plain_table(size))
-
-
 def check_case(bench, name, data, allowed, status=0, is_form=False):
-    """The check of a file beside that of a plain table of its size. A small plain file is measured without the program's start, which takes as long as
-    its check; a form of one size, with it."""
-    plain, made = plain_file(bench, len(data)), bench.put("made.res", data)
+    """The check of a file beside that of a plain table. A small plain file is measured without the program's start, which takes as long; a form, with it."""
+    plain, made = bench.put("plain.res", hostile.plain_table(len(data))), bench.put("made.res", data)
     start = 0 if is_form else min(seconds([bench.program, "--version"]) for _ in range(5))
     goals = [Goal("time", allowed), *[Goal("times", 8)] * (len(data) >= 15 * MB and not is_form)]
     return Case("hostile", f"check of {name}, {len(data) / MB:.2g} MB", lambda: seconds([bench.program, "check", made], status=status),
@@ -46,7 +40,6 @@ def check_case(bench, name, data, allowed, status=0, is_form=False):
 
 
 def text_case(bench, name, make, size, words, allowed, most, status=0):
-    """A command over a text beside plain text of its size."""
     made, plain = bench.put("made/root.txt", make(size)), bench.put("plain/root.txt", hostile.plain_text(size))
     ours, theirs = ([bench.program, *(path if word == "@" else word for word in words)] for path in (made, plain))
     goals = [Goal("time", allowed), *[Goal("times", most)] * (size >= 4 * MB)]

@@ -75,7 +75,6 @@ def ratio(ours: Sequence[float], theirs: Sequence[float]) -> Spread:
 
 
 def seconds(words: Sequence[object], source: object = os.devnull, status: int = 0) -> float:
-    """Returns the processor time of a command, which must end with this status."""
     found = measured(words, source=source)
     if found.status != status:
         raise SystemExit(f"{' '.join(map(str, words))[:200]}: status {found.status}")
@@ -83,7 +82,6 @@ def seconds(words: Sequence[object], source: object = os.devnull, status: int = 
 
 
 def row_of(case: Case) -> dict[str, Any]:
-    """Measures a case: the two alternate, until one run is long."""
     ours: list[float] = []
     theirs: list[float] = []
     while len(ours) < case.runs and (case.unit != "s" or not ours or max(ours) < LONG):
@@ -96,7 +94,6 @@ def row_of(case: Case) -> dict[str, Any]:
 
 
 def reached(row: dict[str, Any], goal: Goal) -> Spread:
-    """Returns the figure that a goal bounds."""
     if goal.of in ("memory", "times", "MB"):
         beside = {"memory": row["MB"][-1], "times": row.get("bytes", 1) / MB, "MB": 1}[goal.of]
         return spread([row["MB"][0] / beside])
@@ -117,7 +114,6 @@ def goals_of(row: dict[str, Any]) -> Iterator[tuple[str, str, Spread, bool]]:
 
 
 def line(row: dict[str, Any]) -> str:
-    """Returns a row as it is printed."""
     said = f"{row['table']}: {row['case']}: {spread(row['ours'])} {row['unit']}"
     if "peer" in row:
         said += f"; {row['of']} {spread(row['peer'])}; over it {ratio(row['ours'], row['peer'])}"
@@ -127,7 +123,6 @@ def line(row: dict[str, Any]) -> str:
 
 
 def measure(cases: Iterable[Case], words: Sequence[str]) -> list[dict[str, Any]]:
-    """Measures the cases whose table or name has one of the words, and prints a line for each."""
     rows = []
     for case in cases:
         if not words or any(word in f"{case.table}: {case.name}" for word in words):
@@ -151,15 +146,10 @@ def versions(program: str) -> dict[str, str]:
 
 def rounded(value: Any) -> Any:
     """Returns figures with six digits that count."""
-    if isinstance(value, float):
-        return float(f"{value:.6g}")
-    if isinstance(value, dict):
-        return {name: rounded(part) for name, part in value.items()}
-    return [rounded(part) for part in value] if isinstance(value, list) else value
+    return json.loads(json.dumps(value), parse_float=lambda number: float(f"{float(number):.6g}"))
 
 
 def store(table: str, program: str, rows: list[dict[str, Any]]) -> None:
-    """Writes the rows of a table into its file, with the machine, the date and the versions, a row a line."""
     date = datetime.datetime.now(datetime.timezone.utc).strftime("%Y-%m-%d")
     head = json.dumps({"date": date, "machine": machine(), "versions": versions(program)})
     body = ",\n".join(" " + json.dumps(rounded(row)) for row in rows)

@@ -14,7 +14,6 @@ def table(heads, rows):
 
 
 def when(measured):
-    """Returns where and when figures were measured."""
     at, found = measured["machine"], ", ".join(f"{name} {version}" for name, version in measured["versions"].items())
     return f"{measured['date']}, {at['machine']}, {at['cores']} cores of {at['processor']}, load {at['load']}; {found}.\n"
 
@@ -31,7 +30,6 @@ def cells(row):
 
 
 def filled(name):
-    """Returns the table of one file of figures; empty columns are left out."""
     measured = stored(name)
     heads = ["Case", "`resb`", "Peer", "Ours over the peer's", "Memory", "Over the peer's", "Over the input"]
     rows = list(map(cells, measured["rows"]))
@@ -50,7 +48,6 @@ def goals(names):
 
 
 def page():
-    """Returns README.md with its tables made of the stored figures."""
     text = PAGE.read_text(encoding="utf-8")
     names = [name for name in re.findall(r"^<!-- (\w+) -->$", text, flags=re.M) if name != "end"]
     for name in names:
@@ -78,14 +75,12 @@ def rows_of(name, pattern):
 
 
 def line(axes, points, color, name):
-    """Draws medians, with minimum and maximum as a band."""
     across, runs = zip(*points)
     axes.plot(across, list(map(statistics.median, runs)), color=color, marker="o", markersize=4, label=name)
     axes.fill_between(across, list(map(min, runs)), list(map(max, runs)), color=color, alpha=0.15, lw=0)
 
 
 def compiled(axes):
-    """Draws time and memory of both compilers over the size of nested text and of one table of keys."""
     for column, (title, pattern) in enumerate((("Nested text", r"nested text of ([\d.]+) MB"), ("One table of keys", r"a table of ([\d,]+) keys"))):
         rows = [row for _, row in rows_of("compile", pattern)]
         for at, (kind, color, name) in enumerate((("peer", THEIRS, "genrb --formatVersion 1"), ("ours", OURS, "resb compile"))):
@@ -96,7 +91,6 @@ def compiled(axes):
 
 
 def lookups(axes):
-    """Draws lookups a second of both servers over the number of bundles."""
     for at, (kind, title) in enumerate((("cold", "Cold: all lookups, in random order"), ("hot", "Hot: 500 lookups, again and again"))):
         rows = list(rows_of("cldr", rf"{kind} lookups in (\d+) bundles"))
         for form, color, name in (("peer", THEIRS, "C server over libicu"), ("ours", OURS, "resb serve")):
@@ -122,7 +116,6 @@ PICTURES = {"compile": (compiled, "compile", 2, 2, (9, 6.4)), "lookups": (lookup
 
 
 def write():
-    """Writes the tables, and the pictures if matplotlib is installed."""
     PAGE.write_text(page(), encoding="utf-8")
     try:
         import matplotlib

@@ -98,10 +98,18 @@ lanes() {
     echo "$memory"
 }
 
-# gateways: tries the gateways, one after the other as both build in deploy/out. They wait most of the time.
-gateways() {
-    part gateways deploy/test "$program"
+# archive HOW: builds the library for C programs, which gateways link. `rt ci` proves it and builds no archive: HOW is --bare for one that is
+# built over what it left, and --built for the one that is there.
+archive() {
+    command -v gcc >/dev/null && part archive tools/library "$1" deploy/out/library
+}
+
+# linked: tries the library, and the gateways, one after the other as both build in deploy/out. They wait most of the time.
+linked() {
+    part library tests/library.sh --built &
     part gateway deploy/gateway/test "$program"
+    part gateways deploy/test "$program"
+    wait
 }
 
 summary() {
@@ -136,15 +144,21 @@ if [ -z "$quick" ]; then
         exit 1
     fi
     grep -h 'passed, .* failed' "$logs/gate.log"
-    gateways &
-    # `rt ci` proves the library and builds no archive: this one is built over the libraries that it left
-    start_if gcc library tests/library.sh --bare
+    archive --bare &
     if command -v python3 >/dev/null; then
         part mutants tests/edits.py --gate --jobs "$(lanes)" --within 15
         tail -n 1 "$logs/mutants.log"
     fi
 fi
-[ -z "$quick" ] || gateways &
+if [ -n "$quick" ] && [ -e crates/resb/out/libresb.a ]; then
+    archive --built
+fi
+wait
+if [ -e deploy/out/library/resb.pc ]; then
+    linked &
+else
+    echo 'library, gateways, package: skipped: the library for C programs is not built (tools/library builds it)' | tee "$logs/library.skipped"
+fi
 for script in examples replies stdout files clients project page_commands package; do
     start "$script" "tests/$script.sh" "$program"
 done
@@ -155,14 +169,6 @@ start_if cc refused_allocations tests/refused_allocations.py "$program"
 pytest python 'not alone and not hand' -n $(((processors + 1) / 2)) &
 start_if python3 pages tools/pages --check "$program"
 start_if genrb icu tests/icu.sh "$program" brkitr translit
-# the library was begun beside the mutants, unless nothing is to be proved
-if [ -n "$quick" ]; then
-    if [ -e crates/resb/out/libresb.a ]; then
-        start_if gcc library tests/library.sh --built
-    else
-        echo 'library: skipped: crates/resb/out/libresb.a is not built (tools/library builds it)' | tee "$logs/library.skipped"
-    fi
-fi
 wait
 # what measures memory or time has the machine to itself
 pytest alone 'alone and not hand'

@@ -106,7 +106,7 @@ install_packages() {
     [ "$(in_root "$root" / 'resb --version')" = "$("$program" --version)" ] || fail 'resb --version is not that of the program'
     for folder in resb resb-gateway; do "$here/installed.py" links "$root/usr/share/doc/$folder"; done
     say 'each program starts, and links of pages lead to files of the packages'
-    fetching in_root "$root" / 'apt-get install curl nats-server'
+    fetching in_root "$root" / 'apt-get install curl etcd-server'
 }
 
 # serve COMMAND..: starts a gateway, the process $gateway, and waits until it serves
@@ -115,7 +115,7 @@ serve() {
     : >"$log"
     run='exec' "$@" >"$log" 2>&1 &
     gateway=$!
-    until grep -q 'serves after' "$log"; do
+    until grep -q 'ready with' "$log"; do
         tries=$((tries + 1))
         if [ "$tries" -gt 600 ] || ! kill -0 "$gateway"; then
             cat "$log" >&2
@@ -157,7 +157,7 @@ run_unit() {
 run_pages() {
     local root=$1
     mount -t proc proc "$root/proc"
-    "$here/installed.py" loopback
+    ip link set lo up
     "$here/installed.py" run "$root" $docs/README.md
     serve in_root "$root" $lib "exec $("$here/installed.py" block "$root$docs/deploy/gateway/README.md" Start)"
     "$here/installed.py" run "$root" $docs/deploy/gateway/README.md Start
@@ -178,14 +178,14 @@ run_pages() {
 remove_packages() {
     local root=$1 files left
     mount -t proc proc "$root/proc"
-    "$here/installed.py" loopback
+    ip link set lo up
     files=$(in_root "$root" / 'dpkg -L resb resb-gateway' | grep -v '^/etc/') # dpkg keeps the configuration
     sed -n 's/^    \(apt-get remove .*\)/\1/p' "$top/docs/INSTALL.md" >"$log.command"
     [ "$(wc -l <"$log.command")" = 1 ] || fail 'the page has no command that removes'
     quietly in_root "$root" / "$(cat "$log.command")"
     left=$(for file in $files; do [ -d "$root$file" ] && [ ! -L "$root$file" ] || [ ! -e "$root$file" ] || echo "$file"; done)
     if [ -n "$left" ] || [ -e "$root$lib" ] || [ -e "$root$docs" ]; then fail "still there: $left"; fi
-    [ -f "$root/root/.local/state/resb/single/changes.db" ] || fail 'the bundles are gone'
+    [ -f "$root/root/.local/state/resb/single/manifests.db" ] || fail 'the bundles are gone'
     quietly in_root "$root" / 'dpkg --purge resb-gateway resb'
     [ ! -e "$root/etc/resb" ] || fail 'the purge leaves /etc/resb'
     say 'the packages are removed, and the bundles stay'
@@ -217,7 +217,7 @@ run_image() {
     mount -t proc proc "$root/proc"
     mount -t tmpfs tmpfs "$root/tmp"
     mount --bind "$image.volume" "$root$volume"
-    "$here/installed.py" loopback
+    ip link set lo up
     contained() { ${run-} chroot --userspec="$user" --groups='' "$root" /usr/bin/env -i PATH=/usr/bin:/bin HOME="$volume" sh -c "cd $volume && $1"; }
     [ "$(contained 'id -u')" != 0 ] || fail 'the user of the image is root'
     if contained 'touch /usr/x /etc/x /x' 2>/dev/null; then fail 'the root is not read-only'; fi
@@ -244,7 +244,7 @@ if [ "${1-}" = --within ]; then
 fi
 
 [ "$(id -u)" = 0 ] || skip 'this is not root'
-for tool in debootstrap unshare chroot python3 curl apt-get; do
+for tool in debootstrap unshare chroot python3 curl apt-get ip; do
     PATH=$PATH:/usr/sbin command -v "$tool" >/dev/null || skip "$tool is not there"
 done
 made=$(mktemp -d)

@@ -37,7 +37,6 @@ def pytest_addoption(parser):
 
 @pytest.fixture(scope="session")
 def program(request):
-    """The path of the program."""
     path = os.path.abspath(request.config.getoption("--program"))
     if not os.access(path, os.X_OK):
         pytest.skip(f"{os.path.relpath(path, TOP)} isn't built")
@@ -46,7 +45,6 @@ def program(request):
 
 @pytest.fixture
 def resb(program, tmp_path):
-    """The program in its own folder."""
     return Resb(program, tmp_path)
 
 
@@ -104,7 +102,6 @@ def pytest_terminal_summary(terminalreporter):
             parts[name] = [one + more for one, more in zip(parts[name], (getattr(report, "duration", 0), is_whole, kind in ("failed", "error")))]
             if kind == "skipped":
                 reasons[f"{name}: {report.longrepr[2].removeprefix('Skipped: ')}"] += 1
-            reasons.update(f"{name}: {value}" for key, value in getattr(report, "user_properties", ()) if key == "skipped" and report.when == "call")
     for name, (seconds, count, failed) in sorted(parts.items()):
         words = f"{name}: {count} tests" + f", {failed} failed" * bool(failed)
         terminalreporter.write_line(f"{'FAILED' if failed else 'ok    '}  {seconds:5.0f} s  {words}")

@@ -30,8 +30,6 @@ The variable RT names the command `rt`, if it is another one.
 """
 import argparse
 import functools
-import importlib.machinery
-import importlib.util
 import os
 import pathlib
 import re
@@ -43,7 +41,9 @@ import time
 from concurrent.futures import ThreadPoolExecutor
 from dataclasses import dataclass, field
 
-CRATES = pathlib.Path(__file__).resolve().parent.parent / "crates"
+from support.contracts import CRATES
+from support.program import loaded, run
+
 RT = os.environ.get("RT", "rt")
 # A proof by hand that names what the text no longer has says nothing of a contract.
 NAMES = re.compile(r"has no field|is not in scope|has no `|was not admitted|is no name|expected the end|operand is missing")
@@ -61,6 +61,9 @@ class Function:
     name: str
     first: int
     last: int
+
+    def path(self):
+        return "::".join([*self.module, *[self.owner] * bool(self.owner), self.name])
 
     def is_named(self, path):
         """Returns whether a path as `tree::Entries::get` or `tree::fn::Entries::get::map` names the function or a closure in it."""
@@ -110,13 +113,7 @@ def closing(lines, at, indent):
     return len(lines) - 1
 
 
-def function_at(functions, line):
-    around = [it for it in functions if it.first <= line <= it.last]
-    return max(around, key=lambda it: it.first, default=None)
-
-
 def read_edit(label, path, crate):
-    """Reads an edit against the crate's files."""
     edit, file, old, texts = Edit(label, []), "", "", {}
     for word, text in re.findall(r"^(file|old|new):[ ]?(.*)$", path.read_text(encoding="utf-8"), re.M):
         if word == "file":
@@ -134,7 +131,8 @@ def read_edit(label, path, crate):
         if text.count(old) != 1:
             edit.fault = f"an 'old:' text stands {text.count(old)} times in {file}"
             return edit
-        function = function_at(functions_of(file, text), text[: text.index(old)].count("\n")) if file.startswith("src/") else None
+        line, functions = text[: text.index(old)].count("\n"), functions_of(file, text) if file.startswith("src/") else ()
+        function = max((it for it in functions if it.first <= line <= it.last), key=lambda it: it.first, default=None)
         edit.functions |= {(file, function)} if function else set()
         edit.is_loose = edit.is_loose or not function
         texts[file] = text.replace(old, new)
@@ -158,31 +156,12 @@ def groups_of(edits):
     return [group for _, group in groups]
 
 
-def run(words, folder):
-    """Runs a command in a folder; returns its status, and what it printed on both streams."""
-    done = subprocess.run(words, cwd=folder, stdin=subprocess.DEVNULL, stdout=subprocess.PIPE, stderr=subprocess.STDOUT, errors="replace", check=False)
-    return done.returncode, done.stdout
-
-
 @functools.lru_cache(maxsize=None)
 def rtlib():
     """Loads the toolchain's module beside `rt`, which knows how a crate is checked."""
-    loader = importlib.machinery.SourceFileLoader("rtlib", f"{os.path.dirname(os.path.realpath(shutil.which(RT)))}/rtlib.py")
-    made = importlib.util.module_from_spec(importlib.util.spec_from_loader("rtlib", loader))
-    sys.modules["rtlib"] = made
-    loader.exec_module(made)
+    made = loaded("rtlib", pathlib.Path(shutil.which(RT)).resolve().parent / "rtlib.py")
     made.guarded()
     return made
-
-
-@functools.lru_cache(maxsize=None)
-def named(crate):
-    return next(it for it in rtlib().crates_below(str(CRATES.parent)) if it.name == crate)
-
-
-def path_of(function):
-    """Returns the path of a function for `--only`."""
-    return "::".join([*function.module, *([function.owner] if function.owner else []), function.name])
 
 
 def users_of(edit, crate):
@@ -210,7 +189,6 @@ class Copy:
                 shutil.copytree(CRATES / crate / part, self.crate / part)
 
     def check(self, edits):
-        """Checks the crate with some mutants; returns what the check printed."""
         files = {file: (self.crate / file).read_text(encoding="utf-8") for edit in edits for file, _, _ in edit.texts}
         try:
             for file, old, new in (text for edit in edits for text in edit.texts):
@@ -222,15 +200,16 @@ class Copy:
                 (self.crate / file).write_text(text, encoding="utf-8")
 
     def run(self, edits):
-        only = set().union(*({path_of(it) for _, it in edit.functions} or {""} for edit in edits))
-        words = [rtlib().RATTLE, "check", *named(self.name).words(["--jobs", "1"], keeps=False), "--incremental", str(self.kept)]
+        only = set().union(*({it.path() for _, it in edit.functions} or {""} for edit in edits))
+        named = next(it for it in rtlib().crates_below(str(CRATES.parent)) if it.name == self.name)
+        words = [rtlib().RATTLE, "check", *named.words(["--jobs", "1"], keeps=False), "--incremental", str(self.kept)]
         for paths in (only, {it.rpartition("::")[0] for it in only}, {""}):
             flags = [it for path in sorted(paths) for it in ("--only", path)] if "" not in paths else []
-            status, said = run([*rtlib().guarded(), *words, *flags], self.crate)
+            done = run([*rtlib().guarded(), *words, *flags], cwd=self.crate, stderr=subprocess.STDOUT, timeout=None)
             # 2: a path names no function, as happens for the methods of an impl
-            if status != 2:
+            if done.status != 2:
                 break
-        return said
+        return done.stdout.decode(errors="replace")
 
 
 def reached(said):
@@ -306,8 +285,7 @@ def tried(crate, groups):
 
 
 def try_crate(crate, edits, end):
-    """Tries a crate's mutants, unless the time is over, and prints those that are not refused; returns how many are refused, are not, and were not
-    tried."""
+    """Tries a crate's mutants, and prints those that are not refused; returns how many are refused, are not, and were not tried in time."""
     if time.monotonic() > end:
         print(f"{crate}: {len(edits)} not tried, as the time is over", flush=True)
         return 0, 0, len(edits)
@@ -326,7 +304,6 @@ def try_crate(crate, edits, end):
 
 
 def edits_of(crate, folders):
-    """Returns the edits of a crate that are in some of its folders."""
     paths = (path for name in folders for path in sorted((CRATES / crate / name).glob("*.edit")))
     return [read_edit(str(path.relative_to(CRATES)), path, CRATES / crate) for path in paths]
 

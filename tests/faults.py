@@ -12,6 +12,7 @@ import argparse
 import functools
 import json
 import os
+import pathlib
 import re
 import shutil
 import subprocess
@@ -36,14 +37,12 @@ SLOW = " and ".join(f"not {word}" for word in (
 
 
 def stand_in(folder, program, row):
-    """Returns the path of a program with a fault."""
-    path, match = os.path.join(folder, "resb"), row["commands"].replace("{", "\\{")
+    path, match = pathlib.Path(folder, "resb"), row["commands"].replace("{", "\\{")
     text = (TOP / "tests" / "faults.pl").read_text(encoding="utf-8")
     for word, value in (("CODE", row["change"]), ("MATCH", match), ("FOLDER", folder), ("PROGRAM", f"'{program}'")):
         text = text.replace(word, value)
-    with open(path, "w", encoding="utf-8") as file:
-        file.write(text)
-    os.chmod(path, 0o755)
+    path.write_text(text, encoding="utf-8")
+    path.chmod(0o755)
     return path
 
 
@@ -51,12 +50,10 @@ def copy(folder, row):
     """Returns a copy of the tools and their tests with a fault."""
     for name in ("tools", "tests", "examples"):
         shutil.copytree(TOP / name, os.path.join(folder, "top", name), symlinks=True)
-    path = os.path.join(folder, "top", row["file"])
-    with open(path, encoding="utf-8") as file:
-        text = file.read()
+    path = pathlib.Path(folder, "top", row["file"])
+    text = path.read_text(encoding="utf-8")
     assert text.count(row["old"]) == 1, row
-    with open(path, "w", encoding="utf-8") as file:
-        file.write(text.replace(row["old"], row["new"]))
+    path.write_text(text.replace(row["old"], row["new"]), encoding="utf-8")
     return os.path.join(folder, "top")
 
 

@@ -7,23 +7,16 @@ usage: installed.py links FOLDER              checks that each relative link of 
                                               compares what they print. They are run in /usr/lib/resb-gateway, or in an empty folder
                                               for a page without a section, as README.md is
        installed.py step CONTAINERFILE NAME   prints an instruction of a container file; a list is printed as words of the shell
-       installed.py loopback                  starts the loopback device
 Ends with status 1 if something differs."""
-import fcntl
 import glob
 import json
 import os
 import re
 import shlex
-import socket
-import struct
 import sys
 import tempfile
 
 from support.pages import bad_links, differences, indented, output_of, script_of, text_of
-
-# of Linux' if.h and sockios.h
-IFF_UP, IFF_RUNNING, SIOCSIFFLAGS = 0x1, 0x40, 0x8914
 
 
 def links(folder):
@@ -51,7 +44,6 @@ def block(page, name):
 
 
 def run(root, page, name=None):
-    """Runs the commands of a page, or of a section of it, and prints what differs."""
     text = text_of(os.path.join(root, page.lstrip("/")))
     asked = indented(section(text, name) if name else text)
     with tempfile.TemporaryDirectory(dir=os.path.join(root, "tmp")) as folder:
@@ -76,14 +68,8 @@ def step(file, name):
     return 0
 
 
-def loopback():
-    with socket.socket() as any_socket:
-        fcntl.ioctl(any_socket, SIOCSIFFLAGS, struct.pack("16sh14x", b"lo", IFF_UP | IFF_RUNNING))
-    return 0
-
-
 def main():
-    calls = {"links": links, "block": block, "run": run, "step": step, "loopback": loopback}
+    calls = {"links": links, "block": block, "run": run, "step": step}
     if len(sys.argv) < 2 or sys.argv[1] not in calls:
         sys.exit("usage: " + __doc__.split("usage: ")[1])
     return calls[sys.argv[1]](*sys.argv[2:])

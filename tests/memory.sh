@@ -76,14 +76,15 @@ dear_files() {
 import sys
 
 sys.path.insert(0, sys.argv[1])
-from support.files import shared_arrays
+from support.files import shared_arrays, suffixes
 from support.hostile import *
 
 folder, refused = sys.argv[2], int(sys.argv[3])
 # each with more allocations than its reading and acceptance make
 files = [
-    (one_key(random_letters)(20_000), 20), (many_tables(20_000), 20), (mixed_arrays(20_000), 20), (shared_arrays(62), 12),
-    (all_ends(20_000), 60), (mixed_tables(40_000), 60), (copies(random_letters, 2, 100)(30_000), 160),
+    (one_key(random_letters)(20_000), 20), (many_tables(20_000), 20), (overlapping_arrays(20_000 // 12, True), 20),
+    (shared_arrays(62), 12), (suffixes(20_000 // 9), 60), (overlapping_tables(40_000 // 88, True), 60),
+    (copies(random_letters, 2, 100)(30_000), 160),
 ]
 for number, (data, most) in enumerate(files):
     for blocks in range(refused - most, refused):

@@ -36,8 +36,8 @@ fail() {
 
 only_resb=
 if ! command -v go >/dev/null || ! command -v gcc >/dev/null || [ ! -d /usr/share/gocode/src/github.com/mattn/go-sqlite3 ] ||
-    [ ! -d /usr/share/gocode/src/github.com/nats-io/nats.go ]; then
-    echo 'skipped: resb-gateway: packages are missing to build it'
+    [ ! -d /usr/share/gocode/src/go.etcd.io/etcd ] || [ ! -e "$top/deploy/out/library/resb.pc" ]; then
+    echo 'skipped: resb-gateway: packages or the library for C programs are missing to build it'
     only_resb=--only-resb
 fi
 

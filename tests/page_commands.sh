@@ -70,20 +70,18 @@ fresh() {
 }
 
 # as_service: runs the commands of a service and of a container, in a copy of this machine whose changes stay in memory and whose network is its own.
-# There a stand-in for systemctl starts the command of the unit, one for journalctl prints what it wrote, and one for podman takes a folder
-# for the volume and the copy for the image.
+# There a stand-in for systemctl starts the command of the unit, and one for podman takes a folder for the volume and the copy for the image.
 as_service() {
     local token=TOKEN-0123456789-0123456789 hash
     hash=$(printf %s $token | sha256sum | cut -d ' ' -f 1)
     fresh
     mkdir -p copy crates/rb_tool/out && ln -s "$top/deploy" "$top/tests" . && cp "$program" crates/rb_tool/out/rb_tool
     echo "shop write $hash" >tokens
-    printf '#!/bin/sh\ncat /run/journal\n' >journalctl
     cat >started <<'END'
 #!/bin/sh
 # started USER -- COMMAND..: starts a gateway as a user, and waits until it serves
 runuser -u "$@" >/run/journal 2>&1 &
-until grep -q 'serves after' /run/journal; do
+until grep -q 'ready with' /run/journal; do
     kill -0 $! || exit 1
     sleep 0.1
 done
@@ -131,15 +129,13 @@ ends() { kill "\$(pgrep -u resb-gateway resb-gateway)"; while pgrep -u resb-gate
 $(block deploy/OPERATIONS.md Start 2)
 $(block deploy/OPERATIONS.md Start)
 $(inline docs/INSTALL.md 'systemctl enable')
-$(inline deploy/OPERATIONS.md 'gateway -healthcheck' | sed 's/^/resb-/; s/ADDRESS/127.0.0.1:6422/')
+$(inline deploy/OPERATIONS.md 'resb-gateway -healthcheck' | sed 's/ADDRESS/127.0.0.1:6422/')
 curl -sf -H 'Authorization: Bearer $token' -X PUT --data-binary 'de{a{"A"}}' http://127.0.0.1:6422/v1/shop/de.txt
-$(inline deploy/OPERATIONS.md 'resb-gateway backup' | sed 's#FILE#/root/copied#')
-$(inline deploy/OPERATIONS.md journalctl) >messages
+$(block deploy/OPERATIONS.md 'Backup, restore, upgrade' | sed -n '1s#FILE#/root/copied#p')
 ends
 $(inline deploy/OPERATIONS.md 'chown -R')
-$(inline deploy/README.md 'install -d -o nats' | sed 's/nats /daemon /g')
-$(block deploy/OPERATIONS.md 'Backup, restore, upgrade' 2 | sed 's/APP LOCALE/shop de/')
-(cd /var/lib/resb-gateway && runuser -u resb-gateway -- $(inline deploy/OPERATIONS.md 'sqlite3'))
+rm /var/lib/resb-gateway/*
+$(block deploy/OPERATIONS.md 'Backup, restore, upgrade' | sed '1d; s#FILE#/root/copied#')
 $(block docs/INSTALL.md 'A container' | sed '/^tools/d')
 $(block docs/INSTALL.md 'A container' 2 | sed "s/HASH/$hash/")
 $(inline docs/INSTALL.md 'resb-gateway -healthcheck')
@@ -152,10 +148,10 @@ mount -t overlay overlay -o lowerdir=/,upperdir=copy/upper,workdir=copy/work cop
 mount --rbind /dev copy/root/dev
 mount -t proc proc copy/root/proc
 mount -t tmpfs tmpfs copy/root/run
-install -m 755 systemctl journalctl podman started copy/root/usr/local/sbin
+install -m 755 systemctl podman started copy/root/usr/local/sbin
 chroot copy/root /usr/bin/env -i HOME=/root PATH=/usr/local/sbin:/usr/local/bin:/usr/sbin:/usr/bin:/sbin:/bin bash -eux -o pipefail -c "cd '$PWD'; . ./commands"
 END
-    runs 'deploy/OPERATIONS: a service, and INSTALL: a container' "unshare --mount --pid --fork --kill-child --net bash -eu -c 'tests/installed.py loopback; . ./enter'"
+    runs 'deploy/OPERATIONS: a service, and INSTALL: a container' "unshare --mount --pid --fork --kill-child --net bash -eu -c 'ip link set lo up; . ./enter'"
 }
 
 fresh
@@ -242,7 +238,6 @@ if needs man 'COMMANDS: a manual page'; then
     runs 'COMMANDS: a manual page' "cd '$top'; MANPAGER=cat ${manual/ | / \'$program\' | } >/dev/null"
 fi
 runs 'deploy/OPERATIONS: the variables of deploy/single' "cd '$top'; { $(inline deploy/OPERATIONS.md 'deploy/single --help') || [ \$? = 2 ]; } 2>&1 | grep RESB_STATE"
-runs 'deploy/README: the variables of deploy/start' "cd '$top'; { $(inline deploy/README.md 'deploy/start --help') || [ \$? = 2 ]; } 2>&1 | grep RESB_STATE"
 
 # the commands of an operator over a gateway that the tests of deploy/ have built
 gateway=$top/deploy/out/bin/gateway
@@ -251,19 +246,21 @@ if [ -x "$gateway" ]; then
     ln -s "$gateway" "$made/bin/resb-gateway"
     : >tokens
     runs 'deploy/OPERATIONS: tokens' "$(block deploy/OPERATIONS.md Tokens)"
-    mkdir -p etc state && : >etc/tokens && echo 'gateway password' >etc/login
-    runs 'deploy/README: the options of a gateway' "$(block deploy/README.md 'On real machines' 2 | sed "s#/etc/resb/tokens#etc/tokens#; s#/etc/resb/nats-login#etc/login#; s#/var/lib/resb-gateway#state#") -check-config"
+    mkdir -p etc state && : >etc/tokens && echo 'gateway password' >etc/etcd-login && cp /etc/ssl/certs/ca-certificates.crt etc/etcd-ca.pem
+    runs 'deploy/README: the options of a gateway' "$(block deploy/README.md 'On real machines' 2 | sed 's#/etc/resb/#etc/#g; s#10.0.0.1:642#127.0.0.1:642#g') -check-config"
     sed "s#/etc/resb/tokens#etc/tokens#; s#\"/usr/bin/resb\"#\"$program\"#; s#/var/lib/resb-gateway#state#" "$top/deploy/gateway.example.json" >gateway.json
     runs 'deploy/OPERATIONS: the example of settings' 'resb-gateway -config gateway.json -check-config'
-    runs 'deploy/OPERATIONS: the help of a gateway' "$(inline deploy/OPERATIONS.md 'gateway -help' | sed 's/^/resb-/')"
+    runs 'deploy/OPERATIONS: the options of a gateway' "$(inline deploy/OPERATIONS.md 'resb-gateway options')"
+    runs 'deploy/OPERATIONS: what takes space' "$(inline deploy/OPERATIONS.md 'resb-gateway list') -state state || [ \$? = 1 ]"
     runs 'SECURITY: the version of a gateway' "$(inline SECURITY.md 'resb-gateway -version')"
+    service='deploy/OPERATIONS: a service'
     if [ "$(id -u)" != 0 ]; then
-        echo 'skipped: deploy/OPERATIONS: a service: this is not root'
+        echo "skipped: $service: this is not root"
     elif [ -e /var/lib/resb-gateway ] || [ -e /etc/resb ]; then
-        echo 'skipped: deploy/OPERATIONS: a service: a gateway is installed here'
+        echo "skipped: $service: a gateway is installed here"
     elif [ "$(stat -c %d /)" != "$(stat -c %d "$made")" ] || [ "$(stat -c %d /)" != "$(stat -c %d "$top")" ]; then
-        echo "skipped: deploy/OPERATIONS: a service: $made and $top are not on the file system of /"
-    elif needs systemctl 'deploy/OPERATIONS: a service' && needs runuser 'deploy/OPERATIONS: a service' && needs sqlite3 'deploy/OPERATIONS: a service'; then
+        echo "skipped: $service: $made and $top are not on the file system of /"
+    elif needs systemctl "$service" && needs runuser "$service" && needs sqlite3 "$service" && needs ip "$service"; then
         as_service
     fi
 else

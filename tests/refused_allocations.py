@@ -8,108 +8,84 @@ refused/plain.jsonl and refused/extended.jsonl have lines with their replies, an
 it the line that memory ran out for has the reply `Memory`; sent once more, it must be answered as before it took effect or after, and
 the lines after it as if nothing had been refused.
 """
-import json
 import os
 import subprocess
 import sys
 import tempfile
 
-FOLDER = os.path.join(os.path.dirname(os.path.abspath(__file__)), "refused")
-MEMORY = '{"error":"Memory"}'
+from support.program import TOP, rows
+from support.server import Server
+
+MEMORY = b'{"error":"Memory"}\n'
 # Options of `serve`, and the file with the lines.
-TRIALS = [
-    ([], "plain"),
-    (["--keep-serving"], "plain"),
-    (["--steps", "10000"], "plain"),
-    (["--extended"], "extended"),
-    (["--extended", "--keep-serving"], "extended"),
-]
-
-
-# The status, standard error and standard output of a program that runs out of memory before it serves.
-STARTS = [(2, "error: out of memory\n", ""), (1, "Memory\n", "")]
+TRIALS = [([], "plain"), (["--keep-serving"], "plain"), (["--steps", "10000"], "plain"), (["--extended"], "extended"),
+          (["--extended", "--keep-serving"], "extended")]
 
 
 def rows_of(name):
     """Returns the rows of a file: a line, its reply, and its reply if it took effect before."""
-    with open(f"{FOLDER}/{name}.jsonl", encoding="utf-8") as file:
-        rows = [json.loads(line) for line in file]
-    return [(row[0], row[1], row[-1]) for row in rows]
+    return [(row[0].encode(), f"{row[1]}\n".encode(), f"{row[-1]}\n".encode()) for row in rows(f"refused/{name}.jsonl")]
 
 
-class Server:
+class Refusing(Server):
     """A server one of whose allocations is refused, which is asked line by line."""
 
     def __init__(self, words, library, refused, count):
-        given = {**os.environ, "LD_PRELOAD": library, "REFUSE": str(refused), "COUNT": count}
-        self.process = subprocess.Popen(words, env=given, stdin=subprocess.PIPE, stdout=subprocess.PIPE, stderr=subprocess.PIPE,
-                                        text=True, encoding="utf-8")
+        super().__init__(words, stderr=subprocess.PIPE, env={**os.environ, "LD_PRELOAD": library, "REFUSE": str(refused), "COUNT": count})
 
     def ask(self, line):
-        """Returns the reply to a line, or an empty text if the server has ended."""
+        """Returns the reply to a line, or nothing if the server has ended."""
         try:
-            self.process.stdin.write(line + "\n")
-            self.process.stdin.flush()
-        except BrokenPipeError:
-            return ""
-        return self.process.stdout.readline().removesuffix("\n")
+            return super().ask(line)
+        except (AssertionError, BrokenPipeError):
+            return b""
 
-    def end(self):
-        """Ends the input; returns the status, standard error, and the rest of standard output."""
-        try:
-            rest, errors = self.process.communicate()
-        except BrokenPipeError:
-            rest, errors = self.process.stdout.read(), self.process.stderr.read()
-        return self.process.wait(), errors, rest
-
-
-def fault_of(server, rows, keeps):
-    """Returns what is wrong with a server's replies, or None."""
-    is_refused = False
-    for line, reply, again in rows:
-        found = server.ask(line)
-        if found == MEMORY and keeps and not is_refused:
-            is_refused = True
-            found = server.ask(line)
-            if found not in (reply, again):
-                server.end()
-                return f"sent once more, {line} is answered {found}"
-        elif found == "":
-            end = server.end()
-            is_start = line == rows[0][0] and end in STARTS
-            return None if is_start or end == (1, "Memory\n", "") else f"at {line} it ends with {end}"
-        elif found != reply:
-            server.end()
-            return f"{line} is answered {found}"
-    end = server.end()
-    return None if end in ((0, "", ""), (1, "Memory\n", "")) else f"it ends with {end}"
+    def fault(self, asked, keeps):
+        """Returns what is wrong with the replies or the end, or None."""
+        found, is_refused, wrong = [], False, None
+        for line, reply, again in asked:
+            found.append(self.ask(line))
+            wanted = reply, b""
+            if found[-1] == MEMORY and keeps and not is_refused:
+                found.append(self.ask(line))
+                is_refused, wanted = True, (reply, again)
+            if found[-1] not in wanted:
+                wrong = f"{line} is answered {found[-1]}"
+            if wrong or not found[-1]:
+                break
+        end, ends = (self.end(), self.errors), [(1, b"Memory\n"), (0, b"")] if found[-1] else [(1, b"Memory\n")]
+        # memory may run out before it serves
+        if end in ends + [(2, b"error: out of memory\n")] * (found == [b""]) and self.replies == [reply for reply in found if reply]:
+            return wrong
+        return wrong or f"it ends with {end} after {self.replies[-2:]}"
 
 
-def refuse_all(program, options, rows, library, count):
-    """Refuses each allocation of a server in turn. Returns how many there are, and the first fault or None."""
-    words = [program, "serve", *options]
-    keeps = "--keep-serving" in options
-    wrong = fault_of(Server(words, library, 0, count), rows, keeps)
-    with open(count, encoding="utf-8") as file:
-        most = int(file.read())
-    for refused in range(1, most + 1):
-        if wrong:
-            return most, f"allocation {refused - 1} of {most}: {wrong}"
-        wrong = fault_of(Server(words, library, refused, count), rows, keeps)
-    return most, wrong
+def refuse_all(words, asked, library, count):
+    """Refuses each allocation of a server in turn, after a run that counts them. Returns how many there are, and the first fault or None."""
+    most = refused = 0
+    while True:
+        wrong = Refusing(words, library, refused, count).fault(asked, "--keep-serving" in words)
+        if refused == 0:
+            with open(count, encoding="utf-8") as file:
+                most = int(file.read())
+        if wrong or refused == most:
+            return most, wrong and f"allocation {refused} of {most}: {wrong}"
+        refused += 1
 
 
 def main(program):
     with tempfile.TemporaryDirectory() as made:
         library = f"{made}/refuse.so"
-        subprocess.run(["cc", "-O2", "-shared", "-fPIC", "-o", library, f"{FOLDER}/refuse.c"], check=True)
+        subprocess.run(["cc", "-O2", "-shared", "-fPIC", "-o", library, TOP / "tests" / "refused" / "refuse.c"], check=True)
         for options, name in TRIALS:
-            rows = rows_of(name)
-            most, wrong = refuse_all(os.path.abspath(program), options, rows, library, f"{made}/count")
-            words = " ".join(["serve", *options])
+            asked, words = rows_of(name), ["serve", *options]
+            most, wrong = refuse_all([os.path.abspath(program), *words], asked, library, f"{made}/count")
             if wrong:
-                sys.exit(f"{words}: {wrong}")
-            print(f"ok: {words}: each of {most} allocations refused in turn over {len(rows)} lines")
+                sys.exit(f"{' '.join(words)}: {wrong}")
+            if not most:
+                print("skipped: the program, as one of which nothing is proved, allocates by no function of the C library")
+                return
+            print(f"ok: {' '.join(words)}: each of {most} allocations refused in turn over {len(asked)} lines")
 
 
 if __name__ == "__main__":

@@ -11,15 +11,13 @@ import struct
 import pytest
 from model import files, texts
 from model.trees import printed, value_of
-from support.files import file_of, shared_arrays, with_bytes
+from support.files import FIRST_KEY, Builder, file_of, shared_arrays, with_bytes
 from support.program import TOP, Outcome, rows
 from support.texts import numbered
 
 HERE = TOP / "tests" / "bundles"
-# the type bits of a table, a long table, an Int and an array
 TABLE, LONG_TABLE, INT, ARRAY = 0x20000000, 0x40000000, 0x70000000, 0x80000000
 KEYS_A_B = [0x00180002, 0xAAAA001A]
-
 
 SAMPLES = {row["name"]: file_of(row["minor"], [int(word, 16) for word in row["words"].split()]) for row in rows("bundles/samples.jsonl")}
 
@@ -33,17 +31,14 @@ def made(root, keys_top, data):
     return file_of(1, [root, 5, keys_top, top, top, 0, *data])
 
 
-def arrays(count):
-    """Returns the words of arrays from word 7 on, the first of two Ints and each other one of the one before it, twice."""
-    items = [INT, *(ARRAY + 7 + 3 * k for k in range(count - 1))]
-    return [word for item in items[:count] for word in (2, item, item)]
-
-
 def chain_and_more(count):
-    """Returns a table whose `a` is the last of these arrays, and whose `b` is an array of one item, which is the same array."""
+    """Returns a table whose `a` is the last of some arrays from word 7 on, the first of two Ints and each other one of the one before it, twice; and whose
+    `b` is an array of one item, which is the same array."""
+    items = [INT, *(ARRAY + 7 + 3 * k for k in range(count - 1))]
+    arrays = [word for item in items[:count] for word in (2, item, item)]
     more = 7 + 3 * count
     last = ARRAY + more - 3
-    return made(TABLE + more + 2, 7, [0x00620061, *arrays(count), 1, last, *KEYS_A_B, last, ARRAY + more])
+    return made(TABLE + more + 2, 7, [0x00620061, *arrays, 1, last, *KEYS_A_B, last, ARRAY + more])
 
 
 def wraps(item, first, count):
@@ -79,20 +74,15 @@ def two_kinds(a, b, above):
 
 def suffixes(keys, last):
     """Returns a table of keys, each the end of one long key, the shortest first. The last key's offset is given."""
-    letters = 1 + keys // 4
-    table = 6 + letters + 1
-    places = [24 + 4 * letters - i for i in range(1, keys)]
-    data = [*[0x61616161] * letters, 0, keys, *places, last, *[INT] * keys]
-    return made(LONG_TABLE + table, table, data)
+    letters = 4 + keys // 4 * 4
+    made = Builder(b"a" * letters + bytes(4))
+    return made.file(LONG_TABLE + made.add([keys, *(FIRST_KEY + letters - i for i in range(1, keys)), last, *[INT] * keys]))
 
 
 def numbers(count):
-    """Returns a table of keys of seven letters, which are Ints."""
-    table = 6 + 2 * count
     letters = bytes.maketrans(b"0123456789abcdef", b"abcdefghijklmnop")
-    keys = b"".join(b"%07x\0" % i for i in range(count)).translate(letters)
-    data = [*struct.unpack(f"<{2 * count}I", keys), count, *range(24, 24 + 8 * count, 8), *[INT] * count]
-    return made(LONG_TABLE + table, table, data)
+    made = Builder(b"".join(b"%07x\0" % i for i in range(count)).translate(letters))
+    return made.file(LONG_TABLE + made.table(range(0, 8 * count, 8)))
 
 
 MAKERS = {make.__name__: make for make in (shared_arrays, chain_and_more, overlapping, two_kinds, suffixes, numbers)}
@@ -166,7 +156,6 @@ def damaged(data):
 
 
 def judged(data):
-    """Returns the verdict of the model, and the bundle if it reads one."""
     try:
         bundle, visits = files.read(data)
     except files.BadFile as error:
@@ -199,17 +188,14 @@ def check_text(resb, text, wanted=None):
         assert resb.compiled(resb.output("json", *layout, file), "--json", *["--no-fallback"] * bundle[1]) == data
 
 
-@pytest.mark.parametrize("row", rows("bundles/texts.jsonl"), ids=lambda row: row.get("file"))
-def test_text(resb, row):
-    check_text(resb, row["text"], SAMPLES.get(row.get("file")))
+NESTED = "x{a" + 62 * ":array{" + ":int{1}" + 62 * "}" + "}"
+TEXTS = {NESTED: None, "root{b{%s:int{2}} a{%s:int{1}}}" % (LONG_KEY, LONG_KEY): file_of(1, LONG_KEY_FILE)}
+TEXTS |= {row["text"]: SAMPLES.get(row.get("file")) for row in rows("bundles/texts.jsonl")}
 
 
-def test_nested_text(resb):
-    check_text(resb, "x{a" + 62 * ":array{" + ":int{1}" + 62 * "}" + "}")
-
-
-def test_text_with_long_key(resb):
-    check_text(resb, "root{b{%s:int{2}} a{%s:int{1}}}" % (LONG_KEY, LONG_KEY), file_of(1, LONG_KEY_FILE))
+@pytest.mark.parametrize("text", TEXTS, ids=lambda text: text[:40])
+def test_text(resb, text):
+    check_text(resb, text, TEXTS[text])
 
 
 def test_long_tables(resb):

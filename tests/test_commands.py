@@ -16,7 +16,6 @@ CASES = {path.stem: json.loads(path.read_text(encoding="utf-8")) for path in sor
 
 
 def outcome(resb, case):
-    """Returns the status, standard output and standard error of a case."""
     given = {"stdin": case["stdin"].encode()} if "stdin" in case else {"stdin": subprocess.DEVNULL}
     if "text" in case:
         resb.put("in.txt", case["text"])

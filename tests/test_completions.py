@@ -8,20 +8,17 @@ from support.program import TOP, run
 
 
 def of_program(resb):
-    """Returns the flags of each command, as its help has them."""
     listed = re.search(r"^Commands:\n((?:  .*\n)+)", resb.output("--help").decode(), flags=re.M).group(1)
     commands = [word for word in re.findall(r"^  (\w+)", listed, flags=re.M) if word != "help"]
     return {name: set(re.findall(r"^ .*?--([\w-]+)", resb.output(name, "--help").decode().partition("Options:")[2], flags=re.M)) for name in commands}
 
 
 def of_cases(text):
-    """Returns the flags of each command in a `case` of bash or zsh."""
     rows = re.findall(r"^        (\w+)\) flags=(.*) ;;$", text, flags=re.M)
     return {name: set(re.findall(r"--([\w-]+)", flags)) for name, flags in rows}
 
 
 def of_fish(text):
-    """Returns the flags of each command in lines for fish."""
     commands = re.search(r"-f -a '([a-z ]*)'", text).group(1).split()
     found = {name: {"help"} for name in commands if name != "help"}
     for name, flag in re.findall(r"seen_subcommand_from (\w+)' -l ([\w-]+)", text):

@@ -3,7 +3,7 @@ docs/OPERATIONS.md say at most of them. bench/hostile.py has more families, and 
 """
 import pytest
 from support import hostile
-from support.files import FIRST_KEY, INT, LONG_TABLE, STRING, VECTOR, Builder, item, shared_arrays, suffixes
+from support.files import LONG_TABLE, STRING, VECTOR, Builder, item, shared_arrays, suffixes
 from support.measured import measured
 
 pytestmark = pytest.mark.alone
@@ -12,21 +12,18 @@ COUNT = 200
 
 
 def string(units):
-    """Returns the file of one String."""
     made = Builder(b"a\0")
     return made.file_of_one(item(STRING, made.units(units)))
 
 
 def vector(count):
-    """Returns the file of one vector of numbers."""
     made = Builder(b"a\0")
     return made.file_of_one(item(VECTOR, made.add([count] + [1] * count)))
 
 
 def key_of_quotes(size):
-    """Returns the file of a table with one key."""
     made = Builder(b'"' * size + b"\0")
-    return made.file(item(LONG_TABLE, made.add([1, FIRST_KEY, item(INT, 0)])))
+    return made.file(item(LONG_TABLE, made.table([0])))
 
 
 def cost(resb, *words, source="/dev/null", status=0):

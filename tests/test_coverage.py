@@ -3,6 +3,7 @@
 The model compares the modules' trees by the rules of docs/GUIDE.md ("Coverage"), and knows the arguments of a message from how it was made.
 """
 import csv
+import functools
 import io
 import json
 
@@ -11,13 +12,8 @@ from model import lookups
 from model.trees import units_of
 from support import making
 
-FINDINGS = {
-    "missing": "missing in",
-    "unused": "unused in",
-    "same": "the same as the parent's in",
-    "type": "of another type than the parent's in",
-    "arguments": "other arguments than the parent's in",
-}
+FINDINGS = {"missing": "missing in", "unused": "unused in", "same": "the same as the parent's in", "type": "of another type than the parent's in",
+            "arguments": "other arguments than the parent's in"}
 LOCALES = ["ar", "de", "de_AT", "de_AT_1996", "de_CH", "en", "en_001", "en_GB", "sr", "sr_Latn", "sr_Latn_RS", "zh", "zh_Hant", "zh_Hant_TW"]
 KEYS = ["a", "b", "c", "menu", "open,close", 'q"q', "x-y", "Z", "a.b", "k" * 210]
 FOLDERS = ["calendar", "shop", "a,b", "deep/er"]
@@ -109,12 +105,7 @@ def random_case(random):
 
 def at(bundle, path):
     """Returns the item at the keys of tables, or None."""
-    item = bundle[0]
-    for key in path:
-        if item is None or item[0] != "table":
-            return None
-        item = item[1].get(key)
-    return item
+    return functools.reduce(lambda item, key: item[1].get(key) if item and item[0] == "table" else None, path, bundle[0])
 
 
 def paths_of(item, path=()):
@@ -125,7 +116,6 @@ def paths_of(item, path=()):
 
 
 def differ(one, two):
-    """Checks whether two messages have other arguments."""
     one, two = ARGUMENTS[one], ARGUMENTS[two]
     if one is None or two is None:
         return False
@@ -192,7 +182,6 @@ def table_lines(module, keys, locales, found):
 
 
 def expected(form, modules, parents):
-    """Returns the output for modules by their folders."""
     out = io.StringIO()
     rows = csv.writer(out, lineterminator="\n")
     if form == "csv":

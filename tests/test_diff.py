@@ -1,8 +1,7 @@
 """`resb diff` beside a model, over pairs of random trees that share most of their items, in its three forms."""
-import json
 
 from hypothesis import given
-from model.trees import units_of, value_of
+from model.trees import compact, units_of, value_of
 from support import making
 
 KEYS = ["a", "b", "menu", "x y", "0", "1", "10", "key/with", "Z", "~"]
@@ -10,12 +9,9 @@ KEYS = ["a", "b", "menu", "x y", "0", "1", "10", "key/with", "Z", "~"]
 
 def some_leaf(random):
     return random.choice([
-        ("int", random.randrange(4)),
-        ("intvector", [random.randrange(3) for _ in range(random.randrange(3))]),
-        ("bin", random.choice([b"", b"\0", b"\0\xff"])),
-        ("alias", units_of(random.choice(["/LOCALE/a", "/ICUDATA/de"]))),
-        ("string", units_of(random.choice(["", "A", "B", "äöü", "\U0001f600"]))),
-    ])
+        ("int", random.randrange(4)), ("intvector", [random.randrange(3) for _ in range(random.randrange(3))]),
+        ("bin", random.choice([b"", b"\0", b"\0\xff"])), ("alias", units_of(random.choice(["/LOCALE/a", "/ICUDATA/de"]))),
+        ("string", units_of(random.choice(["", "A", "B", "äöü", "\U0001f600"])))])
 
 
 def changed(random, item, levels):
@@ -80,20 +76,15 @@ def differences(path, old, new):
             yield from differences(at, a[segment], b[segment])
 
 
-def written(value):
-    return json.dumps(value, ensure_ascii=False, separators=(",", ":"), sort_keys=True)
-
-
 def expected(found):
-    """Returns the output in each form."""
     lines, objects, counts = "", "", [0, 0, 0]
     for path, old, new in found:
         members = {"path": path}
         for sign, name, item in (("-", "old", old), ("+", "new", new)):
             if item is not None:
                 members[name] = value_of(item)
-                lines += f"{sign} {path} {written(members[name])}\n"
-        objects += written(members) + "\n"
+                lines += f"{sign} {path} {compact(members[name])}\n"
+        objects += compact(members) + "\n"
         counts[0 if old is not None and new is not None else 1 if old is None else 2] += 1
     stat = f"{counts[0]} changed, {counts[1]} added, {counts[2]} removed\n" if found else ""
     return {"": lines, "--json": objects, "--stat": stat}

@@ -11,13 +11,12 @@ import re
 
 import pytest
 from support import icu
-from support.pages import bad_links, blocks, commands, differences, indented, output_of, script_of, text_of
+from support.pages import PAGES, bad_links, blocks, commands, differences, indented, outside_blocks, output_of, script_of, text_of
 from support.program import TOP, run
 
 README_LINES, README_WIDTH = 80, 200
 FULL = "/dev/full"
 TOOLS = [(f"tools/{name}", TOP / "tools" / name) for name in ("icu2text", "resb-exchange")]
-PAGES = sorted(str(page.relative_to(TOP)) for place in ("*.md", "*/*.md", "*/*/*.md") for page in TOP.glob(place))
 SHOWN = [name for name in PAGES if name.startswith(("docs/", "tests/notes/")) and "\n```console" in text_of(name)]
 SHOWN += sorted(str(path.relative_to(TOP)) for path in (TOP / "tests" / "console").glob("*.txt"))
 CRATES = {name.split()[0]: uses.split() for name, colon, uses in (line.partition(":") for line in text_of("crates.txt").splitlines()) if colon}
@@ -81,11 +80,6 @@ def test_links(name):
     assert list(bad_links(name)) == []
 
 
-def named_on(name):
-    """Returns what a page names between backticks, outside its blocks."""
-    return re.findall(r"`([^`\n]+)`", re.sub(r"^```.*?^```", "", text_of(name), flags=re.M | re.S))
-
-
 @functools.cache
 def files_of(crate="*"):
     """Returns the paths of the sources, definitions, proofs and mutants of a crate, or of all."""
@@ -119,7 +113,8 @@ def is_there(named, page):
 
 @pytest.mark.parametrize("name", PAGES)
 def test_names(name):
-    assert [named for named in named_on(name) if not is_there(named, name)] == []
+    """What a page names between backticks, outside its blocks, exists."""
+    assert [named for named in re.findall(r"`([^`\n]+)`", outside_blocks(name)) if not is_there(named, name)] == []
 
 
 # ---- crates, on docs/ARCHITECTURE.md and in crates.txt
@@ -154,7 +149,7 @@ def error_words():
     bodies = "".join(re.findall(r"fn word\(&?self\).*?\n    }\n", "".join(map(sources, CRATES)), flags=re.S))
     variants = "".join(re.findall(r"variant_name!\(self: \w+ \{(.*?)\}\)", bodies, flags=re.S))
     words = {*re.findall(r'"([A-Z]\w*)"', bodies), *re.findall(r"\b([A-Z]\w*)", variants)} - {"Done", "Names"}
-    gateway = re.findall(r'problem\{http\.\w+, "(\w+)"\}', text_of("deploy/internal/api/words.go"))
+    gateway = re.findall(r'"([A-Z][a-z]\w+)"', text_of("deploy/internal/wire/problems.go"))
     return words | {"BadLine", *gateway, "BadPatch", "BadRelease", "NeedsTLS"}
 
 

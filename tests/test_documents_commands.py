@@ -7,10 +7,11 @@ import os
 import re
 
 import pytest
-from support.pages import blocks, commands, text_of
+from support import pages
+from support.pages import blocks, commands, outside_blocks, text_of
 from support.program import TOP, need, run
 
-PAGES = sorted(str(page.relative_to(TOP)) for place in ("*.md", "*/*.md", "*/*/*.md") for page in TOP.glob(place) if page.name != "CHANGELOG.md")
+PAGES = [page for page in pages.PAGES if page != "CHANGELOG.md"]
 TABLE = {row[0]: row[1:] for row in (line.split("\t") for line in text_of("tests/page_commands.tsv").splitlines()) if not row[0].startswith("#")}
 SCRIPT = text_of("tests/page_commands.sh").replace("\\\\?", "?")
 STARTS = tuple(found.strip("'") for found in re.findall(r"\(inline \S+ ('[^']*'|[\w./-]+)", SCRIPT))
@@ -39,7 +40,7 @@ def is_run(command):
 
 def inline(page):
     """Yields the commands between backticks, outside of blocks and of what tools/pages writes."""
-    text = re.sub(r"^```.*?^```|^    .*?$|<!-- commands, .*?<!-- end -->", "", text_of(page), flags=re.M | re.S)
+    text = re.sub(r"^    .*?$|<!-- commands, .*?<!-- end -->", "", outside_blocks(page), flags=re.M | re.S)
     for found in re.findall(r"`([^`\n]+)`", text):
         word = found.split()[0]
         files = [file for file in (TOP / word, TOP / os.path.dirname(page) / word) if "/" in word and file.is_file()]
@@ -49,7 +50,7 @@ def inline(page):
 
 def indented(page):
     """Yields each indented block: its section, its number in it, and its lines."""
-    for part in re.split(r"^#+ ", re.sub(r"^```.*?^```", "", text_of(page), flags=re.M | re.S), flags=re.M):
+    for part in re.split(r"^#+ ", outside_blocks(page), flags=re.M):
         for number, block in enumerate(re.findall(r"(?:^ {4}.*\n(?:\n(?= {4}))?)+", part, flags=re.M), 1):
             yield part.partition("\n")[0], number, [line.strip() for line in block.splitlines() if line.strip()]
 

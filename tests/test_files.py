@@ -6,8 +6,9 @@ and no input has changed, except by `fmt` in its white space; owner, group and m
 After a signal a file that was written in place may be half written, if the new one is whole beside it (notes/attacks.md).
 """
 import collections
-import functools
+import contextlib
 import os
+import pathlib
 import random
 import shutil
 import signal
@@ -20,6 +21,7 @@ import time
 import pytest
 from hypothesis import given
 from support import making
+from support.files import OLDER
 from support.program import TOP, limited_output, run
 
 TEXTS = {name: f'{name}{{a{{"{name}"}}}}'.encode() for name in ("de", "fr", "it")}
@@ -27,15 +29,10 @@ TEXTS["big"] = b"big{" + b"".join(b'k%d{"a string of some length"}' % i for i in
 NOBODY, UNFINISHED = 65534, ".resb-unfinished-"
 
 
-@functools.cache
-def bundles_of(program):
-    """Returns the file of each text."""
-    return {name: run([program, "compile", "-", "-"], data).stdout for name, data in TEXTS.items()}
-
-
-@pytest.fixture
+@pytest.fixture(scope="module")
 def bundles(program):
-    return bundles_of(program)
+    """The file of each text."""
+    return {name: run([program, "compile", "-", "-"], data).stdout for name, data in TEXTS.items()}
 
 
 def bare(data):
@@ -110,10 +107,8 @@ def test_another_owner(resb, bundles, name, words):
     path, before = resb.folder / name, resb.get(name)
     os.chown(path, NOBODY, 65533)
     path.chmod(0o640)
-    try:
+    with contextlib.suppress(OSError):
         os.setxattr(path, "user.note", b"1")
-    except OSError:
-        pass
     if shutil.which("setfacl"):
         subprocess.run(["setfacl", "-m", "u:1:rw", path], check=True)
     granted, state = rights(path), path.stat()
@@ -202,7 +197,6 @@ Seen = collections.namedtuple("Seen", "mode owner group data file")
 
 
 def build(chance, folder, bundles):
-    """Fills a folder."""
     for name in ("sub", "closed"):
         (folder / name).mkdir(parents=True)
     for name, data in TEXTS.items():
@@ -215,10 +209,8 @@ def build(chance, folder, bundles):
         elif kind < 0.6:
             path.symlink_to(chance.choice((*NAMES, *SPECIAL[1:], "../d.txt", "../a.res", str(folder / "b.res"), "nowhere")) or "x")
         elif kind < 0.68:
-            try:
+            with contextlib.suppress(OSError):
                 os.link(folder / chance.choice(("de.txt", "it.rb", "a.res", "b.res", "f.rb")), path)
-            except OSError:
-                pass
         elif kind < 0.72 and os.geteuid() == 0:
             os.mknod(path, stat.S_IFCHR | 0o666, os.makedev(1, 3))
     if chance.random() < 0.1:
@@ -232,13 +224,9 @@ def paths_in(folder):
 def seen(folder):
     """Returns what is in a folder: of each name its mode, owner and group, its bytes or where it leads, and which file it is."""
     found = {}
-    for path in paths_in(folder):
-        state, data = os.lstat(path), b""
-        if stat.S_ISLNK(state.st_mode):
-            data = os.fsencode(os.readlink(path))
-        elif stat.S_ISREG(state.st_mode):
-            with open(path, "rb") as file:
-                data = file.read()
+    for path in map(pathlib.Path, paths_in(folder)):
+        state = path.lstat()
+        data = os.fsencode(os.readlink(path)) if path.is_symlink() else path.read_bytes() if path.is_file() else b""
         found[os.path.relpath(path, folder)] = Seen(state.st_mode, state.st_uid, state.st_gid, data, state.st_ino)
     return found
 
@@ -279,7 +267,6 @@ class Attack:
         return str(path) if path.is_file() and not path.is_symlink() else os.devnull
 
     def prepare(self):
-        """Returns a function that limits the files of the process, and makes it another user's."""
         most = self.chance.choice((None, None, 0, 40, 8192))
 
         def limits():
@@ -293,7 +280,6 @@ class Attack:
         return limits
 
     def run(self):
-        """Runs the command, and returns its status and whether a signal ended it."""
         if os.geteuid() == 0:
             for path in [self.folder, *paths_in(self.folder)]:
                 if self.chance.random() < (0.8 if self.as_user else 0.3):
@@ -313,7 +299,6 @@ class Attack:
         self.is_killed = is_signalled and self.status < 0
 
     def compare(self):
-        """Compares the folder with what it was."""
         after = seen(self.folder)
         half = [new.data for name, new in after.items() if name not in self.before and UNFINISHED in name] if self.is_killed else []
         assert set(self.before) - set(after) == set(), "a name is gone"
@@ -328,8 +313,7 @@ class Attack:
             self.compare_written()
 
     def compare_file(self, name, old, new, half, is_text):
-        """Compares a file that has changed; `half` are the new files beside those that a signal left half written. A signal may also come after the file
-        was written."""
+        """Compares a changed file; `half` are the new files beside those that a signal left half written, though it may also come later."""
         has_force = "--force" in self.words
         assert stat.S_ISREG(old.mode) and new.mode == old.mode, f"{name} was {old.mode:o} and is {new.mode:o}"
         assert (new.owner, new.group) == (old.owner, old.group) or has_force, f"{name} was {old.owner}'s and is {new.owner}'s"
@@ -341,7 +325,6 @@ class Attack:
         assert self.status == 0 or self.is_killed or self.words[1] == "--to", f"{name} has changed, and the status is not 0"
 
     def inputs(self):
-        """Returns the names of the files that the command reads."""
         texts = self.words[3:] if self.words[1] == "--to" else self.words[1:2]
         real = {os.path.realpath(self.folder / (text or "in")) for text in texts if text not in ("-", "/dev/stdin", "/dev/fd/0")}
         if len(real) < len(texts):
@@ -349,23 +332,21 @@ class Attack:
         return {os.path.relpath(path, self.folder) for path in real}
 
     def compare_written(self):
-        """Checks that OUT has the right bytes."""
         path = followed(os.path.join(self.folder, self.words[2]))
         if self.words[2] == "-" or path in ("/dev/stdout", "/dev/fd/1", "/proc/self/fd/1") or os.path.realpath(self.target) == os.path.realpath(path):
             path = self.target
         if os.path.isfile(path) and not path.startswith(("/dev", "/proc")):
-            with open(path, "rb") as file:
-                data = file.read()
+            data = pathlib.Path(path).read_bytes()
             assert any(data.startswith(whole) for whole in self.files), f"{path} has {data[:80]!r}, and the status is 0"
 
 
 @making.times(2)
 @given(making.sources)
-def test_random_commands(shared, chance):
-    folder, bundles = shared.folder / "in", list(bundles_of(shared.program).values())
+def test_random_commands(shared, bundles, chance):
+    folder = shared.folder / "in"
     shutil.rmtree(folder, ignore_errors=True)
-    build(chance, folder, bundles)
-    attack = Attack(shared.program, folder, chance, bundles)
+    build(chance, folder, bundles.values())
+    attack = Attack(shared.program, folder, chance, bundles.values())
     attack.run()
     try:
         attack.compare()
@@ -377,116 +358,78 @@ def test_random_commands(shared, chance):
 
 LONG = b"root{" + b"".join(b'key%06d{"value"}' % i for i in range(40_000)) + b"}"
 VICTIM = b'victim{a{"keep me"}}'
-# the file of `root{}` (FORMAT.md), which may be replaced
-OLDER = bytes.fromhex("2000DA2714000000000002005265734201010000000000000000000000000000000000200500000006000000060000000600000000000000")
 SECONDS = 5
 
 
-class Race:
-    """A folder that changes while a command runs in it, over and over."""
+def linked(target, name):
+    """Makes a link beside a name, and gives it the name at once."""
+    other = f"swap{random.randrange(1 << 30)}"
+    os.symlink(target, other)
+    os.replace(other, name)
 
-    def __init__(self, resb):
-        self.resb, self.folder, self.is_done = resb, resb.folder, False
 
-    def placed(self, make, name):
-        """Returns a step that makes a file or a link beside a name, and gives it the name at once."""
-        def step():
-            other = self.folder / f"swap{random.randrange(1 << 30)}"
-            make(other)
-            os.replace(other, self.folder / name)
+def placed(data, name):
+    other = f"swap{random.randrange(1 << 30)}"
+    written(other, data)
+    os.replace(other, name)
 
-        return step
 
-    def toggle(self, steps):
-        while not self.is_done:
-            for step in steps:
-                try:
-                    step()
-                except OSError:
-                    pass
+def written(name, data, mode="wb"):
+    with open(name, mode) as out:
+        out.write(data)
+
+
+def is_kept(name):
+    return lambda resb: resb.get(name) == VICTIM
+
+
+def is_older_or_new(resb):
+    return resb.get("o.res") in (OLDER, resb.get("wanted.res"))
+
+
+# what `compile` is given, the files that are there, the steps that are taken over and over, and what must hold after each run
+RACES = {
+    "OUT is a file, nothing, or a link to a text": (
+        ["long.txt", "o.res"], {}, [(linked, "victim.txt", "o.res"), (os.unlink, "o.res"), (placed, OLDER, "o.res")], is_kept("victim.txt")),
+    "OUT is nothing, or a second name of a text": (
+        ["long.txt", "o.res"], {}, [(os.link, "victim.txt", "o.res"), (os.unlink, "o.res")], is_kept("victim.txt")),
+    "the folder of --to is renamed, and a link to the folder of the texts has its name for a while": (
+        ["--to", "d", "long.txt"], {"d/other": b"", "texts/long.txt": VICTIM},
+        [(os.rename, "d", "d2"), (os.symlink, "texts", "d"), (os.unlink, "d"), (os.rename, "d2", "d")], is_kept("texts/long.txt")),
+    "OUT is replaced by an older file": (["long.txt", "o.res"], {"o.res": OLDER}, [(placed, OLDER, "o.res")], is_older_or_new),
+    "the text grows and is cut": (
+        ["grows.txt", "o.res"], {"grows.txt": LONG, "o.res": OLDER},
+        [*[(written, "grows.txt", b"/* more */" * 1000, "ab")] * 2, (os.truncate, "grows.txt", len(LONG) // 2), (written, "grows.txt", LONG)],
+        lambda resb: resb.get("o.res") == OLDER or resb("check", "o.res").status == 0),
+    "IN is a text, or a link to OUT": (
+        ["in.txt", "o.res"], {"in.txt": LONG, "o.res": OLDER}, [(linked, "o.res", "in.txt"), (placed, LONG, "in.txt")], is_older_or_new),
+}
+
+
+@pytest.mark.hand
+@pytest.mark.parametrize("words, files, steps, is_whole", RACES.values(), ids=RACES)
+def test_race(resb, monkeypatch, words, files, steps, is_whole):
+    """A folder changes while a command runs in it, over and over."""
+    monkeypatch.chdir(resb.folder)
+    for name, data in {"long.txt": LONG, "victim.txt": VICTIM, **files}.items():
+        resb.put(name, data)
+    resb.output("compile", "-q", "long.txt", "wanted.res")
+    is_done, end = threading.Event(), time.monotonic() + SECONDS
+
+    def change():
+        while not is_done.is_set():
+            for step, *names in steps:
+                with contextlib.suppress(OSError):
+                    step(*names)
                 time.sleep(random.random() * 0.004)
 
-    def run(self, words, steps, is_whole):
-        """Runs a command while the steps are taken; after each run `is_whole` must hold."""
-        changer = threading.Thread(target=self.toggle, args=(steps,))
-        changer.start()
-        end = time.monotonic() + SECONDS
-        try:
-            while time.monotonic() < end:
-                self.resb(*words, timeout=60)
-                assert is_whole()
-        finally:
-            self.is_done = True
-            changer.join()
-        assert is_whole()
-
-
-@pytest.fixture
-def race(resb):
-    put(resb, long_txt=LONG, victim_txt=VICTIM)
-    return Race(resb)
-
-
-def is_kept(race, name):
-    return lambda: race.resb.get(name) == VICTIM
-
-
-def is_older_or_new(race):
-    race.resb.output("compile", "-q", "long.txt", "wanted.res")
-    return lambda: race.resb.get("o.res") in (OLDER, race.resb.get("wanted.res"))
-
-
-def older(path):
-    path.write_bytes(OLDER)
-
-
-@pytest.mark.hand
-def test_link_to_a_text(race):
-    """OUT alternates between a file, nothing, and a link to a text."""
-    steps = [race.placed(lambda path: path.symlink_to("victim.txt"), "o.res"), lambda: os.unlink(race.folder / "o.res"), race.placed(older, "o.res")]
-    race.run(["compile", "long.txt", "o.res"], steps, is_kept(race, "victim.txt"))
-
-
-@pytest.mark.hand
-def test_hard_link_to_a_text(race):
-    """OUT alternates between nothing and a second name of a text."""
-    steps = [lambda: os.link(race.folder / "victim.txt", race.folder / "o.res"), lambda: os.unlink(race.folder / "o.res")]
-    race.run(["compile", "long.txt", "o.res"], steps, is_kept(race, "victim.txt"))
-
-
-@pytest.mark.hand
-def test_folder_by_link(race):
-    """The folder of `--to` is renamed, and a link to the folder of the texts has its name for a while."""
-    (race.folder / "d").mkdir()
-    put(race.resb, texts__long_txt=VICTIM)
-    steps = [lambda: os.rename(race.folder / "d", race.folder / "d2"), lambda: os.symlink("texts", race.folder / "d"),
-             lambda: os.unlink(race.folder / "d"), lambda: os.rename(race.folder / "d2", race.folder / "d")]
-    race.run(["compile", "--to", "d", "long.txt"], steps, is_kept(race, "texts/long.txt"))
-
-
-@pytest.mark.hand
-def test_older_or_new(race):
-    """OUT is replaced by an older file while it is written: it is never anything else."""
-    put(race.resb, o_res=OLDER)
-    race.run(["compile", "long.txt", "o.res"], [race.placed(older, "o.res")], is_older_or_new(race))
-
-
-@pytest.mark.hand
-def test_growing_text(race):
-    """The text grows and is cut while it is read."""
-    def grow():
-        with open(race.folder / "grows.txt", "ab") as out:
-            out.write(b"/* more */" * 1000)
-
-    put(race.resb, grows_txt=LONG, o_res=OLDER)
-    steps = [grow, grow, lambda: os.truncate(race.folder / "grows.txt", len(LONG) // 2), lambda: put(race.resb, grows_txt=LONG)]
-    race.run(["compile", "grows.txt", "o.res"], steps, (race.folder / "o.res").exists)
-    assert race.resb.get("o.res") == OLDER or race.resb("check", "o.res").status == 0
-
-
-@pytest.mark.hand
-def test_text_by_link(race):
-    """IN alternates between a text and a link to OUT."""
-    put(race.resb, in_txt=LONG, o_res=OLDER)
-    steps = [race.placed(lambda path: path.symlink_to("o.res"), "in.txt"), race.placed(lambda path: path.write_bytes(LONG), "in.txt")]
-    race.run(["compile", "in.txt", "o.res"], steps, is_older_or_new(race))
+    changer = threading.Thread(target=change)
+    changer.start()
+    try:
+        while time.monotonic() < end:
+            resb("compile", *words, timeout=60)
+            assert is_whole(resb)
+    finally:
+        is_done.set()
+        changer.join()
+    assert is_whole(resb)

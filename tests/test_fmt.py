@@ -5,6 +5,7 @@ that `resb text` prints is formatted already; differences apply by `patch`. Then
 that changes meanwhile.
 """
 import os
+import re
 import shutil
 import subprocess
 import threading
@@ -15,30 +16,14 @@ from support import making
 from support.program import TOP, Skipped, run
 
 OWN = sorted(str(path.relative_to(TOP)) for path in (TOP / "examples").rglob("*.txt"))
+# an escape, a quoted string, or a comment, which is the group
+COMMENT = re.compile(r'\\.|"(?:\\.|[^"\\])*"|(//[^\n\r\u2029]*(?<![ \t])|/\*.*?\*/)', re.S)
 UNFORMATTED, FORMATTED = b'de{a{"x"}}', b'de {\n    a { "x" }\n}\n'
 
 
 def comments(text):
-    """Yields the comments of a text, each without its line end and the blanks before that."""
-    at = 0
-    while at < len(text):
-        if text[at] == "\\":
-            at += 2
-        elif text[at] == '"':
-            at += 1
-            while text[at] != '"':
-                at += 2 if text[at] == "\\" else 1
-            at += 1
-        elif text.startswith("//", at):
-            past = min([i for i in (text.find(end, at) for end in "\n\r\u2029") if i >= 0], default=len(text))
-            yield text[at:past].rstrip(" \t")
-            at = past
-        elif text.startswith("/*", at):
-            past = text.index("*/", at + 2) + 2
-            yield text[at:past]
-            at = past
-        else:
-            at += 1
+    """Returns the comments of a text, each without its line end and the blanks before that."""
+    return [found[1] for found in COMMENT.finditer(text) if found[1]]
 
 
 def check_texts(resb, texts):
@@ -48,20 +33,18 @@ def check_texts(resb, texts):
     check_differences(resb, names, texts, formatted)
     assert resb.output("fmt", "-q", *names) == b"" and list(map(resb.get, names)) == formatted
     assert resb.output("fmt", "--check", *names) == b"" and compiled(resb, names) == before
-    assert [list(comments(text.decode())) for text in texts] == [list(comments(text.decode())) for text in formatted]
+    assert [comments(text.decode()) for text in texts] == [comments(text.decode()) for text in formatted]
     printed = [resb.put(f"p{at}.txt", resb.output("text", resb.put("p.res", data))) for at, data in enumerate(before)]
     assert resb.output("fmt", "--check", *printed) == b""
 
 
 def compiled(resb, names):
-    """Returns the files of texts."""
     (resb.folder / "files").mkdir(exist_ok=True)
     resb.output("compile", "-q", "--to", "files", *names)
     return [resb.get("files/" + name.replace(".txt", ".res")) for name in names]
 
 
 def check_differences(resb, names, texts, formatted):
-    """Applies the differences with patch, if it is installed."""
     done, changed = resb("fmt", "--diff", *names), texts != formatted
     assert (done.status, done.stderr, bool(done.stdout)) == (int(changed), b"", changed)
     if changed and shutil.which("patch"):
@@ -125,8 +108,7 @@ def test_read_only_file(resb):
 
 
 def test_race(resb):
-    """A text that changes while it is formatted stays, or is formatted. A change between the program's last look and its renaming is lost, which
-    happens in about one of a hundred runs."""
+    """A text that changes meanwhile stays, or is formatted; a change after the program's last look, in about one of a hundred runs, is lost."""
     path, changed = resb.folder / "race.txt", b"de{changed{\"y\"}}"
     large = b"de{" + b"".join(b"k%d{\"x\"}" % i for i in range(40000)) + b"}"
     formatted, lost = resb.output("fmt", "-", stdin=changed), 0

@@ -4,8 +4,8 @@ A machine of hypothesis draws a start, limits and line after line; a running ser
 each application by itself, which must get the replies that it had among the others; killed in mid-stream; over outputs and inputs that fail; with little
 memory. `pytest tests -k histories --hypothesis-profile long` runs for hours, with new cases each time.
 """
+import contextlib
 import functools
-import json
 import os
 import signal
 import subprocess
@@ -16,21 +16,15 @@ from hypothesis import strategies as st
 from hypothesis.stateful import RuleBasedStateMachine, initialize, rule, run_state_machine_as_test
 from model import extended, files, lookups, texts
 from model.server import Limits
-from model.trees import gotten, is_printable, units_of, walk
+from model.trees import gotten, is_printable, units_of
 from support import histories, making
+from support.files import OLDER
 from support.making import sources
 from support.program import MEGABYTE, Outcome, least_memory, limited, limited_output
-from support.server import Server
+from support.server import Server, line_of
 from support.texts import big
 
 MEMORY, TOO_MANY_APPS = b'{"error":"Memory"}\n', b'{"error":"TooManyApps"}\n'
-
-# The file of `root{}`, which a command may replace.
-OLDER = bytes.fromhex("2000da2714000000000002005265734201010000" + "00" * 12 + "0000002005000000060000000600000006000000" + "00" * 4)
-
-
-def joined(lines):
-    return b"".join(line + b"\n" for line in lines)
 
 
 def alone(machine, random):
@@ -46,18 +40,16 @@ def alone(machine, random):
 
 def feed(process, source):
     """Writes an input to a process that may be gone."""
-    try:
+    with contextlib.suppress(OSError):
         process.stdin.write(source)
         process.stdin.close()
-    except OSError:
-        pass
 
 
 def interrupted(machine, random, end):
     """Reads some bytes of the replies, ends the server or the pipe, and returns what was written, the status and standard error."""
     process = subprocess.Popen([machine.resb.program, "serve", *machine.words()], cwd=machine.resb.folder, stdin=subprocess.PIPE, stdout=subprocess.PIPE,
                                stderr=subprocess.PIPE)
-    feeder = threading.Thread(target=feed, args=(process, joined(machine.history.lines)))
+    feeder = threading.Thread(target=feed, args=(process, b"\n".join([*machine.history.lines, b""])))
     feeder.start()
     output = process.stdout.read(random.randrange(len(machine.output()) + 1)) + (end(process) or b"")
     feeder.join()
@@ -68,7 +60,6 @@ def interrupted(machine, random, end):
 
 
 def killed(machine, random):
-    """Kills the server: what it wrote is the beginning of the replies."""
     output, _, _ = interrupted(machine, random, lambda process: process.kill() or process.stdout.read())
     assert machine.begins(output)
 
@@ -99,17 +90,10 @@ def short_file(machine, random):
 
 
 def unreadable_input(machine, random):
-    """Serves from a folder."""
     source = os.open(machine.resb.folder, os.O_RDONLY)
     done = machine.resb("serve", *machine.words(), stdin=source)
     os.close(source)
     assert done == Outcome(1, b"", b"Read\n")
-
-
-def with_big_bundles(history):
-    """Returns 20 installs of 40,000 bytes before a history's lines."""
-    request = {"op": "install", "app": "big", "text": big(1500)}
-    return [json.dumps({**request, "locale": f"xy_{i}"}).encode() for i in range(20)] + history.lines
 
 
 def little_memory(machine, random):
@@ -117,7 +101,9 @@ def little_memory(machine, random):
     out otherwise, `Memory` is reported after whole replies to the first lines."""
     history = machine.history
     limits = Limits(random.random() < 0.5, reply_bytes=history.limits.reply_bytes, steps=history.limits.steps)
-    server, lines = machine.start.server(limits, history.is_extended), with_big_bundles(history)
+    # 20 installs of 40,000 bytes come first
+    server, request = machine.start.server(limits, history.is_extended), {"op": "install", "app": "big", "text": big(1500)}
+    lines = [*(line_of({**request, "locale": f"xy_{i}"}) for i in range(20)), *history.lines]
     size = least_memory(machine.resb.program) + random.randrange(4 * MEGABYTE)
     done = machine.serve(lines, limits.arguments(), preexec_fn=limited(size))
     given = done.stdout.splitlines(keepends=True)
@@ -175,14 +161,12 @@ class Histories(RuleBasedStateMachine):
         return extended.blurred(wanted, given) if self.history.is_extended else given
 
     def output(self):
-        """Returns all replies that the server gave."""
         return b"".join(self.server.replies)
 
     def begins(self, output):
         return self.output().startswith(output)
 
     def teardown(self):
-        """Ends the server, and lets actors replay the history."""
         if self.server is None:
             return
         status = self.server.end()
@@ -239,11 +223,7 @@ def test_checked_file(shared, random):
 
 
 def get_item(resb, random, file, tree):
-    """Gets an item at a path."""
-    parts, item = [], tree
-    while item and item[0] in ("table", "array") and item[1] and random.random() < 0.8:
-        parts.append(random.choice(list(item[1])) if item[0] == "table" else str(random.randrange(len(item[1]))))
-        item = (walk(tree, parts) or (None,))[0]
+    parts = making.random_path(random, tree, 0.8)
     asked = "/".join(parts) if random.random() < 0.8 else random.choice(making.PATHS)
     if not asked.startswith("-"):
         wanted, is_there = gotten(tree, asked)
@@ -253,7 +233,6 @@ def get_item(resb, random, file, tree):
 
 def start_error(entries):
     """Returns the locale and the code with which a start is refused, or None."""
-    names = set()
     for locale, is_text, content, _ in entries:
         try:
             texts.read(content) if is_text else files.read(content)
@@ -261,9 +240,6 @@ def start_error(entries):
             return locale, "BadText"
         except files.BadFile:
             return locale, "BadFile"
-        if locale in names:
-            return locale, "Twice"
-        names.add(locale)
     return None
 
 
@@ -282,7 +258,6 @@ def test_damaged_start(shared, random):
 
 @given(sources)
 def test_odd_parents(shared, random):
-    """Starts with explicit parents of any shape."""
     tree = making.random_table(random, 2)
     names = random.sample(making.LOCALES + making.BAD_LOCALES[:2], 4)
     values = [("array", [("string", units_of(random.choice(names)))] * random.choice((0, 1, 1, 2))), ("string", units_of(names[0])), making.random_leaf(random)]
@@ -301,7 +276,6 @@ def test_odd_parents(shared, random):
 
 @functools.lru_cache
 def big_files():
-    """Returns a text of about 600,000 bytes, and its file."""
     text = big(20000).encode()
     return text, files.write(texts.read(text))
 
@@ -309,7 +283,6 @@ def big_files():
 @making.times(0.3)
 @given(sources)
 def test_little_memory_for_files(shared, random):
-    """Compiles and checks with little memory."""
     (text, data), least = big_files(), least_memory(shared.program)
     source, target = shared.put("big.txt", text), shared.put("big.res", OLDER)
     done = shared("compile", source, target, preexec_fn=limited(least + random.randrange(24 * MEGABYTE)))

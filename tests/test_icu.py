@@ -24,7 +24,6 @@ BATCH, DERB_SECONDS = 40, 20
 
 @pytest.fixture(scope="module")
 def data(tmp_path_factory):
-    """The package of ICU's data."""
     return icu.package(tmp_path_factory.mktemp("package"))
 
 
@@ -42,7 +41,6 @@ def bytes_of(path):
 
 
 def same_tree(first, second):
-    """Returns whether two files have one tree."""
     return first == second or files.read(first)[0][0] == files.read(second)[0][0]
 
 
@@ -226,11 +224,6 @@ MARKER = "\u2205\u2205\u2205"
 LOOKUPS = 20000
 
 
-def strings(tree):
-    """Yields the paths of strings in a tree, which have no key that a path can't name."""
-    return ("/".join(parts) for parts, (kind, _) in leaves(tree) if kind == "string" and not any("/" in part for part in parts))
-
-
 class Tree:
     """The bundles of a tree, in both servers."""
 
@@ -275,7 +268,9 @@ def test_all_of_cldr(program, data, icu_server, tmp_path):
     names, counts, parents = {name for tree in trees for name in tree.files}, collections.Counter(), ("--parents", tmp_path / "main" / "supplementalData.txt")
     names = sorted(names | {f"{name}_ZZ" for name in names})
     for tree in trees:
-        paths = sorted({path for file in tree.files.values() for path in strings(files.read(file)[0][0])})
+        items = (leaf for file in tree.files.values() for leaf in leaves(files.read(file)[0][0]))
+        # a path can't name a key that has a slash
+        paths = sorted({"/".join(parts) for parts, (kind, _) in items if kind == "string" and not any("/" in part for part in parts)})
         chosen = random.Random(tree.name)
         asked = [(chosen.choice(names), chosen.choice(paths)) for _ in range(LOOKUPS)]
         both = list(zip(asked, tree.ours(asked, *parents), tree.theirs(asked), strict=True))

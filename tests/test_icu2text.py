@@ -2,8 +2,6 @@
 pools, packages, each refusal, and 400 files with random damage, whose texts `resb compile` must take, `resb fmt` leaves alone and `resb text` prints of
 the compiled file, except the signs of Ints.
 """
-import importlib.machinery
-import importlib.util
 import os
 import random
 import re
@@ -11,7 +9,8 @@ import struct
 import sys
 
 import pytest
-from support.program import TOP, Outcome, run
+from model.trees import units_of
+from support.program import TOP, Outcome, Resb, loaded, run
 
 TOOL = TOP / "tools" / "icu2text"
 STRING, BINARY, TABLE, ALIAS, TABLE32, TABLE16, STRING_V2, INT, ARRAY, ARRAY16, VECTOR = (*range(10), 14)
@@ -20,11 +19,6 @@ CHECKSUM, MOST = 0xC0FFEE, 8388608
 DAMAGED = 400
 # the texts of the files that `everything` and `user` make
 EVERYTHING, USER = ((TOP / "tests" / "icu2text" / f"{name}.txt").read_text("utf-8") for name in ("everything", "user"))
-
-
-def units_of(text):
-    data = text.encode("utf-16-le", "surrogatepass")
-    return struct.unpack(f"<{len(data) // 2}H", data)
 
 
 def head(order, version, kind=b"ResB"):
@@ -55,7 +49,6 @@ class File:
         return 1 + self.indexes + (len(self.keys) + len(self.units) + len(self.values)) // 4
 
     def put(self, kind, *parts):
-        """Returns an item with these bytes."""
         item = kind << 28 | self.words()
         data = b"".join(parts)
         self.values += data + b"\xaa" * (-len(data) % 4)
@@ -72,7 +65,6 @@ class File:
         return self.table_of(map(self.key, items), items.values())
 
     def table_of(self, keys, items):
-        """Returns a table by the offsets of its keys."""
         keys, items = list(keys), list(items)
         return self.put(TABLE, self.pack("H", len(keys), *keys, *[0] * (1 - len(keys) % 2)), self.pack("I", *items))
 
@@ -144,26 +136,15 @@ def package(items, order="<", version=(1, 0)):
 # ---- the tool in a folder
 
 
-def loaded():
-    """Returns the tool as a module, so that a run of it takes no new interpreter."""
-    loader = importlib.machinery.SourceFileLoader("icu2text", str(TOOL))
-    module = importlib.util.module_from_spec(importlib.util.spec_from_loader("icu2text", loader))
-    loader.exec_module(module)
-    return module
-
-
-class Tool:
-    """The tool in a separate folder: its texts go to `texts`."""
+class Tool(Resb):
+    """The tool in a separate folder, as a module, so that a run of it takes no new interpreter: its texts go to `texts`."""
 
     def __init__(self, folder, capsys, monkeypatch):
-        self.folder, self.capsys, self.monkeypatch, self.module = folder, capsys, monkeypatch, loaded()
+        super().__init__(TOOL, folder)
+        self.capsys, self.monkeypatch, self.module = capsys, monkeypatch, loaded("icu2text", TOOL)
 
     def save(self, name, data):
-        """Writes a file and returns its path."""
-        path = self.folder / name
-        path.parent.mkdir(parents=True, exist_ok=True)
-        path.write_bytes(data)
-        return str(path)
+        return str(self.folder / self.put(name, bytes(data)))
 
     def texts(self):
         return {str(path.relative_to(self.folder / "texts")): path.read_text(encoding="utf-8") for path in (self.folder / "texts").rglob("*") if path.is_file()}
@@ -179,7 +160,6 @@ class Tool:
         return status, self.capsys.readouterr().err, self.texts()
 
     def text(self, data):
-        """Returns the text of a file that must have one."""
         status, printed, texts = self(self.save("de.res", data))
         assert (status, printed) == (0, "")
         return texts["de.txt"]
@@ -354,7 +334,6 @@ def refusals():
     yield File((2, 0)).end(units=100), "don't ascend"
     yield File((2, 0), units=[1, 0]).end(), "16-bit units that don't begin with 0"
     yield File((1, 2), attributes=IS_POOL).end(), "in format 1 or without a checksum"
-    # items
     yield from ((of_one(kind << 28 | 1), A_TYPE) for kind in (10, 11, 12, 13, 15))
     for kind in TABLE16, STRING_V2, ARRAY16:
         yield from ((of_one(kind << 28, (1, 3)), A_TYPE), (of_one(kind << 28 | 2), "of which there are 0"))
@@ -366,7 +345,6 @@ def refusals():
     file = File((2, 0), keys="a")
     yield file.end(file.put(TABLE32, file.pack("I", 1, file.key("a")))), "3 words of a value, of which there are 2"
     yield from ((File((2, 0)).end(INT << 28), "a root item of the type INT"), (File((2, 0)).end(15 << 28), A_TYPE))
-    # units
     for units, what in ((0, 65), "goes past the end"), ((0, 0xDC01, 65, 66), "has no zero after it"), ((0, 0xDC09, 65, 0), "goes past the end"), \
             ((0, 0xDFEF), UNITS), ((0, 0xDFFF), UNITS):
         yield of_one(STRING_V2 << 28 | 1, units=units), what
@@ -568,7 +546,6 @@ def test_a_pipe(place):
 
 
 def damaged(chosen, data, places):
-    """Returns a file with other bytes at some places."""
     data = bytearray(data)
     for _ in range(places):
         place = chosen.randrange(len(data)) if chosen.random() < 0.2 else chosen.randrange(32, len(data))

@@ -24,7 +24,6 @@ def is_leaf(value):
 
 
 def leaves(value, parts):
-    """Yields the paths of a value's leaves, each with the leaf."""
     if is_leaf(value):
         yield parts, value
     else:

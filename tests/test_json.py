@@ -63,7 +63,6 @@ def odd_tree(random):
 
 
 def shuffled(random, value):
-    """Returns a value with the members of its objects in another order."""
     if isinstance(value, list):
         return [shuffled(random, item) for item in value]
     if isinstance(value, dict):
@@ -95,7 +94,6 @@ def test_random_tree(shared, tree, random):
 
 
 def nested(levels):
-    """Returns a table of this many levels, of arrays and tables in turn."""
     tree = ("int", 1)
     for level in range(levels - 1, 1, -1):
         tree = ("array", [tree]) if level % 2 else ("table", {"k": tree})
@@ -126,7 +124,6 @@ def test_shared_items(resb, levels, status):
 def refused(resb, data, said):
     done = resb("compile", "--json", resb.put("bad.json", data), "none.res")
     assert done == (1, b"", f"bad.json:{said}\n".encode()) and resb.get("none.res") is None
-    return done
 
 
 def no_constant(word):
@@ -161,7 +158,6 @@ def test_alike(resb, one, other):
 
 
 def arrays(levels):
-    """Returns the JSON of a tree of this many levels, of arrays in the root."""
     return b'{"a":' + b"[" * (levels - 1) + b"]" * (levels - 1) + b"}"
 
 

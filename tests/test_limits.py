@@ -5,13 +5,12 @@ are invalid. In test_histories an application beside others that are at their li
 import collections
 import itertools
 import random
-import tempfile
 import time
 
 import pytest
 from model import files
 from support.program import MEGABYTE, Skipped, least_memory, limited, limited_output, rows
-from support.server import SETTINGS, Server, limit_words, line_of, reply_of
+from support.server import SETTINGS, Server, line_of, reply_of
 from support.texts import big
 
 READER = 8192  # the bytes of the reader's buffer
@@ -24,36 +23,19 @@ TEXT = 'de{a{"b"}}'  # 10 bytes, and its file 76
 FOUND = {"actual": "de", "type": "string", "valid": "de", "value": "b"}  # a line of 57 bytes
 
 
+def asking(op, *names):
+    """Returns a function that makes requests of the values of these members, and of further members."""
+    return lambda *values, **further: {"op": op, **dict(zip(names, values)), **further}
+
+
+names, usage, remove = asking("list", "app"), asking("usage", "app"), asking("remove", "app", "locale")
+look, tree = asking("look", "app", "locale", "path"), asking("tree", "app", "locale")
+install, replace = (asking(op, "app", "locale", "text") for op in ("install", "replace"))
+install_file = asking("install", "app", "locale", "file")
+
+
 def refused(word):
     return {"error": word}
-
-
-def install(app, locale, text=TEXT):
-    return {"op": "install", "app": app, "locale": locale, "text": text}
-
-
-def install_file(app, locale, digits):
-    return {"op": "install", "app": app, "locale": locale, "file": digits}
-
-
-def replace(app, locale, text=TEXT):
-    return {"op": "replace", "app": app, "locale": locale, "text": text}
-
-
-def remove(app, locale):
-    return {"op": "remove", "app": app, "locale": locale}
-
-
-def names(app):
-    return {"op": "list", "app": app}
-
-
-def look(app, locale, path):
-    return {"op": "look", "app": app, "locale": locale, "path": path}
-
-
-def usage(app):
-    return {"op": "usage", "app": app}
 
 
 def used(size, count):
@@ -61,13 +43,11 @@ def used(size, count):
 
 
 def served(resb, arguments, lines, **options):
-    """Serves requests; returns the status, the replies and standard error."""
     status, stdout, stderr = resb.serve(map(line_of, lines), *arguments, **options)
     return status, stdout.splitlines(keepends=True), stderr
 
 
 def serves(resb, arguments, pairs):
-    """Compares the replies to requests."""
     status, replies, errors = served(resb, arguments, [request for request, _ in pairs])
     for (request, wanted), given in zip(pairs, replies):
         assert given == reply_of(wanted), (arguments, line_of(request)[:300])
@@ -75,7 +55,6 @@ def serves(resb, arguments, pairs):
 
 
 def putting(locale, text=TEXT):
-    """A change of a release."""
     return {"locale": locale, "text": text}
 
 
@@ -91,10 +70,6 @@ TREE = {"actual": "de", "tree": {"a": "b"}, "valid": "de"}  # a line of 46 bytes
 TREE_LIMIT = 33_554_432
 
 
-def tree(app, locale, **path):
-    return {"op": "tree", "app": app, "locale": locale, **path}
-
-
 def long_tree(missing):
     """Returns a bundle whose tree has this many bytes fewer than the most, and the tree."""
     text, rest = "x" * 986_000, "y" * (30_120 - missing)
@@ -106,22 +81,16 @@ def long_tree(missing):
     return install("long", "root", bundle), {"actual": "root", "tree": value, "valid": "root"}
 
 
-ONE = (install("shop", "de"), OK)
-
-
-def line_in(row):
-    """Returns a request of a row; a text is the line itself."""
-    return row.encode() if isinstance(row, str) else row
+ONE = (install("shop", "de", TEXT), OK)
 
 
 @pytest.mark.parametrize("row", rows("limits/at_values.jsonl"), ids=lambda row: f"{row['limit']}={row['value']}")
 def test_at_value(resb, row):
-    """Each limit at its value and one above is kept, and one below refuses, if the row has an error. The sum of a
-    release counts at its end."""
+    """Each limit at its value and one above is kept, and one below refuses, if the row has an error; the sum of a release counts at its end."""
     for number in range(max(row["value"] - ("error" in row), 1), row["value"] + 2):
         answer = row["error"] if number < row["value"] else row["answer"]
         words = [*row.get("options", ()), row["limit"], str(number)]
-        serves(resb, words, [*row.get("before", ()), (line_in(row["asked"]), answer)])
+        serves(resb, words, [*row.get("before", ()), (row["asked"], answer)])
 
 
 def test_full_releases(resb):
@@ -140,8 +109,7 @@ def test_the_largest_trees(resb):
     for missing in (0, 1):
         request, longest = long_tree(missing)
         length = len(reply_of(longest))
-        for words, wanted in (([], longest), (["--reply-bytes", str(length)], longest),
-                              (["--reply-bytes", str(length - 1)], refused("ReplyTooLong"))):
+        for words, wanted in (([], longest), (["--reply-bytes", str(length)], longest), (["--reply-bytes", str(length - 1)], refused("ReplyTooLong"))):
             serves(resb, ["--extended", *words], [(request, OK), (tree("long", "de"), wanted)])
     # without a limit on steps 100,000: one for the level, one for the key and one for each item
     for items in (99_998, 99_999):
@@ -151,27 +119,26 @@ def test_the_largest_trees(resb):
                                       (tree("long", "root", path="a/1"), {"actual": "root", "tree": "1", "valid": "root"})])
     longer, _ = long_tree(-1)
     for words in ([], ["--reply-bytes", str(TREE_LIMIT + 1)], ["--reply-bytes", str(MOST)]):
-        serves(resb, ["--extended", *words], [(longer, OK), (tree("long", "de"), refused("TreeTooLarge")), ONE,
-                                                 (tree("shop", "de"), TREE)])
+        serves(resb, ["--extended", *words], [(longer, OK), (tree("long", "de"), refused("TreeTooLarge")), ONE, (tree("shop", "de"), TREE)])
     serves(resb, ["--extended", "--reply-bytes", str(TREE_LIMIT)], [(longer, OK), (tree("long", "de"), refused("ReplyTooLong"))])
 
 
 @pytest.mark.parametrize("row", rows("limits/refusals.jsonl"), ids=lambda row: " ".join(row["options"]))
 def test_refusals(resb, row):
     """Requests that no limit applies to, and refusals that come before those of a limit."""
-    serves(resb, row["options"], [(line_in(request), answer) for request, answer in row["pairs"]])
+    serves(resb, row["options"], [(request, answer) for request, answer in row["pairs"]])
 
 
 def test_full_before_a_limit(resb):
     full = [(install("shop", f"aa_{number}", SMALL), OK) for number in range(4096)]
-    more = [(install("shop", "de"), refused("Full")), (install("shop", "aa_1"), refused("Exists"))]
+    more = [(install("shop", "de", TEXT), refused("Full")), (install("shop", "aa_1", TEXT), refused("Exists"))]
     serves(resb, ["--bundle-bytes", "60"], full + more)
 
 
 def test_long_line(program):
     """A line of 300 MB between two good ones is passed over; so is one at the end that has no line feed."""
     server = Server([program, "serve", "--line-bytes", "1000"])
-    server.send(line_of(install("shop", "de")) + b"\n")
+    server.send(line_of(ONE[0]) + b"\n")
     for _ in range(300):
         server.send(b"x" * MEGABYTE)
     server.send(b"\n" + line_of(look("shop", "de", "a")) + b"\n")
@@ -330,7 +297,6 @@ def longest_lines(apps, quota, largest):
 
 
 def at_random(apps, quota, largest):
-    """Installs, replacements and removals of random sizes."""
     chosen, made = random.Random(3), [binary_of(round(60 * 1.4 ** power))[0] for power in range(28)]
     for _ in range(60_000):
         app, locale = f"app{chosen.randrange(apps)}", locale_of(chosen.randrange(600))
@@ -384,8 +350,8 @@ def test_attack(program, strategy, apps, quota, largest):
     quota, largest, sent = quota * MEGABYTE, round(largest * MEGABYTE), 0
     limits = {"--app-bytes": quota, "--bundle-bytes": largest, "--reply-bytes": 65536, "--line-bytes": 2 * largest + 65536, "--apps": apps,
               "--steps": 20000}
-    settings = [f"{name}={value}" for name, value in SETTINGS.items()]
-    server = Server(["env", *settings, program, "serve", *limit_words(limits), "--keep-serving"], keeps=False)
+    settings, words = [f"{name}={value}" for name, value in SETTINGS.items()], itertools.chain.from_iterable(limits.items())
+    server = Server(["env", *settings, program, "serve", *words, "--keep-serving"], keeps=False)
     for request in strategy(apps, quota, largest):
         server.send(line_of(request) + b"\n")
         sent += 1
@@ -401,7 +367,7 @@ def test_attack(program, strategy, apps, quota, largest):
 def test_without_memory(resb):
     """A text for which there is no memory is answered by `--keep-serving`, and the server continues; without it, serving ends."""
     memory = {"preexec_fn": limited(least_memory(resb.program) + 40 * MEGABYTE)}
-    requests = [install("shop", "de"), install("shop", "fr", big(250000)), look("shop", "fr", "a"), look("shop", "de", "a"), usage("shop")]
+    requests = [ONE[0], install("shop", "fr", big(250000)), look("shop", "fr", "a"), look("shop", "de", "a"), usage("shop")]
     assert served(resb, [], requests[:4], **memory) == (1, [reply_of(OK)], b"Memory\n")
     wanted = [reply_of(answer) for answer in (OK, refused("Memory"), refused("NoBundle"), FOUND, used(76, 1))]
     assert served(resb, ["--keep-serving"], requests, **memory) == (0, wanted, b"")
@@ -409,19 +375,15 @@ def test_without_memory(resb):
 
 def over_a_file(resb, source, prepare):
     """Runs a server over a file of lines, which it reads in buffers that are full: its status, its replies and its standard error."""
-    with tempfile.TemporaryFile() as lines, tempfile.TemporaryFile() as replies:
-        lines.write(source)
-        lines.seek(0)
+    with open(resb.folder / resb.put("lines", source), "rb") as lines, open(resb.folder / "replies", "wb") as replies:
         done = resb("serve", stdin=lines, stdout=replies, preexec_fn=prepare)
-        replies.seek(0)
-        return done.status, replies.read().splitlines(keepends=True), done.stderr
+    return done.status, resb.get("replies").splitlines(keepends=True), done.stderr
 
 
 @pytest.mark.alone
 def test_waiting_replies(resb):
-    """Replies that wait to be written, as the reader's buffer holds further lines, are written before serving ends without memory. If they
-    can't be, the code is `Write`."""
-    source = b"".join(line_of(install(f"app{number:08}", "de")) + b"\n" for number in range(100000))
+    """Replies that wait, as the buffer holds further lines, are written before serving ends without memory; if they can't be, the code is `Write`."""
+    source = b"".join(line_of(install(f"app{number:08}", "de", TEXT)) + b"\n" for number in range(100000))
     flushed = [source.count(b"\n", 0, end) for end in range(0, len(source), READER)]
     for spare in (4, 5, 6):
         size = least_memory(resb.program) + spare * MEGABYTE

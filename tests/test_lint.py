@@ -19,17 +19,14 @@ from support.program import TOP, rows
 ENTRIES = json.loads((TOP / "tests" / "lint" / "entries.json").read_text(encoding="utf-8"))
 # The warnings that are off unless they are denied.
 OPTIONAL = {"other-numbers", "other-punctuation", "same-text"}
-# The settings that a warning needs.
 SETTINGS = {"forbidden-word": '[[forbid]]\nfiles = ["d?.txt"]\nwords = ["klicken", "Hände weg"]\n'}
 
 
 def bundle(*entries, name="de"):
-    """Returns a text with some entries, each in a line."""
     return name + " {\n" + "".join(f"  {entry}\n" for entry in entries) + "}\n"
 
 
 def texts_of(row):
-    """Returns the text that has a warning, and the nearest one."""
     if "entries" not in row:
         return row["text"], row["nearest"]
     return tuple(bundle(*{**ENTRIES["de"], **row[name]}.values()) for name in ("entries", "nearest"))

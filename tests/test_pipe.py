@@ -27,7 +27,6 @@ def server(program):
 
 
 def is_quiet(server, count):
-    """Checks that no reply comes beyond those that came."""
     with server.lock:
         return not server.lock.wait_for(lambda: server.count > count, 0.1)
 
@@ -83,10 +82,8 @@ KNOWN = {"op": OPS, "text": TEXTS, "file": FILES}
 NUMBERS = ["0", "-0", "1", "-1", "1.5", "1e5", "1e400", "-1e999", "00", "01", "1.", ".5", "+1", "18446744073709551616", "9" * 400, "NaN"]
 VALUES = ["null", "true", "false", "[]", "{}", "[1,2]", "{\"op\":\"look\"}", "tru", "nul", "[1,]", "{,}", "'x'"]
 SPACES = ["", "", "", "", " ", "\t", "\r", "  ", "\x0b", "\u00a0", "\f"]
-MEMBERS = [
-    b'"x":1', b'"x":null', b'"x":[-0.5e-3,true,{"op":"list"}]', b'"x":{"y":[],"z":{}}', b'"x":"\\ud83d\\ude00"',
-    b'"x":[18446744073709551616,[[[]]]],"y":false',
-]
+MEMBERS = [b'"x":1', b'"x":null', b'"x":[-0.5e-3,true,{"op":"list"}]', b'"x":{"y":[],"z":{}}', b'"x":"\\ud83d\\ude00"',
+           b'"x":[18446744073709551616,[[[]]]],"y":false']
 
 
 def value(made, key):

@@ -1,17 +1,10 @@
 """Tries bin/prove.py with crates that are only made up, and a proof that only waits."""
-import importlib.util
-import pathlib
 import threading
 import time
 
-PROVE = pathlib.Path(__file__).resolve().parent.parent / "bin/prove.py"
+from support.program import TOP, loaded
 
-
-def module():
-    spec = importlib.util.spec_from_file_location("prove", PROVE)
-    prove = importlib.util.module_from_spec(spec)
-    spec.loader.exec_module(prove)
-    return prove
+prove = loaded("prove", TOP / "bin" / "prove.py")
 
 
 class Crate:
@@ -37,7 +30,6 @@ def crates():
 
 
 def test_the_longest_chain_comes_first():
-    prove = module()
     plan = prove.Plan(crates())
     assert [it.name for it in plan.ready(set(), set())] == ["tree", "words"]
     done = {it for it in plan.crates if it.name in ("tree", "words")}
@@ -45,7 +37,6 @@ def test_the_longest_chain_comes_first():
 
 
 def test_the_rest_is_what_two_jobs_take():
-    prove = module()
     plan = prove.Plan(crates())
     cost = {it.name: plan.cost[it] for it in plan.crates}
     # words ends beside tree, lexer beside lint
@@ -56,7 +47,6 @@ def test_the_rest_is_what_two_jobs_take():
 
 def run(jobs, fails=()):
     """Returns whether all are proved, the names in the order of their ends, and the most at one time."""
-    prove, program = module(), crates()
     lock, ended, now, most = threading.Lock(), [], [], [0]
 
     def prove_one(crate):
@@ -70,7 +60,7 @@ def run(jobs, fails=()):
             ended.append(crate.name)
         return crate.name not in fails, f"{crate.name} said\n"
 
-    return prove.prove_all(prove.Plan(program), jobs, prove_one), ended, most[0]
+    return prove.prove_all(prove.Plan(crates()), jobs, prove_one), ended, most[0]
 
 
 def test_each_crate_follows_those_below_it(capsys):

@@ -38,11 +38,6 @@ def shown(name):
     return escaped(name, "\\u{{{:x}}}", (*CONTROLS, *range(0x20)))
 
 
-def in_json(name):
-    """Returns a name as it is inside quotes of JSON, in a pipe and on a terminal."""
-    return escaped(name, "\\u{:04x}", (*CONTROLS, *range(0x20)))
-
-
 def opened():
     """Returns the two ends of a terminal that changes no byte."""
     try:
@@ -135,7 +130,6 @@ def test_items(folder, words, has, is_escaped):
 
 
 def test_replies(folder):
-    """Texts that are formatted, and replies."""
     compare(folder, ["fmt", "-"], folder.get("root.txt"), change=spelled, has=TEXT)
     look = b'{"op":"look","app":"shop","locale":"root","path":"%s"}\n'
     source = folder.output("lines", "shop", "root.txt") + b"".join(look % path for path in (b"s", b"l", b"t", b"", b"none")) + b"\xc2\x9b\n"
@@ -153,7 +147,6 @@ def test_replies_in_pieces(resb):
 
 
 def test_texts(resb):
-    """Comments and texts, which `fmt` and `lint` print."""
     name = resb.put(NAME + "texts.txt", "// \x1b[31m%s\r\nroot{a{\"%s\"\"%s\"}b{\"{0\"}}" % (TEXT, TEXT, TEXT))
     compare(resb, ["fmt", "--diff", name], change=lambda out: spelled(out.replace(name, shown(name))), has=TEXT)
     compare(resb, ["fmt", "--check", name], named=[NAME], has=NAME)
@@ -163,7 +156,6 @@ def test_texts(resb):
 
 
 def columns(text):
-    """Returns the columns of a text, by Python's tables of Unicode."""
     return sum(2 if unicodedata.east_asian_width(c) in "WF" else 0 if unicodedata.category(c) in ("Mn", "Me", "Cf", "Cc") else 1 for c in text)
 
 
@@ -235,7 +227,6 @@ def test_folders(resb):
 RES, BAD = NAME + ".res", NAME + "bad.res"
 @pytest.fixture
 def named(folder):
-    """The folder with files of an odd name."""
     data = folder.get("root.res")
     for path, content in ((RES, data), (BAD, data[:40]), (NAME + ".txt", 'root{a{"x"}')):
         folder.put(path, content)
@@ -266,8 +257,9 @@ def test_exchange(named, monkeypatch):
 
 
 def test_names_in_json(named):
+    """Inside quotes of JSON names are escaped in a pipe and on a terminal."""
     for words in (["check", "--json", RES, BAD], ["lint", "--format", "json", NAME + ".txt"]):
-        compare(named, words, has=in_json(NAME))
+        compare(named, words, has=spelled(NAME, (*CONTROLS, *range(0x20))))
     compare(named, ["look", "--trace", "root", "s", f"root={RES}"], change=spelled, named=[NAME], has=NAME)
 
 

@@ -25,12 +25,13 @@ from support.contracts import CRATES, exported, lines_of
 
 # Parts of crates beyond the core: all, or some types, functions and clauses (FUNCTION.CLAUSE).
 BEYOND = json.loads(pathlib.Path(__file__).with_suffix(".json").read_text(encoding="utf-8"))
-
+# Ghost items that a reader needn't believe, as the view of a type whose fields are private.
+NOT_SHOWN = ("size_decreases", "also_owns")
 HEAD = re.compile(r"(abbrev|unfoldable|pub|data|record|mutual)\b")
 NAMED = re.compile(r"^\s*(?:(?:abbrev|unfoldable|pub|data|record)\s+)+(\S+)")
 BOUND = re.compile(r"^\s+(?:pub\s+)?([^\s:(){}]+) :(?:\s|$)")
 WORD = re.compile(r"[^\s(){},;\[\]λ→×]+")
-IMPORT = re.compile(r"Rattle\.(\w+)\.specs\.([\w.]+?)(?:\.\{([^}]*)\}| as (\S+))?\s*;?$")
+IMPORT = re.compile(r"^\s*(?:ghost )?use Rattle\.(\w+)\.specs\.([\w.]+?)(?:\.\{([^}]*)\}| as (\S+))?\s*;?\s*$", re.M)
 
 
 class Definition:
@@ -51,24 +52,19 @@ class Scope:
     def __init__(self, text):
         self.names = {}
         self.modules = {}
-        for line in text.splitlines():
-            line = line.strip().removeprefix("ghost ")
-            if not line.startswith("use "):
-                continue
-            match = IMPORT.match(line[4:])
-            if match:
-                self.take(*match.groups())
+        for match in IMPORT.finditer(text):
+            self.take(*match.groups())
 
     def take(self, crate, module, names, alias):
         if alias:
             self.modules[alias] = (crate, module)
         for name in (names or "").split(","):
             name, _, other = name.strip().partition(" as ")
-            for word in symbols(other or name):
+            # an operator's parts stand between its places
+            for word in filter(None, (other or name).split("◌")):
                 self.names[word] = (crate, module, name)
 
     def finds(self, word):
-        """Returns the place of what a word cites: crate, module and name."""
         if word in self.names:
             return self.names[word]
         front, dot, rest = word.partition(".")
@@ -79,25 +75,19 @@ class Scope:
         return None
 
 
-def symbols(name):
-    """Returns the words by which a name is written: an operator's parts stand between its places."""
-    return [part for part in name.split("◌") if part]
-
-
 def read_specs():
     """Returns all definitions by crate, module and name, and the scopes of their files."""
-    found, scopes, files = {}, {}, []
+    found, scopes = {}, {}
     for file in sorted(CRATES.glob("r*b*/specs/**/*.antt")):
         if file.name in ("Lib.antt", "inner.antt"):
             continue
         crate, module = place_of(file)
         text = file.read_text()
         scopes[file] = Scope(text)
-        files.append(file)
         for definition in blocks(file, text):
             for name in definition.names:
                 found[crate, module, name] = definition
-    return found, scopes, files
+    return found, scopes
 
 
 def blocks(file, text):
@@ -119,7 +109,6 @@ def blocks(file, text):
 
 
 def is_beyond(crate, owner, function, clause):
-    """Returns whether a clause is beyond the core."""
     beyond = BEYOND.get(crate, set())
     return beyond == "all" or bool({owner, function, f"{function}.{clause}"} & set(beyond))
 
@@ -131,7 +120,9 @@ def contracts(crate, of_laws, with_private):
         if (file.stem in modules) != of_laws:
             continue
         text = file.read_text()
-        scope, opaque, name, is_shown = Scope(text), opaque_types(text), "", False
+        structs = re.findall(r"^pub struct (\w+)[^{;]*\{([^}]*)\}", text, re.M)
+        opaque = {name for name, fields in structs if not re.search(r"\bpub\b", fields)}
+        scope, name, is_shown = Scope(text), "", False
         for line, owner, function, is_public in lines_of(CRATES / crate, file):
             if function:
                 name, is_shown = function["name"], is_public or (with_private and function["access"] == "pub(crate) ")
@@ -139,23 +130,11 @@ def contracts(crate, of_laws, with_private):
             shown = re.match(r"\s*ghost (?!use|invariant|inverse|coded)(\w+)(.*)", line)
             if clause and is_shown:
                 yield clause[3], scope, is_beyond(crate, owner or None, name, clause[2])
-            elif shown and owner in names and (with_private or shown[1] not in hidden_items(owner in opaque)):
+            elif shown and owner in names and (with_private or shown[1] not in NOT_SHOWN and not (shown[1] == "view" and owner in opaque)):
                 yield shown[2], scope, is_beyond(crate, owner, None, None)
 
 
-def opaque_types(text):
-    """Returns the structs of a source that have no public field."""
-    structs = re.findall(r"^pub struct (\w+)[^{;]*\{([^}]*)\}", text, re.M)
-    return {name for name, fields in structs if not re.search(r"\bpub\b", fields)}
-
-
-def hidden_items(is_opaque):
-    """Returns the ghost items of a type that a reader needn't believe."""
-    return {"size_decreases", "also_owns"} | ({"view"} if is_opaque else set())
-
-
 def cited(words, scope, own, found):
-    """Yields the definitions that words cite, in a scope and a module."""
     for word in words:
         place = scope.finds(word) or (*own, word.partition(".")[0])
         if place in found:
@@ -163,7 +142,6 @@ def cited(words, scope, own, found):
 
 
 def place_of(file):
-    """Returns the crate and the module of a file of specs/."""
     crate = file.relative_to(CRATES).parts[0]
     return crate, ".".join(file.relative_to(CRATES / crate / "specs").with_suffix("").parts)
 
@@ -201,26 +179,20 @@ def print_count(core, calls, laws):
 
 def print_inner(reached, private, files):
     """Prints the files in the wrong place. What only measures and calls within the crate reach may be in either place."""
-    reached = {definition.file for definition in reached}
-    private = {definition.file for definition in private}
-    wrong = False
-    for file in files:
-        is_inner = "inner" in file.relative_to(CRATES).parts
-        if file in reached and is_inner:
-            print(f"reached: {file.relative_to(CRATES)}")
-            wrong = True
-        elif file not in reached | private and not is_inner:
-            print(f"not reached: {file.relative_to(CRATES)}")
-            wrong = True
-    return wrong
+    reached, private = ({definition.file for definition in found} for found in (reached, private))
+    inner = {file for file in files if "inner" in file.relative_to(CRATES).parts}
+    wrong = [f"reached: {file.relative_to(CRATES)}" for file in files if file in reached & inner]
+    wrong += [f"not reached: {file.relative_to(CRATES)}" for file in files if file not in reached | private | inner]
+    print("".join(f"{line}\n" for line in wrong), end="")
+    return bool(wrong)
 
 
 def main():
-    found, scopes, files = read_specs()
+    found, scopes = read_specs()
     calls, laws = reach(False, found, scopes), reach(True, found, scopes)
     if sys.argv[1:] == ["--inner"]:
         private = reach(False, found, scopes, with_private=True)
-        sys.exit(1 if print_inner(calls | laws, private, files) else 0)
+        sys.exit(1 if print_inner(calls | laws, private, scopes) else 0)
     print_count(reach(False, found, scopes, is_core=True), calls, laws)
 
 

@@ -6,7 +6,6 @@ import (
 	"fmt"
 	"io"
 	"net/http"
-	"net/url"
 	"strings"
 	"time"
 )
@@ -22,45 +21,37 @@ func healthCommand(arguments []string, said io.Writer) int {
 		fmt.Fprintln(said, "usage: gateway -healthcheck ADDRESS, such as 127.0.0.1:6422 or https://127.0.0.1:6422/healthz")
 		return 2
 	}
-	if err := checkHealth(healthAddress(arguments[0]), healthTime); err != nil {
+	address := arguments[0]
+	if !strings.Contains(address, "://") {
+		address = "http://" + address
+	}
+	if address = strings.TrimSuffix(address, "/"); strings.Count(address, "/") == 2 {
+		address += "/readyz"
+	}
+	if err := checkHealth(address); err != nil {
 		fmt.Fprintln(said, "gateway:", err)
 		return 1
 	}
 	return 0
 }
 
-// healthAddress completes an address with its scheme and its path.
-func healthAddress(given string) string {
-	if !strings.Contains(given, "://") {
-		given = "http://" + given
-	}
-	if u, err := url.Parse(given); err == nil && (u.Path == "" || u.Path == "/") {
-		return strings.TrimSuffix(given, "/") + "/readyz"
-	}
-	return given
-}
-
 // checkHealth returns an error unless the address answers with status 200 in time.
-func checkHealth(address string, most time.Duration) error {
-	ctx, cancel := context.WithTimeout(context.Background(), most)
+func checkHealth(address string) error {
+	ctx, cancel := context.WithTimeout(context.Background(), healthTime)
 	defer cancel()
 	request, err := http.NewRequestWithContext(ctx, http.MethodGet, address, nil)
 	if err != nil {
 		return err
 	}
 	// neither a proxy of the environment nor a page elsewhere says how this gateway does
-	client := http.Client{
-		Transport:     &http.Transport{TLSClientConfig: &tls.Config{InsecureSkipVerify: true}, DisableKeepAlives: true},
-		CheckRedirect: func(*http.Request, []*http.Request) error { return http.ErrUseLastResponse },
-	}
-	response, err := client.Do(request)
+	response, err := (&http.Transport{TLSClientConfig: &tls.Config{InsecureSkipVerify: true}}).RoundTrip(request)
 	if err != nil {
 		return err
 	}
 	defer response.Body.Close()
-	text, err := io.ReadAll(io.LimitReader(response.Body, 200))
 	if response.StatusCode != http.StatusOK {
+		text, _ := io.ReadAll(io.LimitReader(response.Body, 200)) // what came explains the status
 		return fmt.Errorf("%s answers %s: %s", address, response.Status, strings.TrimSpace(string(text)))
 	}
-	return err
+	return nil
 }

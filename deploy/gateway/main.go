@@ -1,11 +1,10 @@
-// The gateway answers HTTP for applications by its own `resb serve`, and stores their bundles: in a database of this machine, or
-// in a log in NATS that several gateways share. README.md says how it is used and what it promises.
+// The gateway answers HTTP for applications over resource bundles, which it stores in a database of this machine, or in an etcd that several
+// gateways share. README.md says how it is used and what it promises.
 package main
 
 import (
 	"bytes"
 	"context"
-	_ "embed" // for the description
 	"errors"
 	"flag"
 	"fmt"
@@ -15,83 +14,95 @@ import (
 	"os"
 	"os/signal"
 	"runtime/debug"
-	"strings"
 	"syscall"
 	"time"
 
+	"github.com/coreos/go-systemd/daemon"
+
 	"luvdregan.example/resb/deploy/internal/api"
 	"luvdregan.example/resb/deploy/internal/auth"
+	"luvdregan.example/resb/deploy/internal/convert"
+	"luvdregan.example/resb/deploy/internal/engine"
+	"luvdregan.example/resb/deploy/internal/front"
 	"luvdregan.example/resb/deploy/internal/replica"
-	"luvdregan.example/resb/deploy/internal/store/sqlite"
+	"luvdregan.example/resb/deploy/internal/serve"
+	"luvdregan.example/resb/deploy/internal/wire"
 )
 
 // version and commit name the sources of the gateway; `-ldflags "-X main.version=.. -X main.commit=.."` sets them.
 var version, commit = "unknown", "unknown"
 
-//go:embed openapi.json
-var openAPI []byte
+// Requests leave much garbage and little is kept, so memory is collected less often as long as there is little of it beside the bodies of
+// requests.
+const (
+	garbage   = 400 // percent
+	softLimit = 1 << 30
+)
+
+// conversions bound what other forms of bundles cost.
+var conversions = convert.Bounds{Time: 20 * time.Second, Memory: 1 << 30, Output: 128 << 20}
 
 func main() {
-	log.SetFlags(log.LstdFlags | log.Lmicroseconds)
-	if len(os.Args) > 1 && strings.TrimLeft(os.Args[1], "-") == "healthcheck" {
+	switch command := append(os.Args, "")[1]; command {
+	case "healthcheck", "-healthcheck", "--healthcheck":
 		os.Exit(healthCommand(os.Args[2:], os.Stderr))
-	}
-	if os.Getenv("GOGC") == "" {
-		// Requests leave much garbage and little is kept, so memory is collected less often as long as there is little of it.
-		debug.SetGCPercent(400)
-		debug.SetMemoryLimit(least(1<<30, machineMemory()/4))
-	}
-	if len(os.Args) > 1 && os.Args[1] == "token" {
+	case "token":
 		os.Exit(tokenCommand(os.Args[2:], os.Stdout, os.Stderr))
-	}
-	if len(os.Args) > 1 && os.Args[1] == "state" {
-		os.Exit(stateCommand(os.Args[2:], os.Stdout, os.Stderr))
-	}
-	if len(os.Args) > 1 && operatorCommands[os.Args[1]] != nil {
-		os.Exit(operatorCommand(os.Args[1], os.Args[2:], os.Stdout, os.Stderr))
+	case "options":
+		os.Exit(describeOptions(os.Args[2:], os.Stdout))
+	case "backup", "restore", "copy", "list":
+		os.Exit(operatorCommand(command, os.Args[2:], os.Stdout, os.Stderr))
 	}
 	s, err := readSettings(os.Args[1:], os.Stderr)
 	if errors.Is(err, flag.ErrHelp) {
 		return
 	}
-	if s.log == "json" {
-		logJSON(os.Stderr)
-	}
+	serve.StartLog(s.log)
+	status := 0
 	switch {
 	case err != nil:
-		s.fail(err, 2)
+		status = s.fail(err, 2)
 	case s.version:
 		fmt.Printf("resb-gateway %s (%s)\n", version, commit)
 	case s.checkOnly:
 		if err := s.checkFiles(); err != nil {
-			s.fail(err, 2)
+			status = s.fail(err, 2)
+		} else {
+			fmt.Println("the configuration can be used")
 		}
-		fmt.Println("the configuration can be used")
 	default:
 		if err := run(s); err != nil {
-			s.fail(err, 1)
+			status = s.fail(err, 1)
 		}
 	}
+	serve.FlushLog()
+	os.Exit(status)
 }
 
-// fail reports an error in the form of the log, and ends the process.
-func (s settings) fail(err error, status int) {
+// fail reports an error in the form of the log, and returns the status.
+func (s settings) fail(err error, status int) int {
 	if s.log == "json" {
 		log.Print(err)
 	} else {
 		fmt.Fprintln(os.Stderr, "gateway:", err)
 	}
-	os.Exit(status)
+	return status
 }
 
 // run serves until a signal ends it.
 func run(s settings) error {
+	if os.Getenv("GOGC") == "" {
+		debug.SetGCPercent(garbage)
+	}
+	if os.Getenv("GOMEMLIMIT") == "" {
+		debug.SetMemoryLimit(softLimit + s.options.Limits.Bytes)
+	}
 	leaving, stop := signal.NotifyContext(context.Background(), os.Interrupt, syscall.SIGTERM)
 	defer stop()
 	if s.addTokens != "" {
 		defer os.Remove(s.addTokens) // of a gateway that fails to start
 	}
-	pair, err := openPair(s.cert, s.key)
+	pair, err := serve.OpenPair(s.cert, s.key)
 	if err != nil {
 		return err
 	}
@@ -103,13 +114,8 @@ func run(s settings) error {
 	if err != nil {
 		return err
 	}
-	defer g.Backend.Close()
+	defer g.close()
 	go g.refresh(leaving, pair)
-	end, err := openControl(s.state, g.Backend)
-	if err != nil {
-		return err
-	}
-	defer end()
 	if s.inside != "" {
 		inner, err := net.Listen("tcp", s.inside)
 		if err != nil {
@@ -123,14 +129,14 @@ func run(s settings) error {
 // A gateway is a handler with the settings of its listeners.
 type gateway struct {
 	settings
-	*api.Handler
+	*front.Handler
 	leaving   context.Context // is done when the gateway ends
 	refreshed chan struct{}   // is closed when nothing is read again any more
-	access    *journal
-	audit     *journal
+	access    *serve.Journal
+	audit     *serve.Journal
 }
 
-// newGateway reads the tokens and begins with the backend.
+// newGateway reads the tokens and begins to follow the store.
 func newGateway(leaving context.Context, s settings) (*gateway, error) {
 	known, err := auth.Open(s.tokenFile)
 	if err != nil {
@@ -141,64 +147,42 @@ func newGateway(leaving context.Context, s settings) (*gateway, error) {
 			return nil, err
 		}
 	}
-	access, err := openJournal(s.accessLog)
+	g := &gateway{settings: s, leaving: leaving, refreshed: make(chan struct{})}
+	if g.access, err = serve.OpenJournal(s.accessLog); err != nil {
+		return nil, err
+	}
+	if g.audit, err = serve.OpenJournal(s.auditLog); err != nil {
+		return nil, err
+	}
+	if err := s.sources(); err != nil {
+		return nil, err
+	}
+	e, err := engine.Open(s.engine)
 	if err != nil {
 		return nil, err
 	}
-	audit, err := openJournal(s.auditLog)
-	if err != nil {
-		return nil, err
-	}
-	b, err := connect(s)
+	of, err := s.openStore()
 	if err != nil {
 		return nil, err
 	}
 	options := s.options
-	if options.Scratch, err = scratchOf(s.state); err != nil {
-		b.Close()
-		return nil, err
-	}
-	options.Origins = s.originList()
-	options.Access, options.Audit = journalOf(access), journalOf(audit)
-	options.Version, options.Commit = version, commit
-	options.OpenAPI, options.Leaving, options.Inside = openAPI, leaving, s.inside != ""
-	options.Peer = peer
-	return &gateway{s, api.New(b, known, options), leaving, make(chan struct{}), access, audit}, nil
+	options.Access, options.Audit = serve.JournalOf(g.access), serve.JournalOf(g.audit)
+	options.Version, options.Commit, options.Leaving = version, commit, leaving
+	g.Handler = api.New(&front.Handler{Backend: replica.Open(of, e, s.replica), Engine: e, Tokens: known,
+		Convert: convert.New(s.program, conversions), Options: options})
+	g.Metrics.Gauge("log_lines_dropped_total", "Lines of logs that were left out, as nobody took them.", serve.Dropped)
+	return g, nil
 }
 
-// connect returns the replica that the settings ask for.
-func connect(s settings) (*replica.Replica, error) {
-	shared, err := openLog(s)
-	if err != nil {
-		return nil, err
-	}
-	create := s.create || shared != nil // the store is only a copy of what the log has
-	changes, err := sqlite.Open(s.state, sqlite.Options{Create: create, Logf: log.Printf, Follow: shared != nil})
-	if err != nil {
-		return nil, err
-	}
-	return replica.Open(changes, replica.Settings{
-		Program: s.program, Arguments: s.serverArguments(), Memory: s.memory / 2, Patience: s.hangs, Log: shared,
-	}), nil
-}
-
-// login returns the name and the password for NATS, or "".
-func (s settings) login() (string, error) {
-	if s.natsLogin == "" {
-		return "", nil
-	}
-	text, err := os.ReadFile(s.natsLogin)
-	if err != nil {
-		return "", err
-	}
-	if len(strings.Fields(string(text))) != 2 {
-		return "", fmt.Errorf("%s: a user and a password are missing", s.natsLogin)
-	}
-	return strings.Join(strings.Fields(string(text)), " "), nil
+// close ends what newGateway began.
+func (g *gateway) close() {
+	g.Backend.Close()
+	g.access.Flush()
+	g.audit.Flush()
 }
 
 // refresh reads the file of tokens and the certificates again when they change.
-func (g *gateway) refresh(ctx context.Context, p *pair) {
+func (g *gateway) refresh(ctx context.Context, p *serve.Pair) {
 	defer close(g.refreshed)
 	hangups := make(chan os.Signal, 1)
 	signal.Notify(hangups, syscall.SIGHUP)
@@ -212,16 +196,20 @@ func (g *gateway) refresh(ctx context.Context, p *pair) {
 			return
 		case <-ticks.C:
 			g.Tokens.Reload(false)
+			p.Again()
 		case <-soon.C:
 			if g.keepTokens(); g.addTokens == "" {
 				soon.Stop()
 			}
 		case <-hangups:
 			g.Tokens.Reload(true)
-			g.access.again()
-			g.audit.again()
+			p.Again()
+			for _, j := range []*serve.Journal{g.access, g.audit} {
+				if err := j.Again(); err != nil {
+					log.Print(err)
+				}
+			}
 		}
-		p.again()
 	}
 }
 
@@ -242,7 +230,7 @@ func (g *gateway) keepTokens() {
 func (g *gateway) server(handler http.Handler) *http.Server {
 	return &http.Server{
 		Handler: handler, ReadHeaderTimeout: g.headerTime, ReadTimeout: g.options.ReadTime, WriteTimeout: g.writeTime,
-		IdleTimeout: g.idleTime, MaxHeaderBytes: 16 << 10, ConnState: state, ConnContext: api.WithConn,
+		IdleTimeout: g.idleTime, MaxHeaderBytes: 16 << 10, ConnState: serve.State, ConnContext: wire.WithConn,
 		ErrorLog: log.New(quiet{}, "", 0),
 	}
 }
@@ -258,17 +246,17 @@ func (quiet) Write(b []byte) (int, error) {
 }
 
 // listenOn answers until the gateway is to end; then what is on its way is answered, and no more taken.
-func (g *gateway) listenOn(outer net.Listener, p *pair) error {
+func (g *gateway) listenOn(outer net.Listener, p *serve.Pair) error {
 	server := g.server(g)
-	var l net.Listener = &listener{Listener: outer, metrics: g.Metrics, most: g.connections, plain: p == nil}
+	var l net.Listener = &serve.Listener{Listener: outer, Metrics: g.Metrics, Most: g.connections, Plain: p == nil}
 	if p != nil {
-		l = newSecure(l, p.configuration(), g.headerTime)
+		l = serve.NewSecure(l, p.Configuration(), g.headerTime)
 	}
 	ended := make(chan error, 1)
 	go func() { ended <- server.Serve(l) }()
 	log.Printf("gateway: answers at %s", outer.Addr())
 	go func() {
-		if err := announce(g.leaving, g.Backend.Ready, 200*time.Millisecond); err != nil {
+		if err := announce(g.leaving, g.Backend.Ready); err != nil {
 			log.Printf("gateway: NOTIFY_SOCKET: %v", err)
 		}
 	}()
@@ -278,7 +266,7 @@ func (g *gateway) listenOn(outer net.Listener, p *pair) error {
 	case <-g.leaving.Done():
 	}
 	log.Print("gateway: ends")
-	_ = notify(stopping)
+	_, _ = daemon.SdNotify(false, stopping)
 	<-g.refreshed
 	g.keepTokens() // of a gateway that ends right after its start
 	select {

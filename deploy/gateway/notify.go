@@ -2,47 +2,25 @@ package main
 
 import (
 	"context"
-	"net"
-	"os"
-	"strings"
 	"time"
+
+	"github.com/coreos/go-systemd/daemon"
 )
 
-// notify tells the service manager that started the gateway how it does, if there is one (sd_notify(3)).
-func notify(state string) error {
-	address := os.Getenv("NOTIFY_SOCKET")
-	if address == "" {
-		return nil
-	}
-	if strings.HasPrefix(address, "@") {
-		address = "\x00" + address[1:]
-	}
-	c, err := net.DialUnix("unixgram", nil, &net.UnixAddr{Name: address, Net: "unixgram"})
-	if err != nil {
-		return err
-	}
-	defer c.Close()
-	_, err = c.Write([]byte(state))
-	return err
-}
-
-// Messages to the service manager. Filling a server may take long, so the time for the start is extended until it is done.
+// Messages to the service manager. Reading the bundles may take long, so the time for the start is extended until it is done.
 const (
-	serving  = "READY=1\nSTATUS=serves"
-	filling  = "STATUS=fills the servers\nEXTEND_TIMEOUT_USEC=30000000"
-	stopping = "STOPPING=1\nSTATUS=answers what is on its way"
+	serving  = daemon.SdNotifyReady + "\nSTATUS=serves"
+	filling  = "STATUS=reads the bundles\nEXTEND_TIMEOUT_USEC=30000000"
+	stopping = daemon.SdNotifyStopping + "\nSTATUS=answers what is on its way"
 )
 
-// announce tells the service manager, if there is one, once lookups are answered.
-func announce(ctx context.Context, ready func() error, every time.Duration) error {
-	if os.Getenv("NOTIFY_SOCKET") == "" {
-		return nil
-	}
-	ticks := time.NewTicker(every)
+// announce tells the service manager, if there is one, once lookups are answered (sd_notify(3)).
+func announce(ctx context.Context, ready func() error) error {
+	ticks := time.NewTicker(200 * time.Millisecond)
 	defer ticks.Stop()
 	for n := 0; ready() != nil; n++ {
 		if n%10 == 0 {
-			if err := notify(filling); err != nil {
+			if isThere, err := daemon.SdNotify(false, filling); !isThere {
 				return err
 			}
 		}
@@ -52,5 +30,6 @@ func announce(ctx context.Context, ready func() error, every time.Duration) erro
 		case <-ticks.C:
 		}
 	}
-	return notify(serving)
+	_, err := daemon.SdNotify(false, serving)
+	return err
 }

@@ -19,43 +19,33 @@ APP may be as shop.*; TIME is as 90d, 2027-01-31 or 2027-01-31T12:00:00Z; NAME m
 
 // tokenCommand changes or lists a file of tokens, and returns the status. A gateway that runs reads the file again.
 func tokenCommand(arguments []string, out, errors io.Writer) int {
-	if len(arguments) == 0 {
-		fmt.Fprint(errors, tokenUsage)
-		return 2
-	}
-	f := flag.NewFlagSet("gateway token "+arguments[0], flag.ContinueOnError)
+	f := flag.NewFlagSet("gateway token", flag.ContinueOnError)
 	f.SetOutput(errors)
 	f.Usage = func() { fmt.Fprint(errors, tokenUsage) }
 	file := f.String("tokens", "", "the `file` of tokens")
-	name, expires := "", ""
-	if arguments[0] == "add" {
-		f.StringVar(&name, "name", "", "the token's `name` in logs")
-		f.StringVar(&expires, "expires", "", "until `when` it is valid")
-	}
-	if err := f.Parse(arguments[1:]); err != nil {
+	name, expires := f.String("name", "", "the token's `name` in logs"), f.String("expires", "", "until `when` it is valid")
+	command := append(arguments, "")[0]
+	if command == "" || f.Parse(arguments[1:]) != nil || *file == "" {
+		f.Usage()
 		return 2
 	}
 	var err error
-	switch given := f.Args(); {
-	case *file == "":
-		err = flag.ErrHelp
-	case arguments[0] == "add" && len(given) == 2:
-		err = addToken(*file, name, expires, given[0], given[1], out)
-	case arguments[0] == "list" && len(given) == 0:
+	given := f.Args()
+	switch fmt.Sprint(command, len(given)) {
+	case "add2":
+		err = addToken(*file, *name, *expires, given[0], given[1], out)
+	case "list0":
 		err = listTokens(*file, out)
-	case arguments[0] == "revoke" && len(given) == 1:
+	case "revoke1":
 		var removed int
 		if removed, err = auth.Revoke(*file, given[0]); err == nil {
 			fmt.Fprintf(out, "%d removed\n", removed)
 		}
 	default:
-		err = flag.ErrHelp
-	}
-	switch {
-	case err == flag.ErrHelp:
-		fmt.Fprint(errors, tokenUsage)
+		f.Usage()
 		return 2
-	case err != nil:
+	}
+	if err != nil {
 		fmt.Fprintln(errors, "gateway:", err)
 		return 1
 	}
@@ -68,33 +58,24 @@ func addToken(file, name, expires, app, right string, out io.Writer) error {
 	if err != nil {
 		return err
 	}
-	token, err := auth.New()
-	if err != nil {
-		return err
+	token, err := auth.Create(file, app, right, name, end)
+	if err == nil {
+		fmt.Fprintln(out, token)
 	}
-	line, err := auth.Line(app, right, token, name, end)
-	if err != nil {
-		return err
-	}
-	if err := auth.Append(file, line, name); err != nil {
-		return err
-	}
-	fmt.Fprintln(out, token)
-	return nil
+	return err
 }
 
 // expiry reads a time, or a number of days from now on; an empty text is never.
-func expiry(text string, now time.Time) (time.Time, error) {
+func expiry(text string, now time.Time) (end time.Time, err error) {
 	if text == "" {
-		return time.Time{}, nil
+		return end, nil
 	}
-	if digits := strings.TrimSuffix(text, "d"); digits != text {
-		if days, err := strconv.ParseUint(digits, 10, 16); err == nil && days > 0 {
-			return now.AddDate(0, 0, int(days)).UTC().Truncate(time.Second), nil
-		}
+	if days, err := strconv.ParseUint(strings.TrimSuffix(text, "d"), 10, 16); err == nil && strings.HasSuffix(text, "d") {
+		end = now.AddDate(0, 0, int(days)).UTC().Truncate(time.Second)
+	} else if end, err = auth.ParseTime(text); err != nil {
+		return end, err
 	}
-	end, err := auth.ParseTime(text)
-	if err == nil && !end.After(now) {
+	if !end.After(now) {
 		err = fmt.Errorf("%s is past", text)
 	}
 	return end, err
@@ -107,18 +88,17 @@ func listTokens(file string, out io.Writer) error {
 		return err
 	}
 	for _, one := range all {
-		until := "never expires"
-		if !one.Expires.IsZero() {
-			until = "expires " + one.Expires.UTC().Format(time.RFC3339)
+		until, name, right := "never expires", one.Name, map[auth.Right]string{auth.Read: "read", auth.Write: "write"}[one.Right]
+		switch at := one.Expires.UTC().Format(time.RFC3339); {
+		case one.Expires.After(time.Now()):
+			until = "expires " + at
+		case !one.Expires.IsZero():
+			until = "expired " + at
 		}
-		if !one.Expires.IsZero() && !one.Expires.After(time.Now()) {
-			until = "expired " + one.Expires.UTC().Format(time.RFC3339)
-		}
-		name := one.Name
 		if name == "" {
 			name = "-"
 		}
-		fmt.Fprintf(out, "%s\t%s\t%s\t%s\t%s\n", name, one.Hash[:8], one.App, one.Right, until)
+		fmt.Fprintf(out, "%s\t%s\t%s\t%s\t%s\n", name, one.Hash[:8], one.App, right, until)
 	}
 	if len(wrong) > 0 {
 		return fmt.Errorf("%s: %w", file, wrong[0])

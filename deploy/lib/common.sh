@@ -16,66 +16,59 @@ else
     program=${RESB:-$top/crates/rb_tool/out/rb_tool}
 fi
 libraries=/usr/share/gocode
-PATH=$PATH:/usr/sbin # where nats-server is
+# the folder with libresb, which tools/library writes
+library=${RESB_LIBRARY:-$out/library}
 # a Go of Debian's backports is installed beside /usr/bin/go, which is older; the newest of them is found first
 for newer in /usr/lib/go-1.2[1-9]/bin; do
     [ ! -x "$newer/go" ] || PATH=$newer:$PATH
 done
 
-# prints the Debian packages that are missing for a gateway that runs its own server
-missing_for_gateway() {
+# prints the Debian packages that are missing for building a gateway
+missing_packages() {
     command -v go >/dev/null || printf ' golang-go'
     command -v gcc >/dev/null || printf ' gcc'
+    command -v pkg-config >/dev/null || printf ' pkg-config'
     [ -d "$libraries/src/github.com/mattn/go-sqlite3" ] || printf ' golang-github-mattn-go-sqlite3-dev'
     [ -d "$libraries/src/github.com/prometheus/client_golang" ] || printf ' golang-github-prometheus-client-golang-dev'
+    [ -d "$libraries/src/go.etcd.io/etcd" ] || printf ' golang-etcd-server-dev'
 }
 
-# prints the Debian packages that are missing for gateways that share a log
-missing_packages() {
-    missing_for_gateway
-    command -v nats-server >/dev/null || printf ' nats-server'
-    [ -d "$libraries/src/github.com/nats-io/nats.go" ] || printf ' golang-github-nats-io-go-nats-dev'
-}
-
-need_program() {
-    [ -x "$program" ] || {
-        echo "$0: no program at $program; in a checkout bin/resb --help proves and builds it" >&2
-        exit 1
-    }
-}
-
-# prints the go.mod FILE with each library that it requires found in Debian's packages, without those that aren't installed: the
-# gateway that runs its own server needs none for NATS
+# prints the go.mod FILE with each library that it requires found in Debian's packages, without those that aren't installed
 debian_module() {
     replaced=
     left_out=//
-    for library in $(sed -n 's/^	\([a-z][^ ]*\) v.*/\1/p' "$1"); do
-        from=$libraries/src/${library%/v2}
-        [ ! -d "$out/modules/$library" ] || from=$out/modules/$library
+    for required in $(sed -n 's/^	\([a-z][^ ]*\) v.*/\1/p' "$1"); do
+        from=$libraries/src/${required%/v2}
+        [ ! -d "$out/modules/$required" ] || from=$out/modules/$required
         if [ -f "$from/go.mod" ]; then
-            replaced="$replaced	$library => \"$from\"
+            replaced="$replaced	$required => \"$from\"
 "
         else
-            left_out="$left_out\\|$library "
+            left_out="$left_out\\|$required "
         fi
     done
     grep -v -e "^	\\($left_out\\)" "$1"
     printf 'replace (\n%s)\n' "$replaced"
 }
 
-# copies a part of a library that has no go.mod in Debian's package, and gives it one: make_module LIBRARY PART
+# copies a part of a library, or all of it, and writes a go.mod for it: for a library that has none in Debian's package, or one that requires
+# what isn't packaged: make_module LIBRARY PART
 make_module() {
     [ -e "$libraries/src/$1/$2" ] || return 0
     mkdir -p "$out/modules/$1"
     cp -Ru "$libraries/src/$1/$2" "$out/modules/$1/"
-    [ -f "$out/modules/$1/go.mod" ] || printf 'module %s\n' "$1" >"$out/modules/$1/go.mod"
+    grep -qsx 'go 1.19' "$out/modules/$1/go.mod" || printf 'module %s\n\ngo 1.19\n' "$1" >"$out/modules/$1/go.mod"
 }
 
 # writes the file of modules over Debian's libraries for a folder: write_module FOLDER
 write_module() {
     mkdir -p "$out"
-    make_module github.com/nats-io/nuid nuid.go
     make_module github.com/matttproud/golang_protobuf_extensions pbutil
+    make_module github.com/coreos/go-semver semver
+    make_module github.com/coreos/go-systemd journal
+    make_module github.com/coreos/go-systemd daemon
+    make_module github.com/coreos/pkg capnslog
+    make_module google.golang.org/grpc .
     debian_module "$1/go.mod" >"$out/debian.mod.$$"
     mv "$out/debian.mod.$$" "$out/debian.mod"
 }
@@ -86,14 +79,24 @@ in_go() {
     go_command=$2
     shift 2
     write_module "$go_folder"
+    # Go doesn't notice that a library changed; it notices a changed definition
+    stamp=$(cat "$library/resb.h" "$library/libresb.a" 2>/dev/null | sha256sum | cut -c 1-16)
     # flags and not GOFLAGS, where Go 1.19 takes no path with a space
-    (cd "$go_folder" && GO111MODULE=on GOFLAGS='' GOCACHE="$out/go" GOPROXY=off \
+    (cd "$go_folder" && PKG_CONFIG_PATH="$library" CGO_CFLAGS="-O2 -DRESB_STAMP=stamp_$stamp" GO111MODULE=on GOFLAGS='' GOCACHE="$out/go" GOPROXY=off \
         go "$go_command" "-modfile=$out/debian.mod" "-tags=${go_tags:-libsqlite3}" "$@")
 }
 
 run_go() { in_go "$here" "$@"; }
 
-# builds the gateway that runs its own server
+# runs Go over what needs no C: the tests that ask a built gateway
+run_pure() {
+    go_command=$1
+    shift
+    write_module "$here"
+    (cd "$here" && CGO_ENABLED=0 GO111MODULE=on GOFLAGS='' GOCACHE="$out/go" GOPROXY=off go "$go_command" "-modfile=$out/debian.mod" -tags=libsqlite3 "$@")
+}
+
+# builds the gateway
 build_gateway() { [ -n "$installed" ] || "$here/gateway/build" "$out/bin/gateway"; }
 
 # adds a line to the file of tokens, unless it is there

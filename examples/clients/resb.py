@@ -24,9 +24,7 @@ class Resb:
     """Runs a separate server, which ends with the block."""
 
     def __init__(self, program="resb", *arguments):
-        self.process = subprocess.Popen(
-            [program, "serve", *arguments], stdin=subprocess.PIPE, stdout=subprocess.PIPE
-        )
+        self.process = subprocess.Popen([program, "serve", *arguments], stdin=subprocess.PIPE, stdout=subprocess.PIPE)
 
     def __enter__(self):
         return self

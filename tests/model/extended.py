@@ -75,20 +75,14 @@ class ExtendedServer(Server):
             raise Refused(*refused.args) from None
         except inherited.TooLong:
             return {"error": "?"}
-        answer = {"actual": actual, "tree": tree.value, "valid": valid}
-        try:
-            self.limits.refuse("steps", tree.steps, "TooManySteps")
-        except Refused:
-            return {"error": self.short_or(answer, "TooManySteps")}
-        return answer
-
-    def short_or(self, answer, word):
-        """The error of a tree that takes too many steps: either of two if it is too long as well."""
-        try:
-            self.short(answer)
-        except Refused:
-            return "?"
-        return word
+        answer, words = {"actual": actual, "tree": tree.value, "valid": valid}, []
+        for check, *arguments in ((self.limits.refuse, "steps", tree.steps, "TooManySteps"), (self.short, answer)):
+            try:
+                check(*arguments)
+            except Refused as refused:
+                words += refused.args
+        # of a tree that is over both limits either may be the error
+        return {"error": "?" if len(words) > 1 else words[0]} if words else answer
 
     def change(self, locale, payload, bundles, held):
         """Makes a change of a release in copies of an application's bundles and files."""

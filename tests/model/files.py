@@ -5,6 +5,7 @@ bundle. `read` answers a bundle with its visits, or raises `BadFile` with the wo
 """
 import re
 import struct
+from dataclasses import dataclass
 
 KEY = re.compile(rb"([ -~]+)\0")
 TYPES = {"string": 0, "bin": 1, "table": 2, "alias": 3, "int": 7, "array": 8, "intvector": 14}
@@ -14,22 +15,21 @@ class BadFile(Exception):
     """A file that is refused, with the error's word."""
 
 
+@dataclass
 class Layout:
-    """The choices of a writer: the header's size, the minor version, the number of indexes, long tables, keys that share their ends,
+    """The choices of a writer: the header's size, the number of indexes, the minor version, long tables, keys that share their ends,
     items that share a value, and what comes after the bundle."""
 
-    def __init__(self):
-        self.header = 32
-        self.minor = None
-        self.indexes = None
-        self.has_long_tables = False
-        self.shares_keys = False
-        self.shares_values = False
-        self.tail = b""
+    header: int = 32
+    indexes: int | None = None
+    minor: int | None = None
+    has_long_tables: bool = False
+    shares_keys: bool = False
+    shares_values: bool = False
+    tail: bytes = b""
 
 
 def keys_of(item):
-    """Returns all keys of an item."""
     kind, content = item
     if kind == "table":
         return set(content).union(*map(keys_of, content.values()))
@@ -37,7 +37,6 @@ def keys_of(item):
 
 
 def longest_table(item):
-    """The number of entries of an item's longest table."""
     kind, content = item
     if kind == "table":
         return max([len(content), *map(longest_table, content.values())])
@@ -79,7 +78,6 @@ class Writer:
         return self.known[known]
 
     def table(self, content):
-        """Writes a table after its items."""
         items = [self.item(value) for value in content.values()]
         places = [self.places[key] for key in content]
         if self.layout.has_long_tables or max([len(items), *places]) > 65535:
@@ -88,7 +86,6 @@ class Writer:
         return self.put(2, head + b"\xaa" * (-len(head) % 4) + struct.pack(f"<{len(items)}I", *items))
 
     def item(self, item):
-        """Writes an item, and gives its word."""
         kind, content = item
         if kind == "int":
             return 7 << 28 | content
@@ -107,13 +104,11 @@ class Writer:
 
 
 def header(size, minor):
-    """The header of a file."""
     fields = struct.pack("<HBBHHBBBB4s4B4B", size, 0xDA, 0x27, 20, 0, 0, 0, 2, 0, b"ResB", 1, minor, 0, 0, 0, 0, 0, 0)
     return fields + bytes(size - len(fields))
 
 
 def write(bundle, layout=None):
-    """The file of a bundle."""
     layout = layout or Layout()
     tree, no_fallback = bundle
     indexes = layout.indexes or (6 if no_fallback else 5)
@@ -163,7 +158,6 @@ class Reader:
         return found[1].decode("ascii")
 
     def keys(self, places):
-        """The keys of a table, which ascend."""
         found = []
         for place in places:
             key = self.key(place)
@@ -173,7 +167,6 @@ class Reader:
         return found
 
     def end(self, place, size):
-        """Checks that a value ends below the top."""
         if place + size > 4 * self.top:
             raise BadFile("Length")
 
@@ -189,7 +182,6 @@ class Reader:
         return [self.item(word, level + 1) for word in words]
 
     def container(self, kind, place, level):
-        """A table or an array."""
         self.visited.add((kind, place))
         if kind == 2:
             count = struct.unpack_from("<H", self.data, place)[0]
@@ -217,7 +209,6 @@ class Reader:
         return "intvector", list(struct.unpack_from(f"<{count}i", self.data, place + 4))
 
     def item(self, word, level):
-        """The item of a word, at a level."""
         if (word, level) not in self.known:
             self.known[word, level] = self.checked(word, level)
         return self.known[word, level]
@@ -238,7 +229,6 @@ class Reader:
 
 
 def read_header(file):
-    """Checks the header, and gives the reader of what comes after it."""
     if len(file) > 67108864:
         raise BadFile("TooLong")
     if len(file) < 24 or file[2:4] != b"\xda\x27" or file[12:16] != b"ResB":
@@ -256,7 +246,6 @@ def read_header(file):
 
 
 def read(file):
-    """The bundle that a file denotes, and its visits."""
     reader = read_header(file)
     no_fallback = reader.read_tops()
     root = reader.word(0)

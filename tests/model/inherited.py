@@ -15,14 +15,8 @@ class TooLong(Exception):
     """The tree has more items than the model makes."""
 
 
-def alias_steps(units):
-    """Returns the steps that it takes to read an alias."""
-    return 1 + len(units) // 64
-
-
 class Tree:
-    """The tree of a name and the segments of a path, over the bundles of an application and those of ICUDATA: its value, and the steps
-    that it takes."""
+    """The tree of a name and a path, over the bundles of an application and those of ICUDATA: its value, and the steps that it takes."""
 
     def __init__(self, own, common, parents, name, path, most=SIZE_LIMIT):
         self.own, self.common, self.parents, self.name, self.begin, self.most = own, common, parents, name, path, most
@@ -80,7 +74,7 @@ class Tree:
             # of what is left the last part is below the item where the alias is, or all of the path below the tree's
             below = left[max(0, len(left) - len(below)):]
             is_new = not below
-            self.steps += alias_steps(item[1]) if is_new else 0
+            self.steps += 1 + len(item[1]) // 64 if is_new else 0  # to read the alias
             is_common, name, path = lookups.target(item[1], self.valid)
             bundles = self.common if is_common else bundles
             begin = (walked if path is None else path) + left[:len(left) - len(below)]
@@ -102,7 +96,6 @@ class Tree:
         return item, walked + below, [], is_whole
 
     def tree(self, below):
-        """The value at a path below the tree's."""
         self.size += 1
         if self.size > self.most:
             raise TooLong

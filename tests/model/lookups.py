@@ -9,10 +9,6 @@ class Refused(Exception):
     """A lookup or explicit parents that are refused, with the error's word."""
 
 
-def is_word(part):
-    return part.isascii() and part.isalnum()
-
-
 def canonical(text):
     """The name that a text is read as, or None."""
     name = text.split("@", 1)[0].replace("-", "_")
@@ -21,14 +17,10 @@ def canonical(text):
     first, *others = name.split("_")
     if len(name) > 64 or not (first.isascii() and first.isalpha() and 2 <= len(first) <= 8):
         return None
-    if not all(is_word(part) and len(part) <= 8 for part in others):
+    if not all(part.isascii() and part.isalnum() and len(part) <= 8 for part in others):
         return None
     script = [others.pop(0).title()] if others and len(others[0]) == 4 and others[0].isalpha() else []
     return "_".join([first.lower(), *script, *map(str.upper, others)])
-
-
-def shorter(name):
-    return name.rpartition("_")[0] or None
 
 
 def string_at(tree, key):
@@ -43,7 +35,6 @@ def string_at(tree, key):
 
 
 def parents_of(tree):
-    """The explicit parents that a bundle's table gives, by child."""
     kind, entries = child(tree, "parentLocales") or (None, None)
     if kind != "table":
         raise Refused("Shape")
@@ -62,7 +53,6 @@ def parents_of(tree):
 
 
 def children_of(value):
-    """The names at one parent."""
     items = value[1] if value[0] == "array" else [value]
     if any(kind != "string" for kind, _ in items):
         raise Refused("Shape")
@@ -71,7 +61,7 @@ def children_of(value):
 
 def after(parents, name):
     """The name that comes after one whose bundle says nothing."""
-    return None if name == "root" else parents.get(name) or shorter(name) or "root"
+    return None if name == "root" else parents.get(name) or name.rpartition("_")[0] or "root"
 
 
 def next_name(bundle, parents, name):

@@ -41,7 +41,6 @@ class Limits:
         return self.keep_serving or any(getattr(self, name) is not None for name in SIZES)
 
     def refuse(self, name, number, word):
-        """Refuses a number that is above a limit."""
         most = getattr(self, name)
         if most is not None and number > most:
             raise Refused(word)
@@ -57,7 +56,6 @@ class Limits:
         return Limits(self.keep_serving, **{**given, "apps": self.apps and MOST})
 
     def arguments(self):
-        """The arguments of `serve` for these limits."""
         given = [(name, getattr(self, name)) for name in SIZES]
         found = [word for name, most in given if most is not None for word in (f"--{name.replace('_', '-')}", str(most))]
         return found + ["--keep-serving"] * self.keep_serving
@@ -69,12 +67,9 @@ def no_constant(_word):
 
 def number(digits):
     """Refuses a number that is too large for a float."""
-    try:
-        if not math.isinf(float(digits)):
-            return 0
-    except OverflowError:
-        pass
-    raise NotRequest
+    if math.isinf(float(digits)):
+        raise NotRequest
+    return 0
 
 
 def pairs(found):
@@ -104,7 +99,6 @@ def nesting(text):
 
 
 def data_of(line):
-    """The object that a line holds."""
     try:
         text = line.decode("utf-8")
         value = json.loads(text, object_pairs_hook=pairs, parse_float=number, parse_int=number, parse_constant=no_constant)
@@ -117,7 +111,6 @@ def data_of(line):
 
 
 def payload_of(data):
-    """Returns what reads the payload of an install or a replacement, and its bytes."""
     if ("text" in data) == ("file" in data):
         raise NotRequest
     if "text" in data:
@@ -146,7 +139,6 @@ def read_text(source):
 
 
 def read_file(source):
-    """Returns the bundle of a file, and the file."""
     try:
         return files.read(source)[0], source
     except files.BadFile as error:
@@ -154,7 +146,6 @@ def read_file(source):
 
 
 def app_of(name):
-    """The name of an application."""
     if not APP.fullmatch(name):
         raise Refused("BadApp")
     if name == "ICUDATA":
@@ -196,13 +187,11 @@ class Server:
             self.limits.refuse("apps", 1 + sum(1 for others in self.files.values() if others), "TooManyApps")
 
     def judged(self, locale, payload):
-        """Returns the name, the bundle and the file of a payload."""
         name, (read, source) = locale_of(locale), payload
         self.limits.refuse("bundle_bytes", len(source), "BundleTooLong")
         return name, *read(source)
 
     def store(self, data, may_be_there, may_be_new):
-        """Stores a bundle, and returns whether one was there."""
         app, locale, payload = text_at(data, "app"), text_at(data, "locale"), payload_of(data)
         bundles, held = self.bundles(app_of(app)), self.files_of(app)
         name, bundle, file = self.judged(locale, payload)
@@ -252,7 +241,6 @@ class Server:
         return {**told, "actual": actual, "valid": valid}
 
     def answered(self, line):
-        """Returns the data of a line's reply."""
         try:
             self.limits.refuse_line(len(line))
             data = data_of(line)
@@ -274,12 +262,10 @@ class Server:
         return answer
 
     def reply(self, line):
-        """The line that answers a line, with its line feed."""
         return spelled(self.answered(line))
 
 
 def spelled(answer):
-    """The line of a reply's data."""
     return (compact(answer) + "\n").encode("utf-8")
 
 
@@ -290,9 +276,3 @@ def caller_of(line):
     except NotRequest:
         return None
     return app if isinstance(app, str) else None
-
-
-def lines_of(source):
-    """The lines of an input."""
-    lines = source.split(b"\n")
-    return lines if lines[-1] else lines[:-1]

@@ -10,12 +10,8 @@ from model.trees import is_printable, units_of
 SPACE = "\t\n\r \u2029\ufeff"
 SIGNS = "{},:"
 LEXICAL = {"TooLong", "NotUtf8", "BadEscape", "OpenQuote", "OpenComment"}
-ESCAPES = [
-    (re.compile(r"u([0-9a-fA-F]{4})"), 16),
-    (re.compile(r"U([0-9a-fA-F]{8})"), 16),
-    (re.compile(r"x([0-9a-fA-F]{1,2})"), 16),
-    (re.compile(r"([0-7]{1,3})"), 8),
-]
+ESCAPES = [(re.compile(form), base) for form, base in (
+    (r"u([0-9a-fA-F]{4})", 16), (r"U([0-9a-fA-F]{8})", 16), (r"x([0-9a-fA-F]{1,2})", 16), (r"([0-7]{1,3})", 8))]
 NAMED = dict(zip("abefnrtv", "\x07\x08\x1b\x0c\x0a\x0d\x09\x0b"))
 LINE_END = re.compile("[\n\r\u2029]")
 NUMBER = re.compile(r"([+-]?)(?:0[xX]([0-9a-fA-F]+)|(0[0-7]*)|([1-9][0-9]*))")
@@ -31,7 +27,7 @@ class BadText(Exception):
 
 
 class Lexer:
-    """Cuts a text into tokens: a pair of units and line for a text, and of a sign and its line for punctuation."""
+    """Cuts a text into tokens: a pair of units and line for a text, and of a sign and its line for punctuation. A call reads what begins at `at`."""
 
     def __init__(self, text):
         self.text = text
@@ -63,7 +59,6 @@ class Lexer:
         return False
 
     def escape(self):
-        """The units of the escape that begins here."""
         begin = self.at
         for form, base in ESCAPES:
             found = form.match(self.text, begin + 1)
@@ -77,14 +72,12 @@ class Lexer:
         return units_of(NAMED.get(letter, letter))
 
     def unit(self):
-        """The units of the character or the escape that begins here."""
         if self.text[self.at] == "\\":
             return self.escape()
         self.at += 1
         return units_of(self.text[self.at - 1])
 
     def quoted(self):
-        """The units of the quoted piece that begins here."""
         self.at += 1
         units = ()
         while self.text[self.at:self.at + 1] != '"':
@@ -95,7 +88,6 @@ class Lexer:
         return units
 
     def unquoted(self):
-        """The units of the unquoted piece that begins here."""
         units = ()
         while self.at < len(self.text) and self.text[self.at] not in SPACE + SIGNS + '"':
             if not self.skip_comment():
@@ -103,7 +95,6 @@ class Lexer:
         return units
 
     def texts(self):
-        """The units of the pieces that begin here, merged."""
         merged, was_quoted = (), None
         while self.skip_blank():
             if self.text[self.at] in SIGNS:
@@ -137,7 +128,6 @@ class Lexer:
 
 
 def integer(units, least, most):
-    """The number that units write, or None."""
     found = NUMBER.fullmatch("".join(map(chr, units)))
     if not found:
         return None
@@ -179,7 +169,6 @@ class Parser:
         return self.tokens[self.at - 1][0]
 
     def type_word(self):
-        """The type that is written here, or None if there is none."""
         if self.peek() != ":":
             return None
         self.at += 1
@@ -200,7 +189,6 @@ class Parser:
         return guessed
 
     def value(self, level):
-        """A body with or without its type."""
         if level > 64:
             self.refuse("TooDeep")
         word = self.type_word()
@@ -259,7 +247,6 @@ class Parser:
         return "intvector", found
 
     def bundle(self):
-        """The whole text."""
         self.take_text()
         word = self.type_word()
         if word not in (None, "table", "table(nofallback)"):
@@ -273,20 +260,14 @@ class Parser:
 
 
 BODIES = {
-    "table": Parser.table,
-    "array": Parser.array,
+    "table": Parser.table, "array": Parser.array, "intvector": Parser.vector,
+    "int": Parser.int, "integer": Parser.int, "bin": Parser.binary, "binary": Parser.binary,
     "string": lambda parser, _level: ("string", parser.any_text()),
     "alias": lambda parser, _level: ("alias", parser.any_text()),
-    "bin": Parser.binary,
-    "binary": Parser.binary,
-    "int": Parser.int,
-    "integer": Parser.int,
-    "intvector": Parser.vector,
 }
 
 
 def read(source):
-    """The bundle that the bytes of a text spell."""
     if len(source) > 8388608:
         raise BadText("TooLong", 1)
     try:

@@ -5,14 +5,14 @@ items, and a table a dictionary from keys to items, in ascending order. A bundle
 """
 import json
 import re
+import struct
 
 INDEX = re.compile("0|[1-9][0-9]*")
 
 
 def units_of(text):
-    """The UTF-16 units of a text."""
     coded = text.encode("utf-16-le", "surrogatepass")
-    return tuple(int.from_bytes(coded[i:i + 2], "little") for i in range(0, len(coded), 2))
+    return struct.unpack(f"<{len(coded) // 2}H", coded)
 
 
 def is_printable(text):
@@ -59,7 +59,6 @@ def leaves(item, path=()):
 
 
 def height(item):
-    """Counts the levels of an item."""
     kind, content = item
     below = content.values() if kind == "table" else content if kind == "array" else ()
     return 1 + max(map(height, below), default=0)
@@ -75,7 +74,6 @@ def text_members(units):
 
 
 def members(item, rest=""):
-    """The members of an item in a reply."""
     kind, content = item
     if kind == "string":
         told = text_members(content)

@@ -7,11 +7,12 @@ from model.files import header
 
 STRING, BINARY, TABLE, ALIAS, LONG_TABLE, INT, ARRAY, VECTOR = 0, 1, 2, 3, 4, 7, 8, 14
 FIRST_KEY = 24
+# the file of `root{}` (docs/FORMAT.md), which a command may replace
+OLDER = bytes.fromhex("2000DA2714000000000002005265734201010000000000000000000000000000000000200500000006000000060000000600000000000000")
 HEADER = header(32, 1)
 
 
 def item(kind: int, value: int) -> int:
-    """Returns the word of an item."""
     return kind << 28 | value
 
 
@@ -25,7 +26,6 @@ def file_of(minor: int, numbers: Sequence[int]) -> bytes:
 
 
 def with_bytes(data: bytes, place: int, over: Iterable[int]) -> bytes:
-    """Returns bytes with others written over them."""
     over = bytes(over)
     return data[:place] + over + data[place + len(over):]
 
@@ -76,17 +76,17 @@ class Builder:
         return self.file(item(TABLE, at))
 
 
-def shared_arrays(levels: int) -> bytes:
-    """Returns a file in which each array has the next one twice: 2 to the power of `levels` Ints, were they counted one by one."""
+def shared_arrays(levels: int, count: int = 2) -> bytes:
+    """Returns a file in which each array has the next one `count` times, which spells `count` to the power of `levels` Ints; 63 levels are TooDeep."""
     made = Builder(b"a\0")
-    at = made.add([2, item(INT, 0), item(INT, 0)])
+    at = made.add([count] + [item(INT, 0)] * count)
     for _ in range(levels - 1):
-        at = made.add([2, item(ARRAY, at), item(ARRAY, at)])
+        at = made.add([count] + [item(ARRAY, at)] * count)
     return made.file_of_one(item(ARRAY, at))
 
 
-def suffixes(count: int) -> bytes:
-    """Returns a file of a long table whose keys are all the suffixes of one long key."""
-    made = Builder(b"a" * count + b"\0")
-    keys = [FIRST_KEY + count - 1 - i for i in range(count)]
-    return made.file(item(LONG_TABLE, made.add([count, *keys, *[item(INT, 0)] * count])))
+def suffixes(length: int, period: int = 1) -> bytes:
+    """Returns a file of a long table whose keys are the suffixes, at each period, of one key that repeats itself."""
+    count = length // period
+    made = Builder((b"b" * (period - 1) + b"a") * count + b"\0")
+    return made.file(item(LONG_TABLE, made.table([period * i for i in reversed(range(count))])))

@@ -79,11 +79,7 @@ class History:
         bundles = list(self.server.apps.get(app, {}).values())
         if not bundles or self.random.random() < 0.2:
             return self.random.choice(making.PATHS)
-        item, parts = self.random.choice(bundles)[0], []
-        while item[0] in ("table", "array") and item[1] and self.random.random() < 0.9:
-            part = self.random.choice(list(item[1])) if item[0] == "table" else str(self.random.randrange(len(item[1])))
-            item = item[1][part] if item[0] == "table" else item[1][int(part)]
-            parts.append(part)
+        parts = making.random_path(self.random, self.random.choice(bundles)[0], 0.9)
         return "/".join(parts + self.random.choice(([], [], [], ["a"])))
 
     def payload(self):
@@ -110,7 +106,6 @@ class History:
         return {"op": "look", "app": app, "locale": self.near(app), "path": self.path(app)}
 
     def add_random(self):
-        """Adds a line, or several that belong together."""
         chosen, most = self.random.random(), self.limits.line_bytes
         if most is not None and most < 10000 and self.random.random() < 0.1:
             self.add_long()
@@ -144,7 +139,6 @@ class History:
         self.add(line + b" " * max(0, room + self.random.choice((-1, 0, 0, 1, 1, 2, 9000))))
 
     def of_app(self, app):
-        """The lines of one application, and their replies."""
         return [pair for pair in zip(self.lines, self.replies) if caller_of(pair[0]) == app]
 
 

@@ -3,24 +3,7 @@ import random
 import struct
 from array import array
 
-from support.files import ALIAS, ARRAY, FIRST_KEY, INT, LONG_TABLE, STRING, TABLE, Builder, item, suffixes, words
-
-
-def shared_items(levels, count):
-    """Each array has the next one `count` times. With more than 62 levels it is TooDeep."""
-    made = Builder(b"a\0")
-    at = made.add([count] + [item(INT, 0)] * count)
-    for _ in range(levels - 1):
-        at = made.add([count] + [item(ARRAY, at)] * count)
-    return made.file_of_one(item(ARRAY, at))
-
-
-def periodic_key(length, period):
-    """A long table of the suffixes, at each period, of one key that repeats itself."""
-    made = Builder((b"b" * (period - 1) + b"a") * (length // period) + b"\0")
-    count = length // period
-    keys = [FIRST_KEY + length // period * period - (i + 1) * period for i in range(count)]
-    return made.file(item(LONG_TABLE, made.add([count] + keys + [item(INT, 0)] * count)))
+from support.files import ALIAS, ARRAY, FIRST_KEY, LONG_TABLE, STRING, TABLE, Builder, item, suffixes, words
 
 
 def mixed(count, is_mixed):
@@ -77,8 +60,7 @@ def overlapping_ends(size):
 
 
 def overlapping_tables(count, is_mixed=False):
-    """Each word of a long run is the length of one long table, a key offset of others, and an item of others, an empty
-    String."""
+    """Each word of a long run is the length of a long table, a key offset of others, and an item of others, an empty String."""
     base = 3 * count + 16
     longest = 3 * count + 2 * base
     key = b"a" * (base + longest) + b"b\0"  # each suffix is below the next
@@ -115,8 +97,7 @@ def plain_table(size):
     """A long table of Ints with keys of eight letters, of about `size` bytes."""
     count = max(1, size // 17)
     made = Builder(b"".join(b"k%07d\0" % i for i in range(count)))
-    keys = [FIRST_KEY + 9 * i for i in range(count)]
-    return made.file(item(LONG_TABLE, made.add([count] + keys + [item(INT, 0)] * count)))
+    return made.file(item(LONG_TABLE, made.table(range(0, 9 * count, 9))))
 
 
 # ---- letters of long keys
@@ -202,38 +183,25 @@ def copies(letters, count, tables):
     return make
 
 
-def all_ends(size):
-    """One table of all ends of a key of one letter."""
-    return suffixes(size // 9)
-
-
-def mixed_arrays(size):
-    """Arrays that overlap, met in random order."""
-    return overlapping_arrays(size // 12, True)
-
-
-def mixed_tables(size):
-    """Tables that overlap, met in random order."""
-    return overlapping_tables(size // 88, True)
+def each(make, size, *arguments):
+    """A maker over a number of parts, each of about `size` bytes."""
+    return lambda whole: make(whole // size, *arguments)
 
 
 # ---- texts
 
 
-def plain_text(size):
-    return b"root{" + b"".join(b'k%07d{"value of some letters"}' % i for i in range(size // 34)) + b"}"
+def text_of(begin, part, length, end):
+    """A text of many parts, each of about this many bytes, which may have their number."""
+    return lambda size: begin + b"".join(part % i if b"%" in part else part for i in range(size // length)) + end
 
 
-def small_tables(size):
-    """Tables of one empty array each."""
-    return b"root{" + b"".join(b"k%d{a{}}" % i for i in range(size // 13)) + b"}"
-
-
-def nested_arrays(size):
-    """Arrays of 59 levels that hold nothing."""
-    return b"root{a{" + (b"{" * 59 + b"}" * 59) * (size // 118) + b"}}"
-
-
+plain_text = text_of(b"root{", b'k%07d{"value of some letters"}', 34, b"}")
+# the last two are compared with the root's text, here with themselves: a string of placeholders with other names, and an array of short strings
+small_tables = text_of(b"root{", b"k%d{a{}}", 13, b"}")
+nested_arrays = text_of(b"root{a{", b"{" * 59 + b"}" * 59, 118, b"}}")
+placeholders = text_of(b'root{a{"', b"{n%06d}", 9, b'"}}')
+one_array = text_of(b"root{a{", b'"x",', 4, b"}}")
 KEY_BYTES = bytes(byte for byte in range(0x21, 0x7F) if byte not in b'"{}:,/\\*%')
 
 
@@ -269,21 +237,8 @@ def keys_of_one_slot(size):
     return b"root{a{" + b"".join(tables) + b"}}"
 
 
-# ---- texts that are compared with the root's text, here with themselves
-
-
-def placeholders(size):
-    """A string of placeholders with different names."""
-    return b'root{a{"' + b"".join(b"{n%06d}" % i for i in range(size // 9)) + b'"}}'
-
-
-def one_array(size):
-    """An array of short strings."""
-    return b"root{a{" + b'"x",' * (size // 4) + b"}}"
-
-
 def long_key(size):
-    """Entries under a key of half the text, which is in the path of each."""
+    """Entries under a key of half the text, which is in the path of each; the text is compared with itself too."""
     entries = b"".join(b'a%06d{"b"}' % i for i in range(size // 24))
     return b"root{" + b"k" * (size // 2) + b"{" + entries + b"}}"
 
@@ -299,14 +254,9 @@ def look(locale, path):
     return b'{"op":"look","app":"a","locale":"%s","path":"%s"}\n' % (locale, path)
 
 
-def long_alias(size):
-    """An alias to itself with a long keyword after its locale."""
-    return install(b"root", b'root{a:alias{"root@' + b"x" * size + b'/a"}}'), look(b"root", b"a")
-
-
-def growing_path(size):
-    """The same, where each alias makes the path longer, so that no level is asked what an earlier one was."""
-    return install(b"root", b'root{a:alias{"root@' + b"x" * size + b'/a/b"}}'), look(b"root", b"a/b")
+def alias_to_itself(path):
+    """An alias to itself with a long keyword after its locale. A longer path grows each time, so that no level is asked what an earlier one was."""
+    return lambda size: (install(b"root", b'root{a:alias{"root@' + b"x" * size + b"/" + path + b'"}}'), look(b"root", path))
 
 
 def install_file(locale, data):
@@ -348,8 +298,7 @@ def long_parent(size):
 def long_key_reply(size):
     """A table with one long key, for which the reply is longer than 1,000 bytes."""
     made = Builder(b"k" * size + b"\0")
-    data = made.file(item(LONG_TABLE, made.add([1, FIRST_KEY, item(INT, 0)])))
-    return install_file(b"root", data), look(b"root", b"")
+    return install_file(b"root", made.file(item(LONG_TABLE, made.table([0])))), look(b"root", b"")
 
 
 def trail(path, body, end):
@@ -367,8 +316,7 @@ def deep_trail(size):
 
 
 def deep_random_trail(size):
-    """A trail and 256 levels as in `deep_trail`, over tables of random keys, so that each halving of a table waits for memory. The texts have about this
-    many bytes in all."""
+    """A trail as in `deep_trail`, over tables of random keys, so that each halving of a table waits for memory; the texts have this many bytes in all."""
     dice, letters = random.Random(2), b"abcdefghijklmnopqrstuvwxyz"
     path, count = [bytes(dice.choices(letters, k=13)) for _ in range(60)], size // 31 // 59 // 15
 
@@ -383,9 +331,7 @@ def deep_random_trail(size):
 
 def shared_keys(size):
     """A table whose keys are the ends of one key, so that they are far longer together than the file."""
-    count = size // 9
-    data = suffixes(count)
-    return install_file(b"root", data), look(b"root", b"")
+    return install_file(b"root", suffixes(size // 9)), look(b"root", b"")
 
 
 def other_members(size):

@@ -1,5 +1,4 @@
 """The installed ICU: the package of its data, the texts and files in it, genrb, derb, and a line server over libicu."""
-import functools
 import os
 import pathlib
 import re
@@ -16,22 +15,14 @@ def package(folder: object, named: str | None = None) -> str:
         if not os.path.exists(named):
             raise Skipped(f"{named} is missing")
         return named
-    need("objcopy")
-    library, version = data_library()
-    path = os.path.join(str(folder), f"icudt{version}l.dat")
-    subprocess.run(["objcopy", "-O", "binary", "-j", ".rodata", library, path], check=True)
-    return path
-
-
-@functools.cache
-def data_library() -> tuple[str, str]:
-    """Returns the path of the installed libicudata, and its version."""
-    need("ldconfig")
+    need("objcopy", "ldconfig")
     listed = subprocess.run(["ldconfig", "-p"], capture_output=True, text=True, check=True).stdout
     found = re.search(r"=> (.*libicudata\.so\.(\d+))$", listed, re.MULTILINE)
     if not found:
         raise Skipped("libicudata is missing")
-    return found[1], found[2]
+    path = os.path.join(str(folder), f"icudt{found[2]}l.dat")
+    subprocess.run(["objcopy", "-O", "binary", "-j", ".rodata", found[1], path], check=True)
+    return path
 
 
 def texts(data: str, folder: object, tree: str | None = None) -> list[pathlib.Path]:
@@ -43,7 +34,6 @@ def texts(data: str, folder: object, tree: str | None = None) -> list[pathlib.Pa
 
 
 def is_locale(name: str) -> bool:
-    """Checks whether a bundle's name is a locale's."""
     return name != "res_index" and re.fullmatch(r"root|[a-z]{2,3}(_\w+)*", name) is not None
 
 

@@ -12,30 +12,25 @@ def entries(text):
     """The entries of a text, each a head and a body, which is None for an item that is a text."""
     stack, body, head = [], [], []
 
-    def end():
-        if head:
-            body.append((" ".join(head).replace(" : ", ":").replace(": ", ":"), None))
-            head.clear()
+    def end(inner):
+        body.append((" ".join(head).replace(" : ", ":").replace(": ", ":"), inner))
+        head.clear()
 
     for token in TOKEN.findall(text):
-        if token == "{":
-            inner = []
-            body.append((" ".join(head).replace(" : ", ":").replace(": ", ":"), inner))
-            head.clear()
-            stack.append(body)
-            body = inner
-        elif token == "}":
-            end()
-            body = stack.pop()
-        elif token == ",":
-            end()
-        else:
+        if token not in ("{", "}", ","):
             head.append(token)
+        elif token == "{":
+            stack.append(body)
+            end(inner := [])
+            body = inner
+        else:
+            if head:
+                end(None)
+            body = stack.pop() if token == "}" else body
     return body
 
 
 def is_list(body):
-    """Returns whether a body has only items that are texts."""
     return all(inner is None for _, inner in body)
 
 
@@ -93,6 +88,5 @@ STYLES = {
 
 
 def laid_out(text):
-    """A text in each style, by the style's name."""
     body = entries(text)
     return {name: "\n".join(style(body)) + "\n" for name, style in STYLES.items()}

@@ -8,7 +8,7 @@ import json
 from hypothesis import settings
 from hypothesis import strategies as st
 from model import files, texts
-from model.trees import height, units_of
+from model.trees import child, height, units_of
 
 sources = st.randoms(use_true_random=True)
 
@@ -38,7 +38,6 @@ SIGNS = ["{", "}", ",", ":", "\"", "\\", "//", "/*", "*/", "\n", " ", ":int", ":
 
 
 def random_text(random):
-    """The units of a text."""
     if random.random() < 0.2:
         return units_of(random.choice(LOCALES))
     if random.random() < 0.6:
@@ -55,10 +54,6 @@ def random_alias(random):
     return units_of(random.choice(ALIASES))
 
 
-def random_number(random):
-    return random.choice((0, 1, -1, 2147483647, -2147483648, random.randrange(-(1 << 31), 1 << 31)))
-
-
 def random_leaf(random):
     kind = random.choice(("string", "string", "alias", "int", "intvector", "bin"))
     if kind == "string":
@@ -69,11 +64,10 @@ def random_leaf(random):
         return kind, random.choice((0, 1, (1 << 28) - 1, 1 << 27, random.randrange(1 << 28)))
     if kind == "bin":
         return kind, random.randbytes(random.choice((0, 1, 3, 16, 40)))
-    return kind, [random_number(random) for _ in range(random.choice((0, 1, 2, 5)))]
+    return kind, [random.choice((0, 1, -1, 2147483647, -2147483648, random.randrange(-(1 << 31), 1 << 31))) for _ in range(random.choice((0, 1, 2, 5)))]
 
 
 def random_item(random, levels, leaf=random_leaf, keys=KEYS):
-    """Returns an item with at most this many levels below it."""
     chosen = random.random()
     if levels == 0 or chosen < 0.5:
         return leaf(random)
@@ -92,25 +86,28 @@ def random_table(random, levels, leaf=random_leaf, keys=KEYS):
 
 
 def chain(random, count):
-    """A table over this many arrays, one in the other."""
     item = random_leaf(random)
     for _ in range(count):
         item = "array", [item]
     return "table", {"a": item}
 
 
-def wide_table(random):
-    return "table", {f"key{i:03d}": random_leaf(random) for i in range(300)}
-
-
 def random_bundle(random):
-    """A table and the flag."""
     is_deep = random.random() < 0.02
     tree = chain(random, random.choice((30, 31, 61, 62, 63))) if is_deep else random_table(random, random.choice((1, 2, 2, 3, 4)))
-    tree = wide_table(random) if random.random() < 0.01 else tree
+    tree = ("table", {f"key{i:03d}": random_leaf(random) for i in range(300)}) if random.random() < 0.01 else tree
     if not is_deep and random.random() < 0.1:
         tree[1][random.choice(("%%ALIAS", "%%Parent"))] = "string", units_of(random.choice(LOCALES[1:] + BAD_LOCALES[:1]))
     return ("table", dict(sorted(tree[1].items()))), random.random() < 0.1
+
+
+def random_path(random, item, share):
+    """Returns the segments of a way down an item, which continues at each level with this probability."""
+    parts = []
+    while item[0] in ("table", "array") and item[1] and random.random() < share:
+        parts.append(random.choice(list(item[1])) if item[0] == "table" else str(random.randrange(len(item[1]))))
+        item = child(item, parts[-1])
+    return parts
 
 
 class Speller:
@@ -121,7 +118,6 @@ class Speller:
         self.comments = random.choice((0, 0.1, 0.1, 0.4))
 
     def blank(self):
-        """Returns white space and comments."""
         parts = [self.random.choice(("", "", "", " ", "\n", "\t\r\n", "\n\n\n", "\ufeff", "\u2029"))]
         while self.random.random() < self.comments:
             self.count += 1
@@ -130,7 +126,6 @@ class Speller:
         return "".join(parts)
 
     def unit(self, unit):
-        """A unit inside quotes."""
         forms = [f"\\u{unit:04x}", f"\\U{unit:08X}"]
         if unit < 0x100:
             forms.append(f"\\x{unit:02x}")
@@ -183,9 +178,6 @@ class Speller:
         digits = content.hex(" ") if self.random.random() < 0.5 else content.hex().upper()
         return self.random.choice((":bin", ":binary")), digits if self.random.random() < 0.5 else f'"{digits}"'
 
-    def spelled_array(self, items):
-        return self.random.choice((":array", "")), "".join(self.element(item) + self.blank() for item in items)
-
     def element(self, item):
         if item[0] == "string" and self.random.random() < 0.7:
             return self.text(item[1]) + ","
@@ -201,14 +193,14 @@ class Speller:
         return self.random.choice((":table", "") if shuffled else (":table",)), body
 
     def spelled(self, item):
-        """The type and the body of an item."""
         kind, content = item
         if kind == "string":
             return self.random.choice((":string", "")), self.text(content)
         if kind == "alias":
             return ":alias", self.text(content)
-        return {"int": self.spelled_int, "intvector": self.spelled_vector, "bin": self.spelled_bytes, "array": self.spelled_array,
-                "table": self.spelled_table}[kind](content)
+        if kind == "array":
+            return self.random.choice((":array", "")), "".join(self.element(inner) + self.blank() for inner in content)
+        return {"int": self.spelled_int, "intvector": self.spelled_vector, "bin": self.spelled_bytes, "table": self.spelled_table}[kind](content)
 
     def value(self, item):
         word, body = self.spelled(item)
@@ -222,7 +214,6 @@ class Speller:
 
 
 def good_bundle(random):
-    """Returns a bundle within the limits."""
     while True:
         bundle = random_bundle(random)
         if height(bundle[0]) <= 64:
@@ -230,14 +221,12 @@ def good_bundle(random):
 
 
 def spelled(random, bundle):
-    """Returns the text of a bundle, which the model's reader must read as it is meant."""
     text = Speller(random).bundle(bundle).encode("utf-8")
     assert height(bundle[0]) > 64 or texts.read(text) == bundle, f"the model reads another bundle: {text!r}"
     return text
 
 
 def written(random, bundle):
-    """Returns the file of a bundle, which the model's reader must read as it is meant."""
     layout = random_layout(random)
     if bundle[1] and layout.minor is None:
         layout.indexes, layout.minor = 6, 2
@@ -248,17 +237,11 @@ def written(random, bundle):
 
 def random_layout(random):
     """A layout, often that of the program."""
-    layout = files.Layout()
     if random.random() < 0.5:
-        return layout
-    layout.header = random.choice((32, 48, 256))
-    layout.indexes = random.choice((6, 7, 9))
-    layout.minor = random.choice((2, 3, 4, 255))
-    layout.has_long_tables = random.random() < 0.3
-    layout.shares_keys = random.random() < 0.5
-    layout.shares_values = random.random() < 0.5
-    layout.tail = random.choice((b"", b"x", b"\xff" * 64))
-    return layout
+        return files.Layout()
+    header, indexes, minor = map(random.choice, ((32, 48, 256), (6, 7, 9), (2, 3, 4, 255)))
+    has_long_tables, shares_keys, shares_values = (random.random() < share for share in (0.3, 0.5, 0.5))
+    return files.Layout(header, indexes, minor, has_long_tables, shares_keys, shares_values, random.choice((b"", b"x", b"\xff" * 64)))
 
 
 def damage_file(random, file):
@@ -283,7 +266,6 @@ def damage_file(random, file):
 
 
 def damage_text(random, text):
-    """A text with some places changed."""
     for _ in range(random.choice((1, 1, 2, 5))):
         at = random.randrange(len(text) + 1)
         past = at + random.choice((0, 0, 1, 1, 2, 9))
@@ -292,7 +274,6 @@ def damage_text(random, text):
 
 
 def damage_line(random, line):
-    """A line with some bytes changed."""
     damaged = bytearray(line)
     for _ in range(random.choice((1, 1, 2, 4))):
         at = random.randrange(len(damaged) + 1)
@@ -314,7 +295,6 @@ def random_line(random):
 
 
 def dumped(random, request):
-    """A request as a line."""
     pairs = list(request.items())
     random.shuffle(pairs)
     separators = random.choice(((",", ":"), (", ", ": ")))
@@ -329,6 +309,5 @@ def hexadecimal(random, file):
 
 
 def parents_text(parents):
-    """Returns a text with the explicit parent of each child."""
     children = {parent: ",".join(f'"{name}"' for name, other in parents.items() if other == parent) for parent in parents.values()}
     return "x{parentLocales{" + "".join(f"{parent}:array{{{names}}}" for parent, names in children.items()) + "}}"

@@ -18,10 +18,17 @@ def text_of(*names: object) -> str:
     return "".join((TOP / str(name)).read_text(encoding="utf-8") for name in sorted(map(str, names)))
 
 
-def anchors(path: object) -> set[str]:
+PAGES = sorted(str(page.relative_to(TOP)) for place in ("*.md", "*/*.md", "*/*/*.md") for page in TOP.glob(place))
+
+
+def outside_blocks(page: object) -> str:
+    return re.sub(r"^```.*?^```", "", text_of(page), flags=re.M | re.S)
+
+
+def anchors(page: object) -> set[str]:
     """Returns the names of a page's headings in links."""
-    page = re.sub(r"^```.*?^```", "", text_of(path), flags=re.M | re.S)
-    return {re.sub(r"[^\w\- ]", "", heading.strip().lower()).replace(" ", "-") for heading in re.findall(r"^#+ (.*)$", page, flags=re.M)}
+    headings = re.findall(r"^#+ (.*)$", outside_blocks(page), flags=re.M)
+    return {re.sub(r"[^\w\- ]", "", heading.strip().lower()).replace(" ", "-") for heading in headings}
 
 
 def bad_links(page: object, folder: object = "/") -> Iterator[str]:

@@ -1,11 +1,14 @@
 """The built program, commands with their outcomes, and limits of their memory and their output."""
 import functools
+import importlib.machinery
 import json
 import pathlib
 import resource
 import shutil
 import signal
 import subprocess
+import sys
+import types
 import unittest
 from collections.abc import Callable, Iterable
 from typing import Any, NamedTuple
@@ -40,10 +43,17 @@ def rows(name: str) -> list[Any]:
 
 
 def need(*tools: str) -> None:
-    """Raises Skipped for the first command that is missing."""
     for tool in tools:
         if not shutil.which(tool):
             raise Skipped(f"{tool} is missing")
+
+
+def loaded(name: str, path: object) -> Any:
+    loader = importlib.machinery.SourceFileLoader(name, str(path))
+    module = types.ModuleType(name)
+    module.__file__, sys.modules[name] = str(path), module
+    loader.exec_module(module)
+    return module
 
 
 def shown(words: Iterable[object]) -> str:
@@ -85,14 +95,12 @@ class Resb:
         return str(name)
 
     def get(self, name: object) -> bytes | None:
-        """Returns the bytes of a file of the folder, or None if it is missing."""
         try:
             return (self.folder / str(name)).read_bytes()
         except OSError:
             return None
 
     def compiled(self, text: str | bytes, *options: str) -> bytes:
-        """Returns the file of a text."""
         data = text.encode("utf-8", "surrogatepass") if isinstance(text, str) else text
         return self.output("compile", *options, "-", "-", stdin=data)
 
@@ -102,7 +110,6 @@ class Resb:
 
 
 def limited(size: int) -> Callable[[], None]:
-    """Returns a function that gives a new process at most this much address space."""
     return lambda: resource.setrlimit(resource.RLIMIT_AS, (size, size))
 
 
@@ -120,7 +127,6 @@ def limited_output(most: int, size: int | None = None) -> Callable[[], None]:
 
 @functools.cache
 def least_memory(program: str) -> int:
-    """Returns the least address space in which the program starts."""
     low, high = 0, 512 * MEGABYTE
     while high - low > MEGABYTE // 8:
         middle = (low + high) // 2

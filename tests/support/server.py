@@ -3,7 +3,7 @@ import json
 import os
 import subprocess
 import threading
-from collections.abc import Iterable, Sequence
+from collections.abc import Sequence
 from typing import Any
 
 from support.program import WAIT, Commands, shown
@@ -13,8 +13,9 @@ SETTINGS = {"MALLOC_MMAP_THRESHOLD_": "4096", "GLIBC_TUNABLES": "glibc.malloc.hu
 
 
 def line_of(request: Any) -> bytes:
-    """Returns a request as a line, without its line feed; bytes are a line already."""
-    return request if isinstance(request, bytes) else json.dumps(request, separators=(",", ":")).encode()
+    """Returns a request as a line, without its line feed; a text or bytes are a line already."""
+    line = request if isinstance(request, (bytes, str)) else json.dumps(request, separators=(",", ":"))
+    return line.encode() if isinstance(line, str) else line
 
 
 def reply_of(answer: Any) -> bytes:
@@ -65,7 +66,6 @@ class Server:
             return self.replies[:count]
 
     def ask(self, line: bytes) -> bytes:
-        """Returns the reply to a line without its line feed."""
         count = self.count + 1
         self.send(line + b"\n")
         return self.await_replies(count)[-1]
@@ -79,27 +79,21 @@ class Server:
             return None
 
     def peak(self) -> int | None:
-        """Returns the most bytes of memory that the process had."""
         found = self.proc("status", "VmHWM")
         return found and found * 1024
 
     def microseconds(self) -> float:
-        """Returns the processor time of the process so far."""
         with open(f"/proc/{self.process.pid}/schedstat", encoding="ascii") as file:
             return int(file.read().split()[0]) / 1e3
 
     def end(self) -> int:
-        """Ends the input, and returns the status once the last reply came."""
+        """Ends the input, and returns the status once the last reply came; standard error, if it is a pipe, is in `errors`."""
         if self.process.stdin and not self.process.stdin.closed:
             self.process.stdin.close()
         self.listener.join(WAIT)
         status = self.process.wait(WAIT)
+        self.errors = self.process.stderr.read() if self.process.stderr else b""
         for stream in (self.process.stdout, self.process.stderr):
             if stream:
                 stream.close()
         return status
-
-
-def limit_words(limits: dict[str, int]) -> Iterable[str]:
-    """Returns the arguments of limits, which are given by their options."""
-    return [word for name, value in limits.items() for word in (name, str(value))]

@@ -1,19 +1,11 @@
 """Large bundle texts, made for tests and benches."""
-import functools
-
 from support.program import TOP
-
-
-@functools.cache
-def nested_body() -> str:
-    """Returns the entries of examples/nested.txt."""
-    body = (TOP / "examples" / "nested.txt").read_text(encoding="utf-8")
-    return body[body.index("{") + 1:body.rindex("}")]
 
 
 def nested(size: int) -> str:
     """Returns a text of about `size` bytes of nested tables."""
-    inner = nested_body()
+    text = (TOP / "examples" / "nested.txt").read_text(encoding="utf-8")
+    inner = text[text.index("{") + 1:text.rindex("}")]
     count = size // (len(inner.encode()) + 16) + 1
     return "root{\n" + "".join(f"part{number:05}{{{inner}}}\n" for number in range(count)) + "}\n"
 

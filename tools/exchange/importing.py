@@ -10,7 +10,7 @@ from dataclasses import dataclass, field
 from typing import Optional
 
 from . import states
-from .common import Document, Failure, Header, Path, Unit, id_of, read_file, refuse_over_input, shown, write_file, write_output
+from .common import Document, Failure, Header, Path, Unit, id_of, read_file, refuse_over_input, shown, write_file
 from .edits import edited
 from .formats import FORMATS
 from .languages import differ, tag_of
@@ -220,10 +220,7 @@ def write_report(args: argparse.Namespace, result: Result, error: Optional[Failu
     members = {"file": args.file, "target": args.into, "done": error is None} | vars(result)
     members["errors"] = str(error).split("\n") if error else []
     data = json.dumps(members, ensure_ascii=True, indent=2).encode() + b"\n"
-    if args.report == "-":
-        write_output(data)
-    else:
-        write_file(args.report, data)
+    write_file(None if args.report == "-" else args.report, data)
 
 
 def merged(taken: Import) -> dict:

@@ -1,134 +1,89 @@
 package api
 
 import (
-	"context"
 	"net/http"
-	"strings"
 	"time"
 
-	"luvdregan.example/resb/deploy/internal/convert"
-	"luvdregan.example/resb/deploy/internal/store"
+	"luvdregan.example/resb/deploy/internal/front"
+	"luvdregan.example/resb/deploy/internal/manifest"
+	"luvdregan.example/resb/deploy/internal/names"
+	"luvdregan.example/resb/deploy/internal/wire"
 )
 
-// conversions bound what conversions of bundles cost beside lookups.
-var conversions = convert.Bounds{Time: 20 * time.Second, Memory: 1 << 30, Output: 64 << 20, AtOnce: 2}
+var fetches = front.Operation{Kind: front.KindFetch}
 
-// A rendering is a form in which a bundle is returned.
-type rendering struct {
-	suffix, kind string
-	form         store.Form // the one in which it is the submitted bytes
-}
-
-var renderings = []rendering{
-	{"txt", "text/plain; charset=utf-8", store.Text},
-	{"res", "application/octet-stream", store.File},
-	{"json", "application/json", store.NoForm},
-}
-
-// renderingOf returns the form that the suffix of a name says, and the name without it.
-func renderingOf(name string) (locale string, of rendering, ok bool) {
-	for _, r := range renderings {
-		if locale = strings.TrimSuffix(name, "."+r.suffix); locale != name {
-			return locale, r, true
-		}
+// fetch answers with a bundle: as it was submitted, or converted.
+func fetch(c *call, locale string, form wire.Form) error {
+	c.Operation = &fetches
+	now := c.Backend.Now(c.App)
+	c.W.Header()["Resb-Revision"] = now.Header()
+	name, ok := names.Canonical(locale)
+	if !ok {
+		return wire.BadLocale
 	}
-	return name, of, false
-}
-
-// fetch answers with a bundle: as it was submitted, or converted by the program.
-func (c *call) fetch(locale string, of rendering) {
-	c.kind = "fetch"
-	b, there := c.Backend.Bundle(c.app, locale)
-	if !there {
-		c.refuse(absent)
-		return
+	if b := now.Find(name); b != nil {
+		return render(c, *b, form)
 	}
-	c.render(b, of, func() (store.Bundle, []byte, error) {
-		now, body, there, err := c.kept(locale, b.Bytes)
-		if err == nil && !there {
-			err = errAbsent // it was removed meanwhile
-		}
-		return now, body, err
-	})
+	return wire.Absent
 }
 
 // render writes a version of a bundle in a form, unless the caller has it.
-func (c *call) render(b store.Bundle, of rendering, load func() (store.Bundle, []byte, error)) {
-	h := c.w.Header()
-	h.Set("Cache-Control", "private, no-cache")
-	h.Add("Vary", "Authorization")
-	tag := of.describe(h, b)
-	if c.unchanged(tag, b.At) {
-		c.write(http.StatusNotModified, "", nil)
-		return
-	}
-	body, err := []byte(nil), c.hold(int64(b.Bytes))
-	if err == nil {
-		b, body, err = load()
-	}
-	if err == nil {
-		of.describe(h, b)
-		body, err = c.converted(b, body, of)
-	}
-	if err != nil {
-		h.Del("ETag")
-		h.Del("Last-Modified")
-		c.fail(err)
-		return
-	}
-	c.write(http.StatusOK, of.kind, body)
-}
-
-// describe sets the headers that name a version of a bundle, and returns its tag.
-func (r rendering) describe(h http.Header, b store.Bundle) (tag string) {
-	suffix := r.suffix
-	if r.form == b.Form {
+func render(c *call, b manifest.Bundle, form wire.Form) error {
+	c.Privately()
+	suffix := form.Suffix
+	if form.Kind == b.Kind {
 		suffix = ""
 	}
-	tag = bundleTag(b.Digest, suffix)
+	if !wire.ConditionsOf(http.Header{"If-Match": c.R.Header["If-Match"]}).Hold(&b) {
+		return wire.Unmet
+	}
+	tag, has := wire.Has(c.R, wire.BundleTag(b.Digest, suffix))
+	if len(c.R.Header["If-None-Match"]) == 0 {
+		since, err := http.ParseTime(c.R.Header.Get("If-Modified-Since"))
+		has = err == nil && !wire.At(&b).Truncate(time.Second).After(since)
+	}
+	h := c.W.Header()
 	h.Set("ETag", tag)
-	h.Set("Last-Modified", b.At.UTC().Format(http.TimeFormat))
-	return tag
-}
-
-// hold counts memory of the request, if its application may have it.
-func (c *call) hold(bytes int64) error {
-	err := c.Limits.hold(c.app, bytes)
-	if err == nil {
-		c.counted += bytes
+	h.Set("Last-Modified", wire.At(&b).Format(http.TimeFormat))
+	if has {
+		return c.Write(http.StatusNotModified, nil, nil)
 	}
-	return err
-}
-
-// free takes back what hold counted, down to a number of bytes.
-func (c *call) free(bytes int64) {
-	c.Limits.free(c.app, c.counted-bytes)
-	c.counted = bytes
-}
-
-// unchanged returns true if the caller has what the tag names.
-func (c *call) unchanged(tag string, at time.Time) bool {
-	if len(c.r.Header.Values("If-None-Match")) > 0 {
-		return c.has(tag)
+	var body []byte
+	err := c.Long(c.Context(), b.Bytes, func() (err error) {
+		body, err = converted(c, b, form)
+		return err
+	})
+	if err != nil {
+		h.Del("Last-Modified")
+		return err
 	}
-	since, err := http.ParseTime(c.r.Header.Get("If-Modified-Since"))
-	return err == nil && !at.Truncate(time.Second).After(since)
+	return c.Write(http.StatusOK, form.Header, body)
 }
 
-// converted returns a bundle in a form. Its memory counts as that of the request.
-func (c *call) converted(b store.Bundle, body []byte, of rendering) (made []byte, err error) {
-	ctx, cancel := context.WithTimeout(c.r.Context(), c.options.Patience)
-	defer cancel()
-	switch of.suffix {
+// load returns what was submitted for a bundle. Its memory counts as that of the request before it is read.
+func load(c *call, b manifest.Bundle) ([]byte, error) {
+	if err := c.Hold(b.Bytes); err != nil {
+		return nil, err
+	}
+	return c.Backend.Body(c.Context(), c.App, b)
+}
+
+// converted returns a bundle in a form.
+func converted(c *call, b manifest.Bundle, form wire.Form) (made []byte, err error) {
+	body, err := load(c, b)
+	if err != nil || form.Kind == b.Kind {
+		return body, err
+	}
+	switch form.Suffix {
 	case "txt":
-		made, err = c.convert.Text(ctx, c.app, b.Locale, b.Form, body)
+		made, err = c.Convert.Text(b.Locale, b.Kind, body)
 	case "res":
-		made, err = c.convert.File(ctx, c.app, b.Form, body)
+		made, err = c.Convert.File(b.Kind, body)
 	default:
-		made, err = c.convert.JSON(ctx, c.app, b.Form, body)
+		made, err = c.Convert.JSON(b.Kind, body)
 	}
-	if err == nil && of.form != b.Form {
-		err = c.hold(int64(len(made)))
+	if err == nil {
+		err = c.Hold(int64(len(made)))
 	}
 	return made, err
 }

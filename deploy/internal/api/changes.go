@@ -2,242 +2,238 @@ package api
 
 import (
 	"context"
-	"crypto/sha256"
+	"errors"
+	"fmt"
 	"mime"
-	"net"
 	"net/http"
 	"strings"
 	"time"
-	"unicode/utf8"
 
+	"luvdregan.example/resb/deploy/internal/auth"
 	"luvdregan.example/resb/deploy/internal/convert"
+	"luvdregan.example/resb/deploy/internal/engine"
+	"luvdregan.example/resb/deploy/internal/front"
+	"luvdregan.example/resb/deploy/internal/manifest"
+	"luvdregan.example/resb/deploy/internal/names"
 	"luvdregan.example/resb/deploy/internal/replica"
-	"luvdregan.example/resb/deploy/internal/store"
+	"luvdregan.example/resb/deploy/internal/wire"
 )
 
-// rounds is how often a PUT is tried as the one operation and the other, where others change the bundle at the same time.
-const rounds = 4
+// A payload is a bundle that a request has, in which nothing is refused yet.
+type payload struct {
+	locale string // as given
+	kind   string // or "" if nothing says it
+	body   []byte
+}
 
-// change answers PUT, POST and DELETE.
-func (c *call) change(name string) {
-	c.kind = "change"
-	asked := store.Change{App: c.app, Locale: name, Op: store.Remove, Who: c.who}
-	if c.r.Method != http.MethodDelete {
-		asked.Locale, asked.Form = c.form(name)
-		asked.Op = store.Install
+// payloadOf finds the form of the body: the suffix of the name says it, or else the type.
+func payloadOf(c *call, name string) payload {
+	if locale, form, ok := wire.FormOf(name); ok && form.Kind != "" {
+		return payload{locale: locale, kind: form.Kind}
 	}
-	holds, p := c.judge(asked.Locale)
-	if p == nil && asked.Op == store.Install {
-		asked.Body, p = c.bundle(asked.Form)
-	}
+	p := payload{locale: name}
+	kind, parameters, err := mime.ParseMediaType(c.R.Header.Get("Content-Type"))
+	set, there := parameters["charset"]
 	switch {
-	case p == nil:
-	case p.word == badText.word:
-		c.answerChange(p.status, asked, c.explained(asked, p.reply()))
-		return
-	default:
-		c.refuse(*p)
-		return
+	case err != nil:
+	case kind == wire.Text && (!there || strings.EqualFold(set, "utf-8") || strings.EqualFold(set, "us-ascii")):
+		p.kind = engine.Text
+	case kind == wire.File:
+		p.kind = engine.File
 	}
-	if _, strict := c.r.URL.Query()["strict"]; strict {
-		if reason := otherName(asked); reason != "" {
-			c.refuseFor(otherNamed, reason)
-			return
+	return p
+}
+
+// accept refuses a body that says in no way, or in a wrong one, what it is.
+func (p *payload) accept(c *call) error {
+	switch {
+	case p.kind == "" || isEncoded(c):
+		return wire.BadType
+	case c.R.Header.Get("Content-Range") != "": // a part would replace the whole (RFC 9110, 14.4)
+		return wire.BadLength
+	}
+	return nil
+}
+
+func isEncoded(c *call) bool {
+	encoding := c.R.Header.Get("Content-Encoding")
+	return encoding != "" && !strings.EqualFold(encoding, "identity")
+}
+
+// read reads the body.
+func (p *payload) read(c *call) (err error) {
+	p.body, err = c.Body(mostOf(c, p.kind))
+	return err
+}
+
+// mostOf returns the most bytes of a body.
+func mostOf(c *call, kind string) int64 {
+	if kind == engine.File {
+		return c.Options.FileBytes
+	}
+	return c.Options.TextBytes
+}
+
+// otherName returns what is doubtful about the name of a text that is put as a locale, or "".
+func (p *payload) otherName() string {
+	name, ok := names.InText(p.body)
+	if p.kind != engine.Text || !ok {
+		return ""
+	}
+	locale, _ := names.Canonical(p.locale)
+	if is, _ := names.Canonical(name); is == locale {
+		return ""
+	}
+	return fmt.Sprintf("the text has the name '%.80s', and it is put as '%.80s'", name, locale)
+}
+
+// put answers PUT and POST of a bundle.
+func put(c *call) error {
+	given := payloadOf(c, c.Parts[0])
+	c.Asked(given.locale, nil)
+	edit := replica.Edit{}
+	edit.If, edit.MustBeAbsent = condition(c), c.R.Method == http.MethodPost
+	if err := readPut(c, &given, &edit); err != nil {
+		return err
+	}
+	c.Asked(given.locale, given.body)
+	defer func() { edit.Bundle.Discard() }()
+	if err := prepare(c, &edit, given); err != nil {
+		return explained(c, err, given)
+	}
+	return makeEdit(c, "put", &edit, given.otherName())
+}
+
+// readPut reads the bundle of a PUT or POST. If its condition doesn't hold it is refused before the body is sent, unless the gateway may be
+// behind another one.
+func readPut(c *call, given *payload, edit *replica.Edit) (err error) {
+	if err := given.accept(c); err != nil {
+		return err
+	}
+	if edit.Locale, err = localeIn(given.locale); err != nil {
+		return err
+	}
+	if now := c.Backend.Now(c.App); edit.If != nil && c.Options.Alone && !edit.If(now.Find(edit.Locale)) {
+		c.Tell(now.Revision)
+		return wire.Unmet
+	}
+	if err := given.read(c); err != nil {
+		return err
+	}
+	if reason := given.otherName(); reason != "" && c.Asks("strict") {
+		p := wire.OtherName
+		p.Message = reason
+		return p
+	}
+	return nil
+}
+
+// localeIn returns the name under which a bundle of a locale is stored.
+func localeIn(given string) (string, error) {
+	if name, ok := names.Canonical(given); ok {
+		return name, nil
+	}
+	return "", wire.BadLocale
+}
+
+// condition returns the condition of the request for a bundle, or nil.
+func condition(c *call) func(*manifest.Bundle) bool {
+	if given := wire.ConditionsOf(c.R.Header); given.Any() {
+		return given.Hold
+	}
+	return nil
+}
+
+// prepare reads and checks the bundle of an edit, once it is the turn of the application.
+func prepare(c *call, edit *replica.Edit, given payload) error {
+	return c.Long(c.Context(), int64(len(given.body)), func() error { return prepareNow(edit, given.kind, given.body) })
+}
+
+func prepareNow(edit *replica.Edit, kind string, body []byte) (err error) {
+	edit.Kind, edit.Body, edit.Digest = kind, body, manifest.DigestOf(body)
+	if edit.Bundle, err = engine.Prepare(kind, body); err == nil {
+		edit.Compiled = edit.Bundle.Compiled()
+	}
+	return err
+}
+
+// change has a change made. It tells the revision that it made, or against which it was judged.
+func change(c *call, op string, make func(context.Context, *replica.View) ([]replica.Edit, error)) (made *manifest.Manifest, same bool, err error) {
+	made, same, err = c.Backend.Change(c.Context(), replica.Request{App: c.App, Who: c.Who.Name(), Op: op, Erase: make == nil, Make: make,
+		IsGone: func() bool { return c.R.Context().Err() != nil },
+		Mine:   func(name string) bool { return c.Who.May(name, time.Now()) == auth.Write }})
+	if made != nil {
+		c.Tell(made.Revision)
+	}
+	return made, same, err
+}
+
+// makeEdit has one edit made.
+func makeEdit(c *call, op string, edit *replica.Edit, warning string) error {
+	made, same, err := change(c, op, func(context.Context, *replica.View) ([]replica.Edit, error) { return []replica.Edit{*edit}, nil })
+	if err != nil {
+		return err
+	}
+	return done(c, edit, !same && made.Made[0].Op == manifest.Install, warning)
+}
+
+// done answers that a change was made, or that all is as it asks already. If a bundle is there now, the tag is its own.
+func done(c *call, edit *replica.Edit, isNew bool, warning string) error {
+	c.NoStore()
+	status := http.StatusOK
+	h := c.W.Header()
+	if edit.Digest != "" {
+		h.Set("ETag", wire.BundleTag(edit.Digest, ""))
+		if isNew {
+			status = http.StatusCreated
+			h.Set("Location", "/v1/"+c.App+"/"+edit.Locale)
 		}
 	}
-	c.make(asked, c.r.Method == http.MethodPut, holds)
+	reply := struct {
+		OK      bool   `json:"ok"`
+		Warning string `json:"warning,omitempty"`
+	}{true, warning}
+	return c.Write(status, front.JSONType, append(convert.Marshal(reply), '\n'))
 }
 
-// patiently returns the context of a change. On one machine a caller that has gone doesn't take back what it asked. Over a shared log
-// it may have made a newer change at another gateway, which an older one must not undo: so that isn't published any more.
-func (c *call) patiently() (context.Context, context.CancelFunc) {
-	ctx := context.Background()
-	if c.Backend.IsShared() {
-		ctx = replica.WithCaller(c.r.Context(), c.awaitEnd())
+// remove answers DELETE of a bundle.
+func remove(c *call) (err error) {
+	c.Asked(c.Parts[0], nil)
+	edit := replica.Edit{}
+	edit.If = condition(c)
+	if edit.Locale, err = localeIn(c.Parts[0]); err != nil {
+		return err
 	}
-	return context.WithTimeout(ctx, c.options.Patience)
+	return makeEdit(c, "remove", &edit, "")
 }
 
-// mostTrip is the longest round trip that awaitEnd waits for.
-const mostTrip = time.Second / 2
-
-// awaitEnd waits for two round trips of the connection. If the network held back the request and the end of the connection, the end
-// comes one round trip after the request. It returns a function that asks whether the connection has ended.
-func (c *call) awaitEnd() (isGone func() bool) {
-	conn, known := c.r.Context().Value(connKey{}).(net.Conn)
-	if !known || c.options.Peer == nil {
-		return nil
+// erase removes the bundles of the application and its history, if the query asks for it.
+func erase(c *call) error {
+	if asked, is := c.Query["erase"]; !is || len(asked) > 1 || asked[0] != "" && asked[0] != "true" {
+		return wire.BadQuery
 	}
-	_, trip := c.options.Peer(conn)
-	if trip == 0 || trip > mostTrip {
-		trip = mostTrip
+	if _, _, err := change(c, "erase", nil); err != nil {
+		return err
 	}
-	late := time.NewTimer(2 * trip)
-	defer late.Stop()
-	select {
-	case <-late.C:
-	case <-c.r.Context().Done():
-	}
-	return func() bool {
-		gone, _ := c.options.Peer(conn)
-		return gone
-	}
-}
-
-// refuseFor refuses a change for a reason.
-func (c *call) refuseFor(p problem, reason string) {
-	text, err := convert.Marshal(map[string]string{"error": p.word, "message": reason})
-	if err != nil {
-		text = p.reply()
-	}
-	c.answerChange(p.status, store.Change{Op: store.Remove}, text)
-}
-
-// make has a change made if its condition holds, as an installation or a replacement if it puts a bundle, and answers.
-func (c *call) make(asked store.Change, puts bool, holds store.Condition) {
-	if c.refusesOld() {
-		return
-	}
-	ctx, cancel := c.patiently()
-	defer cancel()
-	var reply []byte
-	var revision store.Revision
-	var err error
-	if puts {
-		asked.Op, reply, revision, err = c.put(ctx, asked, holds)
-	} else {
-		reply, revision, err = c.Backend.Change(ctx, asked, holds)
-	}
-	c.audit.note(c, asked.Op.String(), asked, reply, err)
-	c.respond(asked, reply, revision, err)
-}
-
-// respond answers a change that was made or refused.
-func (c *call) respond(asked store.Change, reply []byte, revision store.Revision, err error) {
-	if err != nil {
-		c.refuse(problemOf(err))
-		return
-	}
-	status := http.StatusOK
-	if asked.Op == store.Install {
-		status = http.StatusCreated
-	}
-	if revision > 0 {
-		c.tellRevision(revision)
-	}
-	status = statusOf(reply, status)
-	c.answerChange(status, asked, warned(asked, c.explained(asked, reply)))
+	return done(c, &replica.Edit{}, false, "")
 }
 
 // explanations is how long the reason of a refusal may take.
 const explanations = 10 * time.Second
 
-// explained adds to the refusal of a bundle which error the program finds in it, and in which line, if it finds it in time.
-func (c *call) explained(asked store.Change, reply []byte) []byte {
-	word, _ := refusal(reply)
-	if word != "BadText" && word != "BadFile" {
-		return reply
+// explained returns why a bundle isn't one: the code and the line of its first error, and what is known of it, if that is found in time.
+func explained(c *call, err error, given payload) error {
+	var fault *engine.Fault
+	if !errors.As(err, &fault) {
+		return err
 	}
-	ctx, cancel := context.WithTimeout(c.r.Context(), explanations)
+	p := wire.ProblemWith(map[string]string{engine.Text: "BadText", engine.File: "BadFile", convert.JSON: "BadPatch"}[given.kind])
+	p.Fault, p.Line = fault.Code, int(fault.Line)
+	ctx, cancel := context.WithTimeout(c.R.Context(), explanations)
 	defer cancel()
-	fault, found := c.convert.Fault(ctx, c.app, asked.Form, asked.Body)
-	if !found {
-		return reply
-	}
-	text, err := convert.Marshal(struct {
-		Code    string `json:"code"`
-		Error   string `json:"error"`
-		Line    int    `json:"line,omitempty"`
-		Message string `json:"message,omitempty"`
-	}{fault.Code, word, fault.Line, fault.Message})
-	if err != nil {
-		return reply
-	}
-	return text
-}
-
-// answerChange writes the reply to a change. If a bundle is there now, the tag is its own.
-func (c *call) answerChange(status int, asked store.Change, reply []byte) {
-	h := c.w.Header()
-	h.Set("Cache-Control", "no-store")
-	if status < 300 && asked.Op != store.Remove {
-		sum := sha256.Sum256(asked.Body)
-		h.Set("ETag", bundleTag(sum[:], ""))
-	}
-	switch status {
-	case http.StatusCreated:
-		h.Set("Location", "/v1/"+asked.App+"/"+store.Canonical(asked.Locale))
-	case http.StatusServiceUnavailable:
-		h.Set("Retry-After", "1")
-	}
-	c.write(status, "application/json", append(reply[:len(reply):len(reply)], '\n'))
-}
-
-// put installs a bundle or puts it in the place of the one that is there, and tells which it was.
-func (c *call) put(ctx context.Context, asked store.Change, holds store.Condition) (
-	done store.Operation, reply []byte, revision store.Revision, err error) {
-	asked.Op = store.Install
-	if c.Backend.Has(c.app, asked.Locale) {
-		asked.Op = store.Replace
-	}
-	for round := 0; ; round++ {
-		reply, revision, err = c.Backend.Change(ctx, asked, holds)
-		word, _ := refusal(reply)
-		switch {
-		case err != nil || round == rounds:
-			return asked.Op, reply, revision, err
-		case asked.Op == store.Install && word == "Exists":
-			asked.Op = store.Replace
-		case asked.Op == store.Replace && word == "Absent":
-			asked.Op = store.Install
-		default:
-			return asked.Op, reply, revision, nil
-		}
-	}
-}
-
-// bundle reads the bundle that a request carries.
-func (c *call) bundle(form store.Form) (body []byte, p *problem) {
-	limit := c.options.TextBytes
-	switch {
-	case form == store.NoForm:
-		return nil, &badType
-	case c.isEncoded():
-		return nil, &badType
-	case form == store.File:
-		limit = c.options.FileBytes
-	}
-	body, p = c.body(limit)
-	if p == nil && form == store.Text && !utf8.Valid(body) {
-		return body, &badText
-	}
-	return body, p
-}
-
-// isEncoded returns true if the body is compressed, or encoded in another way.
-func (c *call) isEncoded() bool {
-	encoding := c.r.Header.Get("Content-Encoding")
-	return encoding != "" && !strings.EqualFold(encoding, "identity")
-}
-
-// form tells the form of the body: the suffix of the name says it, where it has one, and else the type. It gives the name
-// without the suffix.
-func (c *call) form(name string) (locale string, f store.Form) {
-	switch {
-	case strings.HasSuffix(name, ".txt"):
-		return strings.TrimSuffix(name, ".txt"), store.Text
-	case strings.HasSuffix(name, ".res"):
-		return strings.TrimSuffix(name, ".res"), store.File
-	}
-	kind, parameters, err := mime.ParseMediaType(c.r.Header.Get("Content-Type"))
-	set, there := parameters["charset"]
-	switch {
-	case err != nil:
-		return name, store.NoForm
-	case kind == "text/plain" && (!there || strings.EqualFold(set, "utf-8") || strings.EqualFold(set, "us-ascii")):
-		return name, store.Text
-	case kind == "application/octet-stream":
-		return name, store.File
-	}
-	return name, store.NoForm
+	_ = c.Work(ctx, func() error { // without a reason the code remains
+		p.Message = c.Convert.Explain(ctx, fault, given.kind, given.body)
+		return nil
+	})
+	return p
 }

@@ -1,250 +1,219 @@
 package api
 
 import (
-	"context"
+	"encoding/base64"
 	"encoding/hex"
-	"net/http"
+	"math"
 	"strconv"
-	"strings"
 	"time"
 
-	"luvdregan.example/resb/deploy/internal/auth"
 	"luvdregan.example/resb/deploy/internal/convert"
+	"luvdregan.example/resb/deploy/internal/manifest"
+	"luvdregan.example/resb/deploy/internal/names"
+	"luvdregan.example/resb/deploy/internal/release"
+	"luvdregan.example/resb/deploy/internal/replica"
 	"luvdregan.example/resb/deploy/internal/store"
+	"luvdregan.example/resb/deploy/internal/wire"
 )
 
-// The changes of the history in one reply.
+// The changes of the history in one reply, and how many manifests are read at a time.
 const (
 	usualHistory = 100
 	mostHistory  = 1000
+	someHistory  = 100
 )
 
-// A version is a change in the reply to a request for the history.
+// A version is a change in the reply to a request for the history. Its number is that of the manifest, times the most changes of one, and its
+// place among them.
 type version struct {
-	At     string `json:"at"`
-	Bytes  int    `json:"bytes"`
-	ID     int64  `json:"id"`
-	Kept   bool   `json:"kept"`
-	Locale string `json:"locale"`
-	Op     string `json:"op"`
-	SHA256 string `json:"sha256,omitempty"`
-	Token  string `json:"token"`
+	At       string `json:"at"`
+	Bytes    int64  `json:"bytes"`
+	ID       int64  `json:"id"`
+	Kept     bool   `json:"kept"`
+	Locale   string `json:"locale"`
+	Op       string `json:"op"`
+	Revision int64  `json:"revision"`
+	SHA256   string `json:"sha256,omitempty"`
+	Token    string `json:"token"`
 }
 
-// history answers with the last changes of the application.
-func (c *call) history() {
-	c.kind = "history"
-	most, ok := number(c.r, "last", usualHistory)
-	before, fine := number(c.r, "before", 0)
-	if !ok || !fine || most > mostHistory {
-		c.refuse(badQuery)
-		return
-	}
-	found, err := c.Backend.History(c.app, c.r.URL.Query().Get("locale"), store.Revision(before), int(most))
-	if err != nil {
-		c.fail(err)
-		return
-	}
-	all := make([]version, 0, len(found))
-	for _, v := range found {
-		all = append(all, version{v.At.UTC().Format(time.RFC3339Nano), v.Bytes, int64(v.Revision), v.Kept, v.Locale, v.Op.String(),
-			hex.EncodeToString(v.Digest), v.Who})
-	}
-	c.reply(map[string][]version{"history": all})
+func versionOf(m *manifest.Manifest, place int) version {
+	made := m.Made[place]
+	sum, _ := base64.RawURLEncoding.DecodeString(string(made.Digest)) // a digest of a manifest is valid
+	at := time.UnixMilli(m.At).UTC().Format(time.RFC3339Nano)
+	return version{at, made.Bytes, m.Revision*release.Most + int64(place), true, made.Locale, made.Op, m.Revision, hex.EncodeToString(sum), m.Who}
 }
 
 // number reads a number of the query.
-func number(r *http.Request, name string, usual int64) (n int64, ok bool) {
-	text := r.URL.Query().Get(name)
-	if text == "" {
-		return usual, true
+func number(c *call, name string, usual, most int64) (int64, error) {
+	if c.Query.Get(name) == "" {
+		return usual, nil
 	}
-	n, err := strconv.ParseInt(text, 10, 64)
-	return n, err == nil && n >= 0
+	n, err := strconv.ParseInt(c.Query.Get(name), 10, 64)
+	if err != nil || n < 0 || n > most {
+		return 0, wire.BadQuery
+	}
+	return n, nil
 }
 
-// reply answers with a value as JSON that is true for the moment.
-func (c *call) reply(value any) {
-	text, err := convert.Marshal(value)
+// history answers with the last changes of the application.
+func history(c *call) error {
+	most, err := number(c, "last", usualHistory, mostHistory)
 	if err != nil {
-		c.fail(err)
-		return
+		return err
 	}
-	c.w.Header().Set("Cache-Control", "no-store")
-	c.write(http.StatusOK, "application/json", append(text, '\n'))
+	before, err := number(c, "before", 0, math.MaxInt64)
+	if err != nil {
+		return err
+	}
+	locale := c.Query.Get("locale")
+	if name, ok := names.Canonical(locale); ok && locale != "" {
+		locale = name
+	}
+	c.W.Header()["Resb-Revision"] = c.Backend.Now(c.App).Header()
+	all := []version{}
+	err = c.Work(c.Context(), func() (err error) {
+		all, err = versions(c, locale, before, int(most))
+		return err
+	})
+	if err != nil {
+		return err
+	}
+	return c.Reply(map[string][]version{"history": all})
 }
 
-// version answers with a bundle as it was after a change.
-func (c *call) version(name string) {
-	c.kind = "fetch"
-	digits, of, isForm := renderingOf(name)
-	id, err := strconv.ParseInt(digits, 10, 64)
-	if err != nil || !isForm {
-		c.refuse(noPage)
-		return
+// versions returns the last changes before one, or all if that is 0, of a locale unless that is "".
+func versions(c *call, locale string, before int64, most int) ([]version, error) {
+	all := []version{}
+	from := int64(0) // a revision, for the store
+	if before > 0 {
+		from = before/release.Most + 1
 	}
-	v, body, err := c.versionOf(id)
-	if err == nil && v.Op == store.Remove {
+	for len(all) < most {
+		some, err := c.Backend.History(c.Context(), c.App, from, someHistory)
+		if err != nil {
+			return nil, err
+		}
+		for _, m := range some {
+			for i := len(m.Made) - 1; i >= 0 && len(all) < most; i-- {
+				v := versionOf(m, i)
+				if (before == 0 || v.ID < before) && (locale == "" || locale == v.Locale) {
+					all = append(all, v)
+				}
+			}
+			from = m.Revision
+		}
+		if len(some) < someHistory || from <= 1 {
+			break
+		}
+	}
+	return all, nil
+}
+
+// find returns the bundle after a change of the history, which has no digest if the change removed it.
+func find(c *call, id int64) (b manifest.Bundle, err error) {
+	some, err := c.Backend.History(c.Context(), c.App, id/release.Most+1, 1)
+	place := int(id % release.Most)
+	if err == nil && (id < 0 || len(some) == 0 || some[0].Revision != id/release.Most || place >= len(some[0].Made)) {
 		err = store.ErrNoVersion
 	}
 	if err != nil {
-		c.fail(err)
-		return
+		return b, err
 	}
-	b := store.Bundle{App: c.app, Locale: v.Locale, Form: store.FormOf(body), Bytes: v.Bytes, Digest: v.Digest, At: v.At}
-	c.render(b, of, func() (store.Bundle, []byte, error) { return b, body, nil })
+	made := some[0].Made[place]
+	return manifest.Bundle{Locale: made.Locale, Digest: made.Digest, Kind: made.Kind, Bytes: made.Bytes, Compiled: made.Compiled, At: some[0].At}, nil
 }
 
-// versionOf returns a change with what was submitted, whose memory counts as that of the request before it is read.
-func (c *call) versionOf(id int64) (v store.Version, body []byte, err error) {
-	found, err := c.Backend.History(c.app, "", store.Revision(id)+1, 1)
-	switch {
-	case err != nil:
-		return v, nil, err
-	case len(found) == 0 || found[0].Revision != store.Revision(id):
-		return v, nil, store.ErrNoVersion
+// idOf reads the number of a change.
+func idOf(digits string) (int64, error) {
+	id, err := strconv.ParseInt(digits, 10, 64)
+	if err != nil {
+		return 0, wire.NoPage
 	}
-	if err := c.hold(int64(found[0].Bytes)); err != nil {
-		return v, nil, err
+	return id, nil
+}
+
+// answerVersion answers with a bundle as it was after a change.
+func answerVersion(c *call) error {
+	digits, form, isForm := wire.FormOf(c.Parts[1])
+	id, err := idOf(digits)
+	if err != nil || !isForm {
+		return wire.NoPage
 	}
-	err = c.long(found[0].Bytes, func() (err error) {
-		v, body, err = c.Backend.Version(c.app, store.Revision(id))
+	c.W.Header()["Resb-Revision"] = c.Backend.Now(c.App).Header()
+	b, err := find(c, id)
+	if err == nil && b.Digest == "" {
+		err = store.ErrNoVersion
+	}
+	if err != nil {
 		return err
-	})
-	return v, body, err
+	}
+	return render(c, b, form)
 }
 
 // mostDifferences is the most bytes of the items that differ between two versions.
 const mostDifferences = 16 << 20
 
-// difference answers with the items that differ between two versions. After a removal there are none.
-func (c *call) difference(digits string) {
-	c.kind = "fetch"
-	from, err := strconv.ParseInt(digits, 10, 64)
-	to, is := number(c.r, "with", -1)
-	switch {
-	case err != nil:
-		c.refuse(noPage)
-		return
-	case !is || to < 0:
-		c.refuse(badQuery)
-		return
-	}
-	ctx, cancel := context.WithTimeout(c.r.Context(), c.options.Patience)
-	defer cancel()
-	var found []convert.Difference
-	old, err := c.treeOf(ctx, from)
-	if err == nil {
-		var new []byte
-		if new, err = c.treeOf(ctx, to); err == nil {
-			err = c.long(len(old)+len(new), func() (err error) {
-				found, err = convert.Differences(ctx, old, new, mostDifferences)
-				return err
-			})
-		}
-	}
+// differences answers with the items that differ between two versions. After a removal there are none.
+func differences(c *call) error {
+	from, err := idOf(c.Parts[1])
 	if err != nil {
-		c.fail(err)
-		return
+		return err
 	}
-	c.reply(map[string]any{"changes": found, "from": from, "to": to})
+	to, err := number(c, "with", -1, math.MaxInt64)
+	if err != nil || to < 0 {
+		return wire.BadQuery
+	}
+	var found []convert.Difference
+	err = c.Work(c.Context(), func() error {
+		old, err := treeOf(c, from)
+		if err != nil {
+			return err
+		}
+		new, err := treeOf(c, to)
+		if err == nil {
+			found, err = convert.Differences(c.Context(), old, new, mostDifferences)
+		}
+		return err
+	})
+	if err != nil {
+		return err
+	}
+	return c.Reply(map[string]any{"changes": found, "from": from, "to": to})
 }
 
 // treeOf returns a version as JSON, or nothing for a removal.
-func (c *call) treeOf(ctx context.Context, id int64) (tree []byte, err error) {
-	v, body, err := c.versionOf(id)
-	if err != nil || v.Op == store.Remove {
+func treeOf(c *call, id int64) ([]byte, error) {
+	b, err := find(c, id)
+	if err != nil || b.Digest == "" {
 		return nil, err
 	}
-	if tree, err = c.convert.JSON(ctx, c.app, store.FormOf(body), body); err == nil {
-		err = c.hold(int64(len(tree)))
-	}
-	return tree, err
+	return converted(c, b, wire.Forms[len(wire.Forms)-1])
 }
 
 // restore makes a bundle what it was after a change.
-func (c *call) restore(digits string) {
-	c.kind = "change"
-	id, err := strconv.ParseInt(digits, 10, 64)
+func restore(c *call) error {
+	id, err := idOf(c.Parts[1])
 	if err != nil {
-		c.refuse(noPage)
-		return
+		return err
 	}
-	v, body, err := c.versionOf(id)
+	b, err := find(c, id)
 	if err != nil {
-		c.fail(err)
-		return
+		return err
 	}
-	holds, p := c.judge(v.Locale)
-	if p != nil {
-		c.refuse(*p)
-		return
-	}
-	asked := store.Change{App: c.app, Locale: v.Locale, Op: store.Remove, Who: c.who}
-	if v.Op != store.Remove {
-		asked.Op, asked.Form, asked.Body = store.Install, store.FormOf(body), body
-	}
-	c.make(asked, asked.Op != store.Remove, holds)
-}
-
-// erase removes the bundles of the application and its history, if the query asks for it.
-func (c *call) erase() {
-	c.kind = "change"
-	_, asked := c.r.URL.Query()["erase"]
-	if !asked {
-		c.refuse(badQuery)
-		return
-	}
-	if c.refusesOld() {
-		return
-	}
-	ctx, cancel := c.patiently()
-	defer cancel()
-	reply, revision, err := c.Backend.Erase(ctx, c.app, c.who)
-	c.audit.note(c, "erase", store.Change{}, reply, err)
-	if err != nil {
-		c.fail(err)
-		return
-	}
-	c.tellRevision(revision)
-	c.answerChange(statusOf(reply, http.StatusOK), store.Change{Op: store.Remove}, reply)
-}
-
-// chooseOwn returns what an address of the gateway's own, which begins with `_`, does.
-func (c *call) chooseOwn(parts []string) (needed auth.Right, do func(), methods string) {
-	needed = auth.Write
-	method := c.r.Method
-	reads := method == http.MethodGet || method == http.MethodHead
-	at := strings.Join(parts, "/")
-	isVersion := len(parts) > 1 && parts[0] == "_history"
-	switch {
-	case at == "_history":
-		if methods = "GET, HEAD, OPTIONS"; reads {
-			do = c.history
+	c.Asked(b.Locale, nil)
+	edit := replica.Edit{}
+	edit.If, edit.Locale = condition(c), b.Locale
+	defer func() { edit.Bundle.Discard() }()
+	if b.Digest != "" { // it is no removal
+		body, err := load(c, b)
+		if err == nil {
+			c.Asked(b.Locale, body)
+			err = prepare(c, &edit, payload{b.Locale, b.Kind, body})
 		}
-	case parts[0] == "_check" && len(parts) == 2:
-		needed = auth.Read
-		if methods = "POST, OPTIONS"; method == http.MethodPost {
-			do = func() { c.check(parts[1]) }
+		if err != nil {
+			return err
 		}
-	case at == "_releases":
-		if methods = "POST, OPTIONS"; method == http.MethodPost {
-			do = c.release
-		}
-	case isVersion && len(parts) == 2:
-		if methods = "GET, HEAD, OPTIONS"; reads {
-			do = func() { c.version(parts[1]) }
-		}
-	case isVersion && len(parts) == 3 && parts[2] == "restore":
-		if methods = "POST, OPTIONS"; method == http.MethodPost {
-			do = func() { c.restore(parts[1]) }
-		}
-	case isVersion && len(parts) == 3 && parts[2] == "diff":
-		if methods = "GET, HEAD, OPTIONS"; reads {
-			do = func() { c.difference(parts[1]) }
-		}
-	default:
-		methods, do = "OPTIONS", func() { c.refuse(noPage) }
 	}
-	return needed, do, methods
+	return makeEdit(c, "restore", &edit, "")
 }

@@ -1,150 +1,313 @@
 package api
 
 import (
-	"bufio"
 	"bytes"
-	"context"
+	"encoding/json"
 	"io"
 	"net/http"
+	"strings"
+	"sync"
 	"time"
+	"unicode/utf8"
 
-	"luvdregan.example/resb/deploy/internal/child"
+	"luvdregan.example/resb/deploy/internal/convert"
+	"luvdregan.example/resb/deploy/internal/front"
+	"luvdregan.example/resb/deploy/internal/names"
+	"luvdregan.example/resb/deploy/internal/replica"
+	"luvdregan.example/resb/deploy/internal/wire"
 )
 
-// The lookups of one request are asked in groups of `together`, as long as fewer than `ahead` are on their way.
-const (
-	together = 64
-	ahead    = 128
-)
+// byLanguage in the place of a locale stands for the one that the caller's languages choose.
+const byLanguage = "-"
 
-// costOfLine is how many bytes of a line take as long as it takes to begin one.
-const costOfLine = 32
-
-// looks answers many lookups: a line each, and a line of the reply each, in order.
-func (c *call) looks() {
-	c.kind = "looks"
-	body, p := c.body(c.options.LookBytes)
-	if p != nil {
-		c.refuse(*p)
-		return
+// readBundle answers GET of a bundle: in a form, as a tree, or its table.
+func readBundle(c *call) error {
+	if locale, form, isForm := wire.FormOf(c.Parts[0]); isForm {
+		return fetch(c, locale, form)
 	}
-	if err := c.Backend.Ready(); err != nil {
-		c.refuse(problemOf(err))
-		return
-	}
-	if more := bytes.Count(body, []byte("\n")) - 1; more > 0 && !c.mayAsk(more) {
-		return
-	}
-	h := c.w.Header()
-	c.tellRevision(c.Backend.Revision())
-	h.Set("Content-Type", "application/x-ndjson")
-	h.Set("Cache-Control", "no-store")
-	to, end := c.streamed()
-	c.wrote = http.StatusOK
-	c.w.WriteHeader(http.StatusOK)
-	c.stream(body, to)
-	end()
+	return readItem(c)
 }
 
-// An answer to a line is the gateway's own, or that of the server, once it is there.
-type answer struct {
-	own   string
-	reply <-chan *child.Call
+// readItem answers GET of an item.
+func readItem(c *call) error {
+	locale := localeOf(c)
+	if c.Asks("tree") {
+		return tree(c, locale)
+	}
+	return look(c, locale)
 }
 
-// stream asks the lines, some ahead, and writes the replies.
-func (c *call) stream(lines []byte, to io.Writer) {
-	work := len(lines) + costOfLine*bytes.Count(lines, []byte("\n"))
-	out := bufio.NewWriterSize(to, 1<<15)
-	defer out.Flush()
-	ctx, cancel := context.WithCancel(c.r.Context())
-	defer cancel()
-	var waiting []answer
-	defer func() { freeAll(waiting) }()
-	for len(lines) > 0 || len(waiting) > 0 {
-		if len(lines) > 0 && len(waiting) < ahead {
-			var some [][]byte
-			some, lines = take(lines, together)
-			gone := c.long(work, func() error { // the lines that the gateway answers itself take no turns at the server
-				waiting = append(waiting, c.askSome(ctx, some)...)
+// localeOf returns the locale of an address, which the caller's languages choose if it stands for them.
+func localeOf(c *call) string {
+	if c.Parts[0] != byLanguage {
+		return c.Parts[0]
+	}
+	c.W.Header().Add("Vary", "Accept-Language")
+	now := c.Backend.Now(c.App)
+	return names.Chosen(names.Ranges(c.R.Header["Accept-Language"]), func(name string) bool { return now.Find(name) != nil })
+}
+
+// mostTries is how often a lookup is made anew if the application changes meanwhile.
+const mostTries = 3
+
+// withView makes a lookup, and returns the view that the engine had then. If the application changes all the time it is an earlier one.
+func withView(c *call, look func()) (now *replica.View) {
+	for try := 0; try < mostTries; try++ {
+		now = c.Backend.Now(c.App)
+		look()
+		if c.Backend.Now(c.App).Revision == now.Revision {
+			break
+		}
+	}
+	return now
+}
+
+// mostReply is more than any reply has.
+const mostReply = 1 << 30
+
+// look answers one lookup. The tag of a whole bundle also names its bytes.
+func look(c *call, locale string) (err error) {
+	buffer := buffers.Get().(*[]byte)
+	defer buffers.Put(buffer)
+	var reply []byte
+	var needs int
+	var code string
+	now := withView(c, func() { reply, needs, code = c.Engine.Item((*buffer)[:0], c.App, locale, c.Path, front.Short) })
+	if needs > 0 { // it waits for its turn
+		if err = c.Hold(int64(needs)); err == nil {
+			err = c.Work(c.Context(), func() error {
+				now = withView(c, func() { reply, _, code = c.Engine.Item(nil, c.App, locale, c.Path, mostReply) })
 				return nil
 			})
-			if gone != nil {
-				return
-			}
-			continue
 		}
-		next := waiting[0]
-		waiting = waiting[1:] // first takes what is in it, so that nobody may wait for it again
-		if !c.first(next, out) {
+		if err != nil {
+			return err
+		}
+	} else if cap(reply) <= mostBuffer {
+		*buffer = reply
+	}
+	h := c.W.Header()
+	h["Resb-Revision"] = now.Header()
+	if code != "" {
+		return wire.ProblemWith(code)
+	}
+	actual := ""
+	if c.Path == "" || c.Parts[0] == byLanguage {
+		actual = actualOf(reply)
+	}
+	if c.Parts[0] == byLanguage && actual != "root" && actual != "" {
+		h.Set("Content-Language", strings.ReplaceAll(actual, "_", "-"))
+	}
+	tag := wire.TagOf(reply)
+	if b := now.Find(actual); c.Path == "" && b != nil {
+		tag = wire.BundleTag(b.Digest, strings.Trim(tag, `"`))
+	}
+	return answer(c, tag, append(reply, '\n'))
+}
+
+// actualOf returns the locale in which an item was found.
+func actualOf(reply []byte) string {
+	_, rest, _ := bytes.Cut(reply, []byte(`"actual":"`)) // the first member
+	actual, _, _ := bytes.Cut(rest, []byte(`"`))
+	return string(actual)
+}
+
+// answer writes a reply with a tag, unless the caller has it, or asks for another one.
+func answer(c *call, tag string, body []byte) error {
+	c.Privately()
+	given, has := wire.Has(c.R, tag)
+	c.W.Header()["Etag"] = []string{given}
+	switch {
+	case len(c.R.Header["If-Match"]) > 0 && !wire.IsOneOf(tag, c.R.Header["If-Match"]):
+		return wire.Unmet
+	case has:
+		return c.Write(http.StatusNotModified, nil, nil)
+	}
+	return c.Write(http.StatusOK, front.JSONType, body)
+}
+
+// list answers with the names of the application's bundles.
+func list(c *call) error {
+	now := c.Backend.Now(c.App)
+	c.W.Header()["Resb-Revision"] = now.Header()
+	all := struct {
+		Names []string `json:"names"`
+	}{make([]string, len(now.Bundles))}
+	for i := range now.Bundles {
+		all.Names[i] = now.Bundles[i].Locale
+	}
+	reply := convert.Marshal(all)
+	return answer(c, wire.TagOf(reply), append(reply, '\n'))
+}
+
+// tree answers with an item and all that it inherits, as one value of JSON.
+func tree(c *call, locale string) error {
+	var now *replica.View
+	var tree []byte
+	var code string
+	err := c.Work(c.Context(), func() error {
+		now = withView(c, func() { tree, code = c.Engine.Tree(c.App, locale, c.Path) })
+		return c.Hold(int64(len(tree)))
+	})
+	if err != nil {
+		return err
+	}
+	c.W.Header()["Resb-Revision"] = now.Header()
+	if code == "TooManySteps" { // of a tree
+		code = "TreeTooLarge"
+	}
+	if code != "" {
+		return wire.ProblemWith(code)
+	}
+	return answer(c, wire.TagOf(tree), append(tree, '\n'))
+}
+
+// lookMany answers many lookups: a line each, and a line of the reply each, in order.
+func lookMany(c *call) error {
+	body, err := c.Body(c.Options.LookBytes)
+	if err != nil {
+		return err
+	}
+	if more := bytes.Count(body, []byte("\n")) - 1; more > 0 {
+		if err := c.Ticket.Ask(more, time.Now()); err != nil {
+			return err
+		}
+	}
+	h := c.W.Header()
+	h["Resb-Revision"], h["Content-Type"] = c.Backend.Now(c.App).Header(), asLines
+	c.NoStore()
+	var made bytes.Buffer
+	to := wire.Compressed(h, c.R, &made)
+	c.Status = http.StatusOK
+	c.W.WriteHeader(http.StatusOK)
+	stream(c, body, &made, to)
+	return nil
+}
+
+// together is how many lookups are made before others have their turn, and leastFlush how many bytes are sent together.
+const (
+	together   = 256
+	leastFlush = 32 << 10
+)
+
+// stream writes the replies to lines. While the caller reads it takes no turn.
+func stream(c *call, lines []byte, made *bytes.Buffer, to io.WriteCloser) {
+	var replies []byte
+	before, isLong := c.Ticket.Held(), len(lines) > front.Short // many short lines take long, too
+	some := func() error {
+		replies = replies[:0]
+		for n := 0; n < together && len(lines) > 0 && len(replies) < mostBuffer; n++ {
+			line, rest, _ := bytes.Cut(lines, []byte("\n"))
+			replies, lines = append(answerLine(c, replies, line, isLong), '\n'), rest
+		}
+		_, err := to.Write(replies)
+		if err == nil && len(lines) == 0 {
+			err = to.Close()
+		}
+		return err
+	}
+	for isLast := false; !isLast && c.R.Context().Err() == nil; {
+		if inTurn(c, isLong, some) != nil {
 			return
 		}
-	}
-}
-
-// freeAll frees replies that nobody reads any more, as they come.
-func freeAll(waiting []answer) {
-	if len(waiting) == 0 {
-		return
-	}
-	go func() {
-		for _, one := range waiting {
-			if one.own == "" {
-				(<-one.reply).Free()
+		if isLast = len(lines) == 0; isLast || made.Len() >= leastFlush {
+			n, err := made.WriteTo(c.W)
+			if c.Sent += int(n); err != nil {
+				return
 			}
 		}
-	}()
-}
-
-// take takes the first lines, at most this many.
-func take(from []byte, most int) (lines [][]byte, rest []byte) {
-	for len(from) > 0 && len(lines) < most {
-		line, rest, _ := bytes.Cut(from, []byte("\n"))
-		lines, from = append(lines, line), rest
+		c.Ticket.Free(before)
+		if cap(replies) > mostBuffer {
+			replies = nil
+		}
 	}
-	return lines, from
 }
 
-// askSome asks some lines, and returns where the reply to each is, or will be.
-func (c *call) askSome(ctx context.Context, given [][]byte) (answers []answer) {
-	var asked [][]byte
-	var replies []chan<- *child.Call
-	for _, one := range given {
-		line, own := child.JudgeLook(c.app, one)
-		if own != "" {
-			answers = append(answers, answer{own: own})
+// inTurn does work once it is the turn of the application, if it is long.
+func inTurn(c *call, isLong bool, do func() error) error {
+	if isLong {
+		return c.Work(c.R.Context(), do)
+	}
+	return do()
+}
+
+// The replies to lines that aren't looked up.
+const (
+	badLine  = `{"error":"BadLine"}`
+	otherApp = `{"error":"OtherApp"}`
+)
+
+// answerLine appends the reply to a line.
+func answerLine(c *call, dst, line []byte, hasTurn bool) []byte {
+	locale, path, refusal := question(c, line)
+	if refusal != "" {
+		return append(dst, refusal...)
+	}
+	dst, needs, code := c.Engine.Item(dst, c.App, locale, path, front.Short)
+	if needs > 0 {
+		err := inTurn(c, !hasTurn, func() (err error) {
+			if err = c.Hold(3 * int64(needs)); err == nil { // here, and in the buffers of the stream
+				dst, _, code = c.Engine.Item(dst, c.App, locale, path, mostReply)
+			}
+			return err
+		})
+		if err != nil {
+			code = wire.ProblemOf(err).Code
+		}
+	}
+	if code != "" {
+		dst = append(append(append(dst, `{"error":"`...), code...), `"}`...)
+	}
+	return dst
+}
+
+// question reads a line: an object with the texts `locale` and `path`. If it has `op` or `app`, these must be `look` and the application.
+func question(c *call, line []byte) (locale, path, refusal string) {
+	const first, second = `{"locale":"`, `","path":"`
+	if bytes.HasPrefix(line, []byte(first)) { // what most clients send needs no reading as JSON
+		a, rest, _ := bytes.Cut(line[len(first):], []byte(second))
+		b, end, _ := bytes.Cut(rest, []byte(`"`))
+		if string(end) == "}" && isPlain(a) && isPlain(b) {
+			return string(a), string(b), ""
+		}
+	}
+	var members map[string]json.RawMessage
+	if !utf8.Valid(line) || json.Unmarshal(line, &members) != nil {
+		return "", "", badLine
+	}
+	texts := map[string]string{"op": "look", "app": c.App}
+	for _, name := range []string{"locale", "path", "op", "app"} {
+		value, there := members[name]
+		if !there && texts[name] != "" {
 			continue
 		}
-		reply := make(chan *child.Call, 1)
-		answers = append(answers, answer{reply: reply})
-		asked, replies = append(asked, line), append(replies, reply)
+		var text *string
+		if json.Unmarshal(value, &text) != nil || text == nil || name == "op" && *text != "look" {
+			return "", "", badLine
+		}
+		if name == "app" && *text != c.App {
+			return "", "", otherApp
+		}
+		texts[name] = *text
 	}
-	c.Backend.AskMany(ctx, c.app, asked, func(index int, reply *child.Call) { replies[index] <- reply })
-	return answers
+	return texts["locale"], texts["path"], ""
 }
 
-// first writes the next reply, and returns false if the caller no longer reads.
-func (c *call) first(waiting answer, out *bufio.Writer) bool {
-	if waiting.own != "" {
-		_, err := out.WriteString(waiting.own + "\n")
-		return err == nil
+// isPlain returns true if a text is printable ASCII without quotes and escapes.
+func isPlain(text []byte) bool {
+	for _, b := range text {
+		if b < ' ' || b > '~' || b == '"' || b == '\\' {
+			return false
+		}
 	}
-	late := time.NewTimer(c.options.Patience)
-	defer late.Stop()
-	reply := &child.Call{Err: child.ErrTimeout}
-	select {
-	case reply = <-waiting.reply:
-	case <-late.C:
-		freeAll([]answer{waiting})
-	}
-	line := reply.Reply
-	if reply.Err != nil {
-		line = problemOf(reply.Err).reply()
-	}
-	_, err := out.Write(line)
-	if err == nil {
-		err = out.WriteByte('\n')
-	}
-	reply.Free()
-	return err == nil
+	return true
 }
+
+// buffers are for replies to lookups.
+var buffers = sync.Pool{New: func() any {
+	b := make([]byte, 0, 4096)
+	return &b
+}}
+
+// mostBuffer is the most bytes of a buffer that is used again.
+const mostBuffer = 64 << 10

@@ -1,306 +1,146 @@
 package api
 
 import (
-	"archive/tar"
-	"archive/zip"
-	"bufio"
-	"bytes"
-	"encoding/hex"
-	"encoding/json"
+	"context"
 	"errors"
-	"fmt"
-	"io"
 	"mime"
-	"net/http"
-	"path"
-	"strings"
-	"unicode/utf8"
 
 	"luvdregan.example/resb/deploy/internal/convert"
-	"luvdregan.example/resb/deploy/internal/store"
+	"luvdregan.example/resb/deploy/internal/engine"
+	"luvdregan.example/resb/deploy/internal/manifest"
+	"luvdregan.example/resb/deploy/internal/release"
+	"luvdregan.example/resb/deploy/internal/replica"
+	"luvdregan.example/resb/deploy/internal/wire"
 )
 
-// mostInRelease is the most changes of a release: as many as an application may have bundles.
-const mostInRelease = 4096
-
-// An entry is a change of a release, with its name for callers.
-type entry struct {
-	store.Change
-	name string
-}
-
-// A badEntry is the error of a release that can't be read.
-type badEntry struct{ name, reason string }
-
-func (e *badEntry) Error() string { return e.name + ": " + e.reason }
-
-// A reader takes a release apart. It has the memory of contents counted.
-type reader struct {
-	c       *call
-	left    int64 // bytes of contents
-	entries []entry
-	locales map[string]bool
-}
-
-// release makes several changes, all or none.
-func (c *call) release() {
-	c.kind = "change"
-	kind, _, _ := mime.ParseMediaType(c.r.Header.Get("Content-Type"))
-	read := map[string]func(*reader, []byte) error{
-		"application/x-tar": (*reader).tar, "application/zip": (*reader).zip, "application/x-ndjson": (*reader).lines,
-	}[kind]
-	if read == nil || c.r.Header.Get("Content-Encoding") != "" {
-		c.refuse(badType)
-		return
-	}
-	body, p := c.body(c.options.ReleaseBytes)
-	if p != nil {
-		c.refuse(*p)
-		return
-	}
-	from := &reader{c: c, left: c.options.ReleaseBytes, locales: map[string]bool{}}
-	if err := c.long(short+1, func() error { return read(from, body) }); err != nil { // also if it is short: it may be compressed
-		c.refuseEntry(err)
-		return
-	}
-	c.makeRelease(from.entries)
-}
-
-// makeRelease makes the changes, and names the one that was refused.
-func (c *call) makeRelease(entries []entry) {
-	changes := make([]store.Change, len(entries))
-	for i, e := range entries {
-		changes[i] = e.Change
-	}
-	if c.refusesOld() {
-		return
-	}
-	ctx, cancel := c.patiently()
-	defer cancel()
-	reply, refused, revision, err := c.Backend.Release(ctx, c.app, c.who, changes)
-	for _, one := range changes {
-		c.audit.note(c, "release", one, reply, err)
-	}
-	switch {
-	case err != nil:
-		c.fail(err)
-	case refused < 0:
-		c.tellRevision(revision)
-		c.reply(map[string]any{"changes": len(changes), "ok": true})
-	default:
-		status := statusOf(reply, http.StatusOK)
-		reply = c.explained(changes[refused], reply)
-		members := map[string]any{}
-		if json.Unmarshal(reply, &members) == nil {
-			members["name"] = entries[refused].name
-			if text, err := convert.Marshal(members); err == nil {
-				reply = text
-			}
-		}
-		c.answerChange(status, store.Change{Op: store.Remove}, reply)
-	}
-}
-
-// refusesOld refuses a change that came before the process stood still, as its caller may have made it elsewhere since.
-func (c *call) refusesOld() bool {
-	if !c.isOld() {
-		return false
-	}
-	c.w.Header().Set("Connection", "close")
-	c.refuse(busy)
-	return true
-}
-
-// refuseEntry answers that a release can't be read.
-func (c *call) refuseEntry(err error) {
-	var bad *badEntry
-	if !errors.As(err, &bad) {
-		c.fail(err)
-		return
-	}
-	reply, err := convert.Marshal(map[string]string{"error": "BadRelease", "message": bad.reason, "name": bad.name})
+// makeRelease makes several changes, all or none.
+func makeRelease(c *call) error {
+	entries, err := readRelease(c)
 	if err != nil {
-		c.fail(err)
-		return
+		return err
 	}
-	c.answerChange(http.StatusBadRequest, store.Change{Op: store.Remove}, reply)
+	edits := make([]replica.Edit, len(entries))
+	defer func() {
+		for _, e := range edits {
+			e.Bundle.Discard()
+		}
+	}()
+	byLocale := map[string]string{}
+	for i, e := range entries {
+		byLocale[e.Locale] = e.Name
+		if err := prepareEntry(c, &edits[i], e); err != nil {
+			return named(err, e.Name)
+		}
+	}
+	_, _, err = change(c, "release", func(_ context.Context, now *replica.View) ([]replica.Edit, error) { return needed(edits, now), nil })
+	var refusal *manifest.Refusal
+	if errors.As(err, &refusal) {
+		return named(err, byLocale[refusal.Locale])
+	}
+	if err != nil {
+		return err
+	}
+	return c.Reply(map[string]any{"changes": len(entries), "ok": true})
 }
 
-// add adds a change.
-func (r *reader) add(name string, change store.Change) error {
-	locale := store.Canonical(change.Locale)
-	switch {
-	case r.locales[locale]:
-		return &badEntry{name, "another entry has the locale " + locale}
-	case len(r.entries) == mostInRelease:
-		return &badEntry{name, fmt.Sprintf("there are more than %d entries", mostInRelease)}
-	case change.Form == store.Text && !utf8.Valid(change.Body):
-		return &badEntry{name, "the text isn't UTF-8"}
-	case change.Form == store.Text && int64(len(change.Body)) > r.c.options.TextBytes,
-		change.Form == store.File && int64(len(change.Body)) > r.c.options.FileBytes:
-		return &badEntry{name, "it is too long"}
+// named returns the problem of an entry of a release.
+func named(err error, name string) error {
+	p := wire.ProblemOf(err)
+	if p == wire.Failed {
+		return err
 	}
-	r.locales[locale] = true
-	r.entries = append(r.entries, entry{change, name})
+	p.Name = name
+	return p
+}
+
+// readRelease reads the entries of a release.
+func readRelease(c *call) (entries []release.Entry, err error) {
+	kind, _, _ := mime.ParseMediaType(c.R.Header.Get("Content-Type"))
+	if !release.Takes(kind) || c.R.Header.Get("Content-Encoding") != "" {
+		return nil, wire.BadType
+	}
+	body, err := c.Body(c.Options.ReleaseBytes)
+	if err != nil {
+		return nil, err
+	}
+	err = c.Work(c.Context(), func() (err error) { // also if it is short: it may be compressed
+		entries, err = release.Read(kind, body, release.Limits{All: c.Options.ReleaseBytes, Text: c.Options.TextBytes, File: c.Options.FileBytes, Hold: c.Hold})
+		return err
+	})
+	var bad *release.Bad
+	if errors.As(err, &bad) {
+		p := wire.ProblemWith("BadRelease")
+		p.Name, p.Message = bad.Name, bad.Reason
+		return nil, p
+	}
+	return entries, err
+}
+
+// prepareEntry makes the edit of an entry, which without a kind is a removal.
+func prepareEntry(c *call, edit *replica.Edit, e release.Entry) (err error) {
+	c.Asked(e.Locale, e.Body)
+	if edit.Locale = e.Locale; e.Kind == "" {
+		return nil
+	}
+	if _, err := localeIn(e.Locale); err != nil {
+		return err
+	}
+	given := payload{e.Locale, e.Kind, e.Body}
+	if err := prepare(c, edit, given); err != nil {
+		return explained(c, err, given)
+	}
 	return nil
 }
 
-// file adds a file of an archive: LOCALE.txt or LOCALE.res, in any folder.
-func (r *reader) file(name string, size int64, content io.Reader) error {
-	locale, of, isForm := renderingOf(path.Base(name))
-	switch {
-	case !isForm || of.form == store.NoForm:
-		return &badEntry{name, "the name is neither LOCALE.txt nor LOCALE.res"}
-	case size < 0 || size > r.left:
-		return &badEntry{name, "the release is too long"}
+// needed returns edits without the removals of what isn't there, so that a release may be repeated.
+func needed(edits []replica.Edit, now *replica.View) []replica.Edit {
+	all := make([]replica.Edit, 0, len(edits))
+	for _, e := range edits {
+		if e.Kind != "" || now.Find(e.Locale) != nil {
+			all = append(all, e)
+		}
 	}
-	if err := r.c.hold(size); err != nil {
+	return all
+}
+
+// A found error of a bundle that is checked.
+type found struct {
+	Code    string `json:"code"`
+	Line    int    `json:"line,omitempty"`
+	Message string `json:"message,omitempty"`
+}
+
+// check answers what is wrong or doubtful in a bundle, and stores nothing.
+func check(c *call) error {
+	given := payloadOf(c, c.Parts[1])
+	if err := given.accept(c); err != nil {
 		return err
 	}
-	r.left -= size
-	body := make([]byte, size)
-	if _, err := io.ReadFull(content, body); err != nil {
-		return &badEntry{name, "it can't be read: " + err.Error()}
+	if err := given.read(c); err != nil {
+		return err
 	}
-	switch _, err := io.ReadFull(content, make([]byte, 1)); {
-	case err == nil:
-		return &badEntry{name, "it is longer than the archive says"}
-	case !errors.Is(err, io.EOF): // only here a zip says that it is longer, or has another checksum
-		return &badEntry{name, "it can't be read: " + err.Error()}
+	var edit replica.Edit
+	defer func() { edit.Bundle.Discard() }()
+	faults, warnings := []found{}, []convert.Warning{}
+	if err := prepare(c, &edit, given); err != nil {
+		var p wire.Problem
+		if err := explained(c, err, given); !errors.As(err, &p) {
+			return err
+		}
+		faults = append(faults, found{p.Fault, p.Line, p.Message})
 	}
-	return r.add(name, store.Change{Op: store.Install, Locale: locale, Form: of.form, Body: body})
-}
-
-// tar reads an archive of tar.
-func (r *reader) tar(body []byte) error {
-	from := tar.NewReader(bytes.NewReader(body))
-	for {
-		head, err := from.Next()
-		switch {
-		case errors.Is(err, io.EOF):
-			return nil
-		case err != nil:
-			return &badEntry{"", "this is no archive of tar: " + err.Error()}
-		case head.Typeflag == tar.TypeDir:
-		case head.Typeflag != tar.TypeReg:
-			return &badEntry{head.Name, "it is no regular file"}
-		default:
-			if err := r.file(head.Name, head.Size, from); err != nil {
-				return err
-			}
-		}
-	}
-}
-
-// zip reads an archive of zip.
-func (r *reader) zip(body []byte) error {
-	from, err := zip.NewReader(bytes.NewReader(body), int64(len(body)))
-	if err != nil {
-		return &badEntry{"", "this is no archive of zip: " + err.Error()}
-	}
-	for _, f := range from.File {
-		if f.FileInfo().IsDir() {
-			continue
-		}
-		if !f.Mode().IsRegular() {
-			return &badEntry{f.Name, "it is no regular file"}
-		}
-		content, err := f.Open()
-		if err != nil {
-			return &badEntry{f.Name, "it can't be read: " + err.Error()}
-		}
-		err = r.file(f.Name, int64(f.UncompressedSize64), content)
-		_ = content.Close()
+	if given.kind == engine.Text {
+		err := c.Work(c.Context(), func() error {
+			more, err := c.Convert.Warnings(c.Context(), given.body)
+			warnings = append(warnings, more...)
+			return err
+		})
 		if err != nil {
 			return err
 		}
 	}
-	return nil
-}
-
-// lines reads objects with `locale`, and `text`, `file` in hexadecimal, or `remove`.
-func (r *reader) lines(body []byte) error {
-	lines := bufio.NewReader(bytes.NewReader(body))
-	for n := 1; ; n++ {
-		text, err := lines.ReadBytes('\n')
-		if len(bytes.TrimSpace(text)) > 0 {
-			if err := r.line(fmt.Sprintf("line %d", n), text); err != nil {
-				return err
-			}
-		}
-		if err != nil {
-			return nil
-		}
+	if reason := given.otherName(); reason != "" {
+		warnings = append(warnings, convert.Warning{Line: 1, Message: reason})
 	}
-}
-
-func (r *reader) line(name string, text []byte) error {
-	if err := r.c.hold(int64(len(text))); err != nil {
-		return err
-	}
-	one, err := lineOf(text)
-	if err != nil {
-		return &badEntry{name, err.Error()}
-	}
-	given := 0
-	change := store.Change{Op: store.Install}
-	if one.Text != nil {
-		given++
-		change.Form, change.Body = store.Text, []byte(*one.Text)
-	}
-	if one.Remove {
-		given++
-		change.Op = store.Remove
-	}
-	if one.File != nil {
-		given++
-		body, err := hex.DecodeString(*one.File)
-		if err != nil {
-			return &badEntry{name, "the file isn't hexadecimal"}
-		}
-		change.Form, change.Body = store.File, body
-	}
-	if one.Locale == nil || given != 1 {
-		return &badEntry{name, "it needs locale, and one of text, file and remove"}
-	}
-	change.Locale = strings.ToValidUTF8(*one.Locale, "\uFFFD")
-	return r.add(name, change)
-}
-
-// A releaseLine is a line of a release.
-type releaseLine struct {
-	Locale, Text, File *string
-	Remove             bool
-}
-
-// lineOf reads a line of a release. Each member is there at most once, with its own name: encoding/json would take the last one of
-// several, and names in other case.
-func lineOf(text []byte) (one releaseLine, err error) {
-	from := json.NewDecoder(bytes.NewReader(text))
-	if token, err := from.Token(); err != nil || token != json.Delim('{') {
-		return one, errors.New("it is no object of JSON")
-	}
-	members := map[string]any{"locale": &one.Locale, "text": &one.Text, "file": &one.File, "remove": &one.Remove}
-	for from.More() {
-		token, err := from.Token()
-		name, _ := token.(string)
-		if err != nil {
-			return one, err
-		}
-		member, known := members[name]
-		if !known {
-			return one, fmt.Errorf("the member %.40q is unknown, or there twice", name)
-		}
-		delete(members, name)
-		if err := from.Decode(member); err != nil {
-			return one, fmt.Errorf("%s: %w", name, err)
-		}
-	}
-	if _, err := from.Token(); err != nil {
-		return one, err
-	}
-	if _, err := from.Token(); !errors.Is(err, io.EOF) {
-		return one, errors.New("more than one value")
-	}
-	return one, nil
+	return c.Reply(map[string]any{"errors": faults, "warnings": warnings})
 }

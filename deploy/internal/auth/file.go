@@ -1,6 +1,7 @@
 package auth
 
 import (
+	"bytes"
 	"crypto/rand"
 	"crypto/sha256"
 	"encoding/hex"
@@ -18,17 +19,41 @@ import (
 // ErrUnknown is the error of a token that isn't in the file.
 var ErrUnknown = errors.New("there is no such token")
 
-// New returns a token of 192 random bits.
-func New() (string, error) {
-	random := make([]byte, 24)
-	_, err := rand.Read(random)
-	return hex.EncodeToString(random), err
+// mostBytes is the most bytes of a file of tokens.
+const mostBytes = 16 << 20
+
+// readFile reads a file that must be a regular one: reading another one may take for ever.
+func readFile(path string) ([]byte, error) {
+	f, err := os.OpenFile(path, os.O_RDONLY|syscall.O_NONBLOCK, 0)
+	if err != nil {
+		return nil, err
+	}
+	defer f.Close()
+	if info, err := f.Stat(); err != nil || !info.Mode().IsRegular() {
+		return nil, fmt.Errorf("%s: not a regular file", path)
+	}
+	content, err := io.ReadAll(io.LimitReader(f, mostBytes+1))
+	if err == nil && len(content) > mostBytes {
+		err = fmt.Errorf("%s: more than %d bytes", path, mostBytes)
+	}
+	return content, err
+}
+
+// join returns the lines of both.
+func join(content, more []byte) []byte {
+	if len(content) > 0 && content[len(content)-1] != '\n' {
+		content = append(content[:len(content):len(content)], '\n')
+	}
+	return append(content[:len(content):len(content)], more...)
 }
 
 // Line returns the line of a token. It expires never if the time is zero.
 func Line(app, right, token, name string, expires time.Time) (string, error) {
 	if len(token) < LeastToken {
 		return "", fmt.Errorf("a token has at least %d characters", LeastToken)
+	}
+	if len(strings.Fields(app)) != 1 || strings.HasPrefix(app, "#") {
+		return "", fmt.Errorf("%q is no application's name", app)
 	}
 	sum := sha256.Sum256([]byte(token))
 	text := app + " " + right + " " + hex.EncodeToString(sum[:])
@@ -38,11 +63,30 @@ func Line(app, right, token, name string, expires time.Time) (string, error) {
 	if !expires.IsZero() {
 		text += " expires=" + expires.UTC().Format(time.RFC3339)
 	}
-	_, is, err := parseLine(text)
-	if err == nil && (!is || len(strings.Fields(text)) > 5) {
-		err = fmt.Errorf("%q is no application's name", app)
-	}
+	_, err := parseLine(text)
 	return text + "\n", err
+}
+
+// Create adds a new token of 192 random bits to a file, which is made if it is missing, and returns it.
+func Create(path, app, right, name string, expires time.Time) (token string, err error) {
+	random := make([]byte, 24)
+	if _, err := rand.Read(random); err != nil {
+		return "", err
+	}
+	token = hex.EncodeToString(random)
+	line, err := Line(app, right, token, name, expires)
+	if err != nil {
+		return "", err
+	}
+	return token, edit(path, func(content []byte) ([]byte, error) {
+		holders, _ := parse(content)
+		for _, h := range holders {
+			if name != "" && h.name == name {
+				return nil, fmt.Errorf("another token has the name %s", name)
+			}
+		}
+		return join(content, []byte(line)), nil
+	})
 }
 
 // Add adds the lines of another file to the tokens of this process. Keep adds them to the file of tokens.
@@ -53,15 +97,13 @@ func (t *Tokens) Add(path string) error {
 	}
 	t.mu.Lock()
 	defer t.mu.Unlock()
-	g, wrong, err := parseTokens(join(t.seen, content))
-	if err == nil && len(wrong) > 0 {
-		err = fmt.Errorf("%s: %w", path, wrong[0])
+	holders, wrong := parse(join(t.taken, content))
+	if len(wrong) > 0 {
+		return fmt.Errorf("%s: %w", path, wrong[0])
 	}
-	if err == nil {
-		t.added = content
-		t.now.Store(g)
-	}
-	return err
+	t.added = content
+	t.holders.Store(holders)
+	return nil
 }
 
 // Keep adds to the file what Add added.
@@ -72,7 +114,7 @@ func (t *Tokens) Keep() error {
 	if len(added) == 0 {
 		return nil
 	}
-	err := Edit(t.path, func(content []byte) ([]byte, error) { return join(content, added), nil })
+	err := edit(t.path, func(content []byte) ([]byte, error) { return join(content, added), nil })
 	if err != nil {
 		return err
 	}
@@ -83,85 +125,61 @@ func (t *Tokens) Keep() error {
 	return nil
 }
 
-// nameIsFree returns an error if another token has a name already.
-func nameIsFree(content []byte, name string) error {
-	for _, text := range strings.Split(string(content), "\n") {
-		if l, is, err := parseLine(text); is && err == nil && name != "" && l.name == name {
-			return fmt.Errorf("another token has the name %s", name)
-		}
-	}
-	return nil
-}
-
-// Append adds the line of a new token to a file, which is made if it is missing.
-func Append(path, text, name string) error {
-	return Edit(path, func(content []byte) ([]byte, error) {
-		return join(content, []byte(text)), nameIsFree(content, name)
-	})
-}
-
 // A Listed token is a line of a file.
 type Listed struct {
-	Name, Hash, App, Right string
-	Expires                time.Time
+	Name, Hash, App string
+	Right           Right
+	Expires         time.Time
 }
 
 // List returns the lines of a file that aren't wrong, and the errors of the others.
 func List(path string) (all []Listed, wrong []error, err error) {
 	content, err := readFile(path)
 	for n, text := range strings.Split(string(content), "\n") {
-		l, is, err := parseLine(text)
-		switch {
-		case err != nil:
+		g, err := parseLine(text)
+		if err != nil {
 			wrong = append(wrong, fmt.Errorf("line %d: %w", n+1, err))
-		case is:
-			all = append(all, Listed{l.name, hex.EncodeToString(l.digest[:]), l.named(), l.right, l.expires})
+		} else if g != nil {
+			all = append(all, Listed{g.name, g.hash(), g.app, g.right, g.expires})
 		}
 	}
 	return all, wrong, err
 }
 
-func (l line) named() string {
-	if l.prefix != "" {
-		return l.prefix + "*"
-	}
-	return l.app
-}
-
 // Revoke removes all lines of the token with a name, or whose hash begins with these 8 or more digits, and returns how many.
 func Revoke(path, token string) (removed int, err error) {
-	byHash := len(token) >= 8 && strings.Trim(strings.ToLower(token), "0123456789abcdef") == ""
-	err = Edit(path, func(content []byte) ([]byte, error) {
-		var left []string
-		hashes := map[digest]bool{}
-		for _, text := range strings.Split(string(content), "\n") {
-			l, is, err := parseLine(text)
-			isIt := token != "" && l.name == token || byHash && strings.HasPrefix(hex.EncodeToString(l.digest[:]), strings.ToLower(token))
-			if is && err == nil && isIt {
-				hashes[l.digest] = true
+	hash := strings.ToLower(token)
+	err = edit(path, func(content []byte) ([]byte, error) {
+		lines := bytes.SplitAfter(content, []byte("\n"))
+		revoked := map[digest]bool{}
+		for _, line := range lines {
+			g, _ := parseLine(string(line))
+			if g != nil && token != "" && (g.name == token || len(hash) >= 8 && strings.HasPrefix(g.hash(), hash)) {
+				revoked[g.digest] = true
 			}
-		}
-		for _, text := range strings.Split(string(content), "\n") {
-			if l, is, err := parseLine(text); is && err == nil && hashes[l.digest] {
-				removed++
-				continue
-			}
-			left = append(left, text)
 		}
 		switch {
-		case len(hashes) == 0:
+		case len(revoked) == 0:
 			return nil, ErrUnknown
-		case len(hashes) > 1:
-			return nil, fmt.Errorf("%d tokens have hashes that begin so", len(hashes))
+		case len(revoked) > 1:
+			return nil, fmt.Errorf("%d tokens have hashes that begin so", len(revoked))
 		}
-		return []byte(strings.Join(left, "\n")), nil
+		var left []byte
+		for _, line := range lines {
+			if g, _ := parseLine(string(line)); g != nil && revoked[g.digest] {
+				removed++
+			} else {
+				left = append(left, line...)
+			}
+		}
+		return left, nil
 	})
 	return removed, err
 }
 
-// Edit replaces the content of a file by what a function makes of it, while no other Edit does. A reader finds the old content or
+// edit replaces the content of a file by what a function makes of it, while no other edit does. A reader finds the old content or
 // the new one. The mode and the owner stay.
-func Edit(path string, change func(content []byte) ([]byte, error)) error {
+func edit(path string, change func(content []byte) ([]byte, error)) error {
 	if real, err := filepath.EvalSymlinks(path); err == nil {
 		path = real
 	}
@@ -202,7 +220,7 @@ func replace(path string, content []byte) error {
 			return err
 		}
 	}
-	if _, err := io.WriteString(f, string(content)); err != nil {
+	if _, err := f.Write(content); err != nil {
 		return err
 	}
 	if err := f.Sync(); err != nil {

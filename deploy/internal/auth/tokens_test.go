@@ -231,7 +231,7 @@ func TestRevoke(t *testing.T) {
 		t.Error(err)
 	}
 	content, err := os.ReadFile(path)
-	if err != nil || string(content) != "# first\n\nwrong" {
+	if err != nil || string(content) != "# first\n\nwrong\n" {
 		t.Errorf("%q %v", content, err)
 	}
 }

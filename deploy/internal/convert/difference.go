@@ -4,7 +4,7 @@ import (
 	"bytes"
 	"context"
 	"encoding/json"
-	"io"
+	"sort"
 	"strconv"
 	"strings"
 )
@@ -17,228 +17,116 @@ type Difference struct {
 	Path string          `json:"path"`
 }
 
-// Differences compares two trees, which are as the program writes them: the keys of tables ascend. An empty tree is that of no
-// bundle. The error is ErrOutput if the result has over this many bytes.
-func Differences(ctx context.Context, old, new []byte, most int) ([]Difference, error) {
-	d := &differ{left: most, found: []Difference{}}
-	a, b := newTree(ctx, old), newTree(ctx, new)
+// A differ collects what differs.
+type differ struct {
+	ctx   context.Context
+	left  int // bytes of the result
+	found []Difference
+}
+
+// Differences compares two trees of compact JSON. An empty tree is that of no bundle. The error is ErrOutput if the result has over this many
+// bytes.
+func Differences(ctx context.Context, old, new json.RawMessage, most int) ([]Difference, error) {
+	d := &differ{ctx: ctx, left: most, found: []Difference{}}
+	err := d.compare(nil, bytes.TrimSpace(old), bytes.TrimSpace(new))
+	return d.found, err
+}
+
+// compare compares the items at a path, of which an empty one is missing.
+func (d *differ) compare(path []string, old, new json.RawMessage) error {
 	switch {
-	case len(old) > 0 && len(new) > 0:
-		d.compare(a, b)
-	case len(old) > 0:
-		d.all(a, d.gone)
-	case len(new) > 0:
-		d.all(b, d.come)
+	case bytes.Equal(old, new):
+		return nil
+	case d.ctx.Err() != nil:
+		return ErrTime
 	}
-	for _, err := range []error{d.err, a.err, b.err} {
-		if err != nil {
-			return nil, err
+	a, b := itemsOf(old), itemsOf(new)
+	if len(old) > 0 && len(new) > 0 && a.kind != b.kind {
+		if err := d.compare(path, old, nil); err != nil {
+			return err
+		}
+		return d.compare(path, nil, new)
+	}
+	keys := a.keysWith(b)
+	if len(keys) == 0 {
+		return d.add(path, old, new)
+	}
+	for _, key := range keys {
+		name := strings.TrimPrefix(key, ":") // as the bundle has it
+		if err := d.compare(append(path, name), a.items[key], b.items[key]); err != nil {
+			return err
 		}
 	}
-	return d.found, nil
+	return nil
 }
 
-// The kinds of items. A leaf has no items in it.
-type kind int
-
-const (
-	leaf kind = iota
-	table
-	array
-)
-
-// A tree is read from its begin to its end. After an error it has no more items.
-type tree struct {
-	from *json.Decoder
-	key  string // the next one of the table, if hasKey is true
-	has  bool
-	err  error
-}
-
-func newTree(ctx context.Context, text []byte) *tree {
-	t := &tree{from: json.NewDecoder(&until{ctx, bytes.NewReader(text)})}
-	t.from.UseNumber()
-	return t
-}
-
-// An until reader reads until its context ends.
-type until struct {
-	ctx context.Context
-	io.Reader
-}
-
-// Read reads the next bytes.
-func (u *until) Read(b []byte) (int, error) {
-	if u.ctx.Err() != nil {
-		return 0, ErrTime
+func (d *differ) add(path []string, old, new json.RawMessage) error {
+	one := Difference{Old: old, New: new, Path: strings.Join(path, "/")}
+	if d.left -= len(old) + len(new) + len(one.Path) + 16; d.left < 0 {
+		return ErrOutput
 	}
-	return u.Reader.Read(b)
+	d.found = append(d.found, one)
+	return nil
 }
 
-func (t *tree) token() json.Token {
-	token, err := t.from.Token()
-	if err != nil && t.err == nil {
-		t.err = err
-	}
-	return token
+// An itemSet has the items in an item. Its kind is that of the brace, or 0 for an item without items in it.
+type itemSet struct {
+	kind  byte
+	items map[string]json.RawMessage
 }
 
-func (t *tree) more() bool { return t.err == nil && (t.has || t.from.More()) }
-
-// next returns the next key of the table without passing it.
-func (t *tree) next() string {
-	if !t.has {
-		t.key, _ = t.token().(string)
-		t.has = true
-	}
-	return t.key
-}
-
-// open reads the next item: a leaf whole, of others the begin.
-func (t *tree) open() (k kind, value json.RawMessage) {
-	t.has = false
-	switch token := t.token(); token {
-	case json.Delim('['):
-		return array, nil
-	case json.Delim('{'):
-		if !t.from.More() || !isSpecial(t.next()) {
-			return table, nil
+func itemsOf(value json.RawMessage) (c itemSet) {
+	switch {
+	case len(value) == 0:
+	case value[0] == '{':
+		c.kind = '{'
+		_ = json.Unmarshal(value, &c.items) // the library wrote it
+		for key := range c.items {
+			if isSpecial(key) {
+				return itemSet{}
+			}
 		}
-		name, _ := Marshal(t.key)
-		t.has = false
-		var rest json.RawMessage
-		if err := t.from.Decode(&rest); err != nil && t.err == nil {
-			t.err = err
+	case value[0] == '[':
+		c.kind, c.items = '[', map[string]json.RawMessage{}
+		var all []json.RawMessage
+		_ = json.Unmarshal(value, &all)
+		for i, one := range all {
+			c.items[strconv.Itoa(i)] = one
 		}
-		t.token() // the brace
-		return leaf, json.RawMessage("{" + string(name) + ":" + string(rest) + "}")
-	default:
-		value, _ = Marshal(token)
-		return leaf, value
 	}
+	return c
 }
 
 // isSpecial returns true for the only name in an object that is no table (docs/JSON.md).
-func isSpecial(key string) bool {
-	return strings.HasPrefix(key, ":") && !strings.HasPrefix(key, "::")
+func isSpecial(key string) bool { return strings.HasPrefix(key, ":") && !strings.HasPrefix(key, "::") }
+
+// keysWith returns the keys of two items of a kind in order. Shorter indexes are the lower ones.
+func (c itemSet) keysWith(other itemSet) (keys []string) {
+	for key := range c.items {
+		keys = append(keys, key)
+	}
+	for key := range other.items {
+		if _, there := c.items[key]; !there {
+			keys = append(keys, key)
+		}
+	}
+	isArray := c.kind == '[' || other.kind == '['
+	sort.Slice(keys, func(i, j int) bool {
+		if isArray && len(keys[i]) != len(keys[j]) {
+			return len(keys[i]) < len(keys[j])
+		}
+		return keys[i] < keys[j]
+	})
+	return keys
 }
 
 // Marshal returns a value as JSON without escapes that only HTML needs.
-func Marshal(value any) (json.RawMessage, error) {
+func Marshal(value any) json.RawMessage {
 	var out bytes.Buffer
 	to := json.NewEncoder(&out)
 	to.SetEscapeHTML(false)
-	err := to.Encode(value)
-	return bytes.TrimSuffix(out.Bytes(), []byte("\n")), err
-}
-
-// A differ walks through two trees. The path is that of the item at which it is.
-type differ struct {
-	path  []string
-	left  int // bytes of the result
-	found []Difference
-	err   error
-}
-
-func (d *differ) gone(value json.RawMessage) { d.add(value, nil) }
-func (d *differ) come(value json.RawMessage) { d.add(nil, value) }
-
-func (d *differ) add(old, new json.RawMessage) {
-	size := len(old) + len(new) + 16
-	for _, part := range d.path {
-		size += len(part) + 1
+	if err := to.Encode(value); err != nil {
+		panic(err) // the values have only texts, numbers and JSON
 	}
-	if d.left -= size; d.left < 0 {
-		d.err = ErrOutput
-		return
-	}
-	d.found = append(d.found, Difference{Old: old, New: new, Path: strings.Join(d.path, "/")})
-}
-
-// at does something at an item of the item where the differ is.
-func (d *differ) at(key string, do func()) {
-	d.path = append(d.path, key)
-	do()
-	d.path = d.path[:len(d.path)-1]
-}
-
-// compare compares the next items of two trees.
-func (d *differ) compare(a, b *tree) {
-	k, old := a.open()
-	l, new := b.open()
-	switch {
-	case k == table && l == table:
-		d.tables(a, b)
-	case k == array && l == array:
-		d.arrays(a, b)
-	case k == leaf && l == leaf && bytes.Equal(old, new):
-	case k == leaf && l == leaf:
-		d.add(old, new)
-	default:
-		d.within(a, k, old, d.gone)
-		d.within(b, l, new, d.come)
-	}
-}
-
-// tables compares tables whose begins were read.
-func (d *differ) tables(a, b *tree) {
-	for d.err == nil && (a.more() || b.more()) {
-		switch {
-		case !b.more() || a.more() && a.next() < b.next():
-			d.at(plain(a.next()), func() { d.all(a, d.gone) })
-		case !a.more() || b.next() < a.next():
-			d.at(plain(b.next()), func() { d.all(b, d.come) })
-		default:
-			b.next()
-			d.at(plain(a.next()), func() { d.compare(a, b) })
-		}
-	}
-	a.token()
-	b.token()
-}
-
-// plain returns a key of the JSON as the bundle has it.
-func plain(key string) string { return strings.TrimPrefix(key, ":") }
-
-// arrays compares arrays whose begins were read.
-func (d *differ) arrays(a, b *tree) {
-	for i := 0; d.err == nil && (a.more() || b.more()); i++ {
-		d.at(strconv.Itoa(i), func() {
-			switch {
-			case !b.more():
-				d.all(a, d.gone)
-			case !a.more():
-				d.all(b, d.come)
-			default:
-				d.compare(a, b)
-			}
-		})
-	}
-	a.token()
-	b.token()
-}
-
-// all adds the next item of a tree, by its leaves.
-func (d *differ) all(t *tree, add func(json.RawMessage)) {
-	k, value := t.open()
-	d.within(t, k, value, add)
-}
-
-// within adds an item whose begin was read. One that is empty is a leaf.
-func (d *differ) within(t *tree, k kind, value json.RawMessage, add func(json.RawMessage)) {
-	if k == leaf {
-		add(value)
-		return
-	}
-	if !t.more() {
-		add(json.RawMessage(map[kind]string{table: "{}", array: "[]"}[k]))
-	}
-	for i := 0; d.err == nil && t.more(); i++ {
-		key := strconv.Itoa(i)
-		if k == table {
-			key = plain(t.next())
-		}
-		d.at(key, func() { d.all(t, add) })
-	}
-	t.token()
+	return bytes.TrimSuffix(out.Bytes(), []byte("\n"))
 }

@@ -5,60 +5,30 @@ import (
 	"context"
 	"encoding/json"
 	"fmt"
-	"regexp"
-	"strconv"
 	"strings"
 	"unicode/utf8"
 
-	"luvdregan.example/resb/deploy/internal/store"
+	"luvdregan.example/resb/deploy/internal/engine"
 )
 
-// A Fault is why the program refuses a bundle. Line is 0 for a file.
-type Fault struct {
-	Code    string
-	Line    int
-	Message string
-}
+// JSON is the kind of a text of JSON, beside those of bundles.
+const JSON = "json"
 
-// The first line that compile and check print for an error: NAME:LINE: CODE, or NAME: CODE, perhaps with more after a colon.
-var faultLine = regexp.MustCompile(`^[^\n]*?:(?:([0-9]+):)? ([A-Z][A-Za-z0-9]*)(?:: ([^\n]*))?\n`)
-
-// Fault finds the first error of a bundle by the program; the second result is false if it finds none within its bounds.
-func (r *Runner) Fault(ctx context.Context, app string, form store.Form, body []byte) (f Fault, found bool) {
-	f, found, _ = r.Judge(ctx, app, form, body)
-	return f, found
-}
-
-// Judge finds the first error of a bundle by the program, and returns an error if the program isn't done within its bounds.
-func (r *Runner) Judge(ctx context.Context, app string, form store.Form, body []byte) (f Fault, found bool, err error) {
-	arguments := []string{"compile", "-q", "-", "-"}
-	if form == store.File {
-		arguments = []string{"check", "-q", "--", standardInput}
-	}
-	_, said, failed, err := r.Run(ctx, app, body, arguments...)
-	parts := faultLine.FindSubmatch(said)
-	switch {
-	case err != nil:
-		return f, false, err
-	case failed && parts == nil:
-		return f, false, fmt.Errorf("%w: %.200s", ErrRun, said)
-	case !failed:
-		return f, false, nil
-	}
-	f.Code = string(parts[2])
-	f.Line, _ = strconv.Atoi(string(parts[1]))
-	f.Message = strings.ToValidUTF8(string(parts[3]), "\uFFFD")
-	if f.Message == "" && form == store.Text {
-		f.Message = r.explained(ctx, app, body, f)
-	}
-	if f.Message == "" {
-		f.Message = r.meaning(ctx, app, f.Code, form)
-	}
-	if version, is := icuFormat(body); is && form == store.File && f.Code == "FormatVersion" {
-		f.Message = fmt.Sprintf("the file has ICU's format %d, and format 1 is read: icu2text makes a text of it, or genrb --formatVersion 1 such a file",
+// Explain returns what is known of a fault of a body: what `lint` says there, or what its code means; or "".
+func (r *Runner) Explain(ctx context.Context, fault *engine.Fault, kind string, body []byte) (message string) {
+	if version, is := icuFormat(body); is && kind == engine.File && fault.Code == "FormatVersion" {
+		return fmt.Sprintf("the file has ICU's format %d, and format 1 is read: icu2text makes a text of it, or genrb --formatVersion 1 such a file",
 			version)
 	}
-	return f, true, nil
+	if kind == engine.Text {
+		found, _ := r.lint(ctx, body) // without it the code's meaning remains
+		for _, one := range found {
+			if one.Severity == "error" && one.Rule == fault.Code && uint64(one.Line) == fault.Line {
+				return strings.TrimPrefix(one.Message, fault.Code+": ")
+			}
+		}
+	}
+	return r.meaning(ctx, fault.Code, kind)
 }
 
 // icuFormat returns the version of the format of a file that begins as ICU's bundles do.
@@ -69,35 +39,25 @@ func icuFormat(body []byte) (version int, is bool) {
 	return int(body[16]), true
 }
 
-// mostMeanings is more than there are codes.
-const mostMeanings = 256
-
-// meaning returns what `explain` says that a code of a text or a file means, or "".
-func (r *Runner) meaning(ctx context.Context, app, code string, form store.Form) string {
-	key := fmt.Sprint(r.program(), "\x00", code, "\x00", form)
-	r.mu.Lock()
-	known, is := r.meanings[key]
-	r.mu.Unlock()
-	if is {
-		return known
+// meaning returns what `explain` says that a code of a text, a file or JSON means, or "".
+func (r *Runner) meaning(ctx context.Context, code, kind string) string {
+	key := code + " " + kind
+	if known, is := r.meanings.Load(key); is {
+		return known.(string)
 	}
-	out, _, _, err := r.Run(ctx, app, nil, "explain", code)
+	out, err := r.run(ctx, nil, "explain", code)
 	if err != nil || !utf8.Valid(out) {
 		return ""
 	}
-	known = meaningIn(string(out), code, form)
-	r.mu.Lock()
-	defer r.mu.Unlock()
-	if len(r.meanings) < mostMeanings {
-		r.meanings[key] = known
-	}
+	known := meaningIn(string(out), code, kind)
+	r.meanings.Store(key, known)
 	return known
 }
 
 // meaningIn finds a meaning in explanations: the first one for the form, since a code may mean one thing in texts, another in files and
 // another in JSON, or the first of all.
-func meaningIn(explanations, code string, form store.Form) (found string) {
-	kind := map[store.Form]string{store.Text: "texts", store.File: "files", store.NoForm: "JSON"}[form]
+func meaningIn(explanations, code, kind string) (found string) {
+	word := map[string]string{engine.Text: "texts", engine.File: "files", JSON: "JSON"}[kind]
 	head := ""
 	for _, line := range strings.Split(explanations, "\n") {
 		if strings.HasPrefix(line, code+", ") {
@@ -106,7 +66,7 @@ func meaningIn(explanations, code string, form store.Form) (found string) {
 		meaning := strings.TrimPrefix(line, "  meaning: ")
 		switch {
 		case meaning == line || head == "":
-		case strings.Contains(head, kind):
+		case strings.Contains(head, word):
 			return meaning
 		case found == "":
 			found = meaning
@@ -127,25 +87,14 @@ type Warning struct {
 const mostWarnings = 1000
 
 // Warnings returns what `lint` warns of in a text.
-func (r *Runner) Warnings(ctx context.Context, app string, body []byte) (all []Warning, err error) {
-	found, err := r.lint(ctx, app, body)
+func (r *Runner) Warnings(ctx context.Context, body []byte) (all []Warning, err error) {
+	found, err := r.lint(ctx, body)
 	for _, one := range found {
 		if one.Severity == "warning" && len(all) < mostWarnings {
 			all = append(all, one.Warning)
 		}
 	}
 	return all, err
-}
-
-// explained returns what `lint` says of the error of a text, which names the key or the token, or "" if it finds it elsewhere.
-func (r *Runner) explained(ctx context.Context, app string, body []byte, f Fault) string {
-	found, _ := r.lint(ctx, app, body)
-	for _, one := range found {
-		if one.Severity == "error" && one.Rule == f.Code && one.Line == f.Line {
-			return strings.TrimPrefix(one.Message, f.Code+": ")
-		}
-	}
-	return ""
 }
 
 // A finding is a line of `lint`: a warning, or an error, whose rule is its code.
@@ -155,16 +104,13 @@ type finding struct {
 }
 
 // lint returns what `lint` finds in a text.
-func (r *Runner) lint(ctx context.Context, app string, body []byte) (all []finding, err error) {
-	out, _, _, err := r.Run(ctx, app, body, "lint", "--format", "json", "--", standardInput)
-	if err != nil {
-		return nil, err
-	}
+func (r *Runner) lint(ctx context.Context, body []byte) (all []finding, err error) {
+	out, err := r.run(ctx, body, "lint", "--format", "json", "--", "/dev/stdin")
 	for _, line := range bytes.Split(out, []byte("\n")) {
 		var one finding
 		if json.Unmarshal(line, &one) == nil {
 			all = append(all, one)
 		}
 	}
-	return all, nil
+	return all, err
 }

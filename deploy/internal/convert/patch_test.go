@@ -8,198 +8,80 @@ import (
 	"reflect"
 	"strings"
 	"testing"
-
-	"luvdregan.example/resb/deploy/internal/store"
 )
 
-func noLimit(int64) error { return nil }
+func holdAll(int64) error { return nil }
 
-// TestMerges has the examples of RFC 7396, and values that are taken as they are written.
-func TestMerges(t *testing.T) {
-	for _, c := range []struct{ old, patch, want string }{
+// TestMerge has the examples of RFC 7396, appendix A.
+func TestMerge(t *testing.T) {
+	for _, c := range [][3]string{
 		{`{"a":"b"}`, `{"a":"c"}`, `{"a":"c"}`}, {`{"a":"b"}`, `{"b":"c"}`, `{"a":"b","b":"c"}`}, {`{"a":"b"}`, `{"a":null}`, `{}`},
 		{`{"a":"b","b":"c"}`, `{"a":null}`, `{"b":"c"}`}, {`{"a":["b"]}`, `{"a":"c"}`, `{"a":"c"}`}, {`{"a":"c"}`, `{"a":["b"]}`, `{"a":["b"]}`},
 		{`{"a":{"b":"c"}}`, `{"a":{"b":"d","c":null}}`, `{"a":{"b":"d"}}`}, {`{"a":[{"b":"c"}]}`, `{"a":[1]}`, `{"a":[1]}`}, {`["a","b"]`, `["c","d"]`, `["c","d"]`},
-		{`{"a":"b"}`, `["c"]`, `["c"]`}, {`{"a":"foo"}`, `null`, `null`}, {`{"a":"foo"}`, `"bar"`, `"bar"`}, {`{"e":null}`, `{"a":1}`, `{"e":null,"a":1}`},
+		{`{"a":"b"}`, `["c"]`, `["c"]`}, {`{"a":"foo"}`, `null`, `null`}, {`{"a":"foo"}`, `"bar"`, `"bar"`}, {`{"e":null}`, `{"a":1}`, `{"a":1,"e":null}`},
 		{`[1,2]`, `{"a":"b","c":null}`, `{"a":"b"}`}, {`{}`, `{"a":{"bb":{"ccc":null}}}`, `{"a":{"bb":{}}}`},
-		{`{"m":{"a":"x","b":{"c":"d","e":"f"}},"n":"o"}`, ` { "m" : { "b" : { "e" : null , "g" : "h" } } , "z" : { "y" : null , "x" : 1 } } `,
-			`{"m":{"a":"x","b":{"c":"d","g":"h"}},"n":"o","z":{"x":1}}`},
-		{`{"a":"\ud800\u00e4","::x":{":bin":"00"}}`, `{"b":"\ud800 \u0041","c":1e2,"::x":{":bin":"ff"}}`, `{"a":"\ud800\u00e4","::x":{":bin":"ff"},"b":"\ud800 \u0041","c":1e2}`},
-		{`{"a/b":"x","c~d":{"e":"y"}}`, `{"c~d":{"e":"z"},"a/b":null}`, `{"c~d":{"e":"z"}}`}, {`{"a":"x"}`, `{}`, `{"a":"x"}`}, {`{}`, `{}`, `{}`},
 	} {
-		p, err := ParsePatch([]byte(c.patch), noLimit)
-		if err != nil {
-			t.Errorf("%s: %v", c.patch, err)
-			continue
-		}
-		if got, err := p.merge(context.Background(), []byte(c.old)); err != nil || string(got) != c.want {
-			t.Errorf("%s %s: %v\n%s", c.old, c.patch, err, got)
+		if got, err := merge(context.Background(), json.RawMessage(c[0]), json.RawMessage(c[1])); err != nil || string(got) != c[2] {
+			t.Errorf("%s with %s: %s, %v", c[0], c[1], got, err)
 		}
 	}
 }
 
-// TestMergesByTheDefinition compares many merges with those that the definition of RFC 7396 gives.
-func TestMergesByTheDefinition(t *testing.T) {
-	for n := 0; n < 3000; n++ {
-		old, patch := made(n, 3), made(n/7+n*31, 3)
-		var a, b, got any
-		if json.Unmarshal([]byte(old), &a) != nil || json.Unmarshal([]byte(patch), &b) != nil {
-			t.Fatal(old, patch)
-		}
-		p, err := ParsePatch([]byte(patch), noLimit)
-		if err != nil {
-			t.Fatal(patch, err)
-		}
-		text, err := p.merge(context.Background(), []byte(old))
-		if err != nil || json.Unmarshal(text, &got) != nil || !reflect.DeepEqual(got, defined(a, b)) {
-			t.Fatalf("%s %s: %v\n%s", old, patch, err, text)
-		}
-	}
-}
-
-// made returns a value that a number chooses.
-func made(n, depth int) string {
-	if depth == 0 || n%5 == 0 {
-		return []string{`"x"`, `null`, `[{"a":null}]`, `-1`, `{}`}[n/5%5]
-	}
-	var members []string
-	for i, name := range []string{"a", "b", "c"} {
-		if n>>i&1 == 1 {
-			members = append(members, fmt.Sprintf("%q:%s", name, made(n/8+i*37, depth-1)))
-		}
-	}
-	return "{" + strings.Join(members, ",") + "}"
-}
-
-// defined is MergePatch of RFC 7396.
-func defined(target, patch any) any {
-	changes, is := patch.(map[string]any)
-	if !is {
-		return patch
-	}
-	of, _ := target.(map[string]any)
-	out := map[string]any{}
-	for name, value := range of {
-		out[name] = value
-	}
-	for name, value := range changes {
-		if delete(out, name); value != nil {
-			out[name] = defined(of[name], value)
-		}
-	}
-	return out
-}
-
-// TestPatchesThatCantBeRead have a code and a place.
-func TestPatchesThatCantBeRead(t *testing.T) {
+// TestPlacesOfFaults names the code, the line, the column and the path of each.
+func TestPlacesOfFaults(t *testing.T) {
 	deep := strings.Repeat(`{"a":`, 65) + "1" + strings.Repeat("}", 65)
-	for patch, want := range map[string]string{
-		``: "1:1: NotJson ", `{`: "1:2: NotJson ", "{\n \"ä\": 1,\n \"b\" 2}": "3:6: NotJson /b", `{"a":1,}`: "1:8: NotJson ", `{"a":tru}`: "1:6: NotJson /a",
-		`{"a":{"b":[1,}}`: "1:11: NotJson /a/b", `{} {}`: "1:4: TrailingText ", `{},`: "1:3: TrailingText ", `{"ä":1,"ä":2}`: "1:12: DuplicateKey /ä",
-		`{"m":{"a/b":1,"c~":2,"a/b":3}}`: "1:28: DuplicateKey /m/a~1b", "{\"a\":\"\xff\"}": "1:7: NotUtf8 ", `{1:2}`: "1:2: NotJson ", `{"a":1`: "1:7: NotJson ",
-		deep: "1:321: TooDeep " + strings.Repeat("/a", 64), `{"a":1]`: "1:7: NotJson ",
+	for text, want := range map[string]string{
+		"{\n \"a\": ]}": "2:7: NotJson /a", "": "1:1: NotJson ", `{"a":1`: "1:7: NotJson /a", `{"a":"B","a":"C"}`: "1:14: DuplicateKey /a", "{}\n x": "2:2: TrailingText ",
+		"{\"\u00e4\":{\"b~/\":x}}": "1:13: NotJson /\u00e4/b~0~1", "{\"a\":\"\xff\"}": "1:7: NotUtf8 ", `{1:2}`: "1:2: NotJson ", `{"a":[{"b":1,"b":2}]}`: "1:18: DuplicateKey /a/0/b",
+		deep: "1:321: TooDeep " + strings.Repeat("/a", 64), ` {"a":[1,{"b":null}]} `: "<nil>", `"text"`: "<nil>",
 	} {
-		_, err := ParsePatch([]byte(patch), noLimit)
-		if err == nil || err.Error() != want {
-			t.Errorf("%.60s: %v", patch, err)
+		if got := fmt.Sprint(CheckPatch([]byte(text), holdAll)); got != want {
+			t.Errorf("%.30s: %s, and not %s", text, got, want)
 		}
 	}
 	full := errors.New("full")
-	held := int64(0)
-	_, err := ParsePatch([]byte(`{"a":1,"b":{"c":2}}`), func(bytes int64) error {
-		if held += bytes; held > 2*memberBytes+2 {
-			return full
-		}
-		return nil
-	})
-	if !errors.Is(err, full) {
-		t.Error(err)
-	}
-	many := []byte("{" + strings.Repeat(`"`+strings.Repeat("k", 60)+`":{`, 60) + strings.Repeat("}", 61))
-	if _, err := ParsePatch(many, noLimit); err != nil {
+	if err := CheckPatch([]byte(`{"a":1}`), func(int64) error { return full }); !errors.Is(err, full) {
 		t.Error(err)
 	}
 }
 
-// TestMergesEnd with their context.
-func TestMergesEnd(t *testing.T) {
-	p, err := ParsePatch([]byte(`{"a":"x"}`), noLimit)
-	if err != nil {
-		t.Fatal(err)
+// TestPlacesOfItems finds the item of a line, and the place in a patch on the way to it.
+func TestPlacesOfItems(t *testing.T) {
+	const text = "{\n\"a\": [\n1,\n{\n\"b\": true\n}\n],\n\"c\": {\n\":bin\": \"0\"\n},\n\"d\": {}\n}"
+	for line, want := range map[int][]string{1: nil, 2: {"a"}, 3: {"a", "0"}, 4: {"a", "1"}, 5: {"a", "1", "b"}, 8: {"c"}, 9: {"c"}, 11: {"d"}} {
+		if got := pathAt([]byte(text), line, "BadNumber"); strings.Join(got, "/") != strings.Join(want, "/") {
+			t.Errorf("line %d: %q, and not %q", line, got, want)
+		}
 	}
-	ended, end := context.WithCancel(context.Background())
-	end()
-	if _, err := p.merge(ended, []byte(`{"b":"`+strings.Repeat("x", 1<<20)+`"}`)); !errors.Is(err, ErrTime) {
-		t.Error(err)
+	if got := pathAt([]byte(text), 5, "BadKey"); !reflect.DeepEqual(got, []string{"a", "1"}) {
+		t.Errorf("%q", got)
 	}
-	for _, bad := range []string{``, `{"a"`, `{"b":`, `{`, `{"b":1 "c":2}`} {
-		if _, err := p.merge(context.Background(), []byte(bad)); err == nil {
-			t.Errorf("%s is taken", bad)
+	const patch = `{"x":1,"a":{"b":[2,{"c":3}]}}`
+	for path, want := range map[string]string{"": patch[:1], "a": `{"b"`, "a/b/1/c": "3", "a/none": `{"b"`, "b": patch[:5], "x": "1,"} {
+		at := placeOf([]byte(patch), strings.Split(path, "/"))
+		if !strings.HasPrefix(patch[at:], want) {
+			t.Errorf("%q: at %q", path, patch[at:])
 		}
 	}
 }
 
-// TestPatched runs the commands of programs that are scripts.
-func TestPatched(t *testing.T) {
-	p, err := ParsePatch([]byte("{\n  \"m\":{\"b\": \"y\"}}"), noLimit)
-	if err != nil {
-		t.Fatal(err)
-	}
-	file := `{"a":"x"}`
-	r := runner(t, "cat", usual)
-	made, same, err := r.Patched(context.Background(), "shop", store.File, []byte(file), p, noLimit)
-	if err != nil || same || string(made) != `{"a":"x","m":{"b":"y"}}` {
-		t.Errorf("%s %v %v", made, same, err)
-	}
-	if _, same, err = r.Patched(context.Background(), "shop", store.File, made, p, noLimit); err != nil || !same {
-		t.Error(same, err)
-	}
-	flagged := make([]byte, 32+28)
-	flagged[0], flagged[17], flagged[32+4], flagged[32+24] = 32, 2, 6, 1
-	for of, want := range map[string]string{string(flagged): "compile -q --json --no-fallback - -\n", file: "compile -q --json - -\n"} {
-		asked := runner(t, `[ "$1" != json ] || exec echo '{}'; exec echo "$@"`, usual)
-		if made, _, err = asked.Patched(context.Background(), "shop", store.File, []byte(of), p, noLimit); err != nil || string(made) != want {
-			t.Errorf("%s %v", made, err)
-		}
-	}
-	made = []byte(file)
-	full := errors.New("full")
-	if _, _, err = r.Patched(context.Background(), "shop", store.File, made, p, func(int64) error { return full }); !errors.Is(err, full) {
-		t.Error(err)
-	}
-	for said, want := range map[string]JSONFault{
-		"-:7:9: BadNumber /m/b/0": {"BadNumber", 2, 13, "/m/b/0", ""}, "-:7:9: TooLarge": {"TooLarge", 1, 1, "", ""},
-		"-:1:1: BadTag /m": {"BadTag", 2, 7, "/m", ""}, "-:1:1: BadKey /x": {"BadKey", 1, 1, "/x", ""},
+// TestDifferencesOfTrees compares tables by keys and arrays by indexes.
+func TestDifferencesOfTrees(t *testing.T) {
+	for _, c := range [][3]string{
+		{`{"a":"A","b":{"c":1}}`, `{"a":"B","b":{"c":1}}`, `[{"new":"B","old":"A","path":"a"}]`},
+		{`{"a":{"b":1,"c":[]}}`, `{"a":"A"}`, `[{"old":1,"path":"a/b"},{"old":[],"path":"a/c"},{"new":"A","path":"a"}]`},
+		{`{"a":[1,2,3,4,5,6,7,8,9,10,11]}`, `{"a":[1,3]}`, `[{"new":3,"old":2,"path":"a/1"},{"old":3,"path":"a/2"},{"old":4,"path":"a/3"},{"old":5,"path":"a/4"},` +
+			`{"old":6,"path":"a/5"},{"old":7,"path":"a/6"},{"old":8,"path":"a/7"},{"old":9,"path":"a/8"},{"old":10,"path":"a/9"},{"old":11,"path":"a/10"}]`},
+		{`{"::a":{":bin":"00"}}`, `{"::a":{":bin":"01"}}`, `[{"new":{":bin":"01"},"old":{":bin":"00"},"path":":a"}]`},
+		{`{"a":{}}`, ``, `[{"old":{},"path":"a"}]`}, {``, `{"a":{"b":1}}`, `[{"new":1,"path":"a/b"}]`}, {`{"a":{}}`, `{"a":[]}`, `[{"old":{},"path":"a"},{"new":[],"path":"a"}]`},
+		{`{"a":{":alias":"/x"}}`, `{"a":{"b":"B"}}`, `[{"old":{":alias":"/x"},"path":"a"},{"new":"B","path":"a/b"}]`}, {``, ``, `[]`}, {"{}\n", "{}", `[]`},
 	} {
-		r := runner(t, `[ "$1" != json ] || exec cat; [ "$1" != explain ] || exit 0; echo '`+said+`' >&2; exit 1`, usual)
-		_, _, err := r.Patched(context.Background(), "shop", store.File, []byte(file), p, noLimit)
-		var fault *JSONFault
-		if !errors.As(err, &fault) || *fault != want {
-			t.Errorf("%s: %+v", said, err)
+		got, err := Differences(context.Background(), json.RawMessage(c[0]), json.RawMessage(c[1]), 1<<20)
+		if err != nil || string(Marshal(got)) != c[2] {
+			t.Errorf("%s with %s: %s, %v", c[0], c[1], Marshal(got), err)
 		}
 	}
-	old := runner(t, `[ "$1" != json ] || exec cat; echo 'error: unexpected argument --json' >&2; exit 2`, usual)
-	if _, _, err := old.Patched(context.Background(), "shop", store.File, []byte(file), p, noLimit); !errors.Is(err, ErrNoCommand) {
+	if _, err := Differences(context.Background(), json.RawMessage(`{"a":"0123456789"}`), nil, 20); !errors.Is(err, ErrOutput) {
 		t.Error(err)
-	}
-}
-
-// TestTheFlagOfAFile is read where docs/FORMAT.md has it.
-func TestTheFlagOfAFile(t *testing.T) {
-	file := make([]byte, 32+28)
-	file[0], file[17], file[32+4], file[32+24] = 32, 2, 6, 1
-	if !isNoFallback(file) {
-		t.Error("it isn't found")
-	}
-	for at, value := range map[int]byte{17: 1, 32 + 4: 5, 32 + 24: 2, 0: 200} {
-		other := append([]byte{}, file...)
-		if other[at] = value; isNoFallback(other) {
-			t.Errorf("byte %d", at)
-		}
-	}
-	for n := range file {
-		if isNoFallback(file[:n]) && n < 32+28 {
-			t.Errorf("%d bytes", n)
-		}
 	}
 }

@@ -1,4 +1,5 @@
-// Package convert has the program's commands read and write bundles for callers, within bounds.
+// Package convert writes bundles in other forms, merges patches into them, and finds the items that differ. Commands of the program, within
+// bounds, say why a bundle is refused and what is doubtful in it.
 package convert
 
 import (
@@ -8,119 +9,70 @@ import (
 	"fmt"
 	"os/exec"
 	"sync"
-	"syscall"
 	"time"
 )
 
-// The errors of a run.
+// The errors of a conversion.
 var (
-	ErrTime   = errors.New("the program took too long")
-	ErrOutput = errors.New("the program writes too much")
+	ErrTime   = errors.New("the conversion took too long")
+	ErrOutput = errors.New("the result is too long")
 	ErrRun    = errors.New("the program can't be run")
 )
 
-// Bounds limit each run of the program, and how many there are at once.
+// Bounds limit each run of the program. Who runs commands sees to it that there are few at once.
 type Bounds struct {
 	Time   time.Duration // of the processor, and twice that by the clock
 	Memory int64         // bytes of address space
-	Output int           // bytes
-	AtOnce int
+	Output int           // bytes, also of what the library makes
 }
 
-// A Runner runs commands of the program: one of an application at a time, and a fixed number at once.
+// A Runner converts, and runs commands of the program.
 type Runner struct {
-	*Slots
-	program func() string
-	bounds  Bounds
-
-	mu       sync.Mutex
-	meanings map[string]string
+	program  string
+	bounds   Bounds
+	meanings sync.Map // of codes
 }
 
-// New returns a runner of the program that a function names.
-func New(program func() string, bounds Bounds) *Runner {
-	return &Runner{Slots: NewSlots(bounds.AtOnce), program: program, bounds: bounds, meanings: map[string]string{}}
-}
+// New returns a runner of a program.
+func New(program string, bounds Bounds) *Runner { return &Runner{program: program, bounds: bounds} }
 
-// Run runs a command with the body as its standard input, and returns what it prints to standard output and standard error. Failed
-// says that it ended with another status than 0.
-func (r *Runner) Run(ctx context.Context, app string, body []byte, arguments ...string) (out, said []byte, failed bool, err error) {
-	end, err := r.Begin(ctx, app)
-	if err != nil {
-		return nil, nil, false, err
-	}
-	defer end()
-	return r.run(ctx, body, arguments)
-}
+// limited runs a command with a low priority under limits of the system. The shell becomes the command, so that ending it ends all.
+const limited = `ulimit -v "$0" && ulimit -t "$1" && ulimit -c 0 && shift && exec nice -n 10 "$@"`
 
-// run runs a command under limits of the system.
-func (r *Runner) run(ctx context.Context, body []byte, arguments []string) (out, said []byte, failed bool, err error) {
+// run runs a command with the body as its standard input, and returns what it prints to standard output. A command that finds a fault ends with
+// status 1 or 2, which is no error.
+func (r *Runner) run(ctx context.Context, body []byte, arguments ...string) ([]byte, error) {
 	ctx, cancel := context.WithTimeout(ctx, 2*r.bounds.Time)
 	defer cancel()
-	const limited = `ulimit -v "$0" && ulimit -t "$1" && ulimit -c 0 && shift && exec "$@"`
 	seconds := int64((r.bounds.Time + time.Second - 1) / time.Second)
-	given := append([]string{"-c", limited, fmt.Sprint(r.bounds.Memory >> 10), fmt.Sprint(seconds), r.program()}, arguments...)
-	command := exec.Command("/bin/sh", given...)
-	command.SysProcAttr = &syscall.SysProcAttr{Setpgid: true}
-	answer, errors := &bounded{most: r.bounds.Output, full: cancel}, &bounded{most: 1 << 12, full: func() {}}
-	command.Stdin, command.Stdout, command.Stderr = bytes.NewReader(body), answer, errors
-	err = endWith(ctx, command)
-	status := -1
-	if command.ProcessState != nil {
-		status = command.ProcessState.ExitCode()
-	}
+	given := append([]string{"-c", limited, fmt.Sprint(r.bounds.Memory >> 10), fmt.Sprint(seconds), r.program}, arguments...)
+	command := exec.CommandContext(ctx, "/bin/sh", given...)
+	out, said := &bounded{most: r.bounds.Output}, &bounded{most: 4 << 10}
+	command.Stdin, command.Stdout, command.Stderr = bytes.NewReader(body), out, said
+	err := command.Run()
+	var exit *exec.ExitError
 	switch {
-	case answer.over:
-		return nil, nil, true, ErrOutput
+	case out.over:
+		return nil, ErrOutput
 	case ctx.Err() != nil:
-		return nil, nil, true, ErrTime
-	case err != nil && (status < 0 || status > 2):
-		return nil, errors.text, true, fmt.Errorf("%w: %v: %.200s", ErrRun, err, errors.text)
+		return nil, ErrTime
+	case err != nil && !(errors.As(err, &exit) && exit.ExitCode() >= 0 && exit.ExitCode() <= 2):
+		return nil, fmt.Errorf("%w: %v: %.200s", ErrRun, err, said.Bytes())
 	}
-	return answer.text, errors.text, status != 0, nil
+	return out.Bytes(), nil
 }
 
-// lower is by how much the priority of a command is below that of the servers, if the system allows it.
-const lower = 10
-
-// endWith runs a command, and kills all its processes when the context ends.
-func endWith(ctx context.Context, command *exec.Cmd) error {
-	if err := command.Start(); err != nil {
-		return err
-	}
-	_ = syscall.Setpriority(syscall.PRIO_PROCESS, command.Process.Pid, lower)
-	ended, watched := make(chan struct{}), make(chan struct{})
-	go func() {
-		defer close(watched)
-		select {
-		case <-ctx.Done():
-			_ = syscall.Kill(-command.Process.Pid, syscall.SIGKILL)
-		case <-ended:
-		}
-	}()
-	err := command.Wait()
-	close(ended)
-	<-watched // so that the number isn't that of another process
-	return err
-}
-
-// A bounded writer takes bytes up to a number; then it calls a function and drops them.
+// A bounded buffer takes bytes up to a number. Then the command gets an error for what it prints.
 type bounded struct {
-	text []byte
+	bytes.Buffer
 	most int
 	over bool
-	full func()
 }
 
 // Write takes the next bytes.
 func (b *bounded) Write(more []byte) (int, error) {
-	if len(b.text)+len(more) > b.most {
-		if !b.over {
-			b.over = true
-			b.full()
-		}
-		return len(more), nil
+	if b.over = b.Len()+len(more) > b.most; b.over {
+		return 0, ErrOutput
 	}
-	b.text = append(b.text, more...)
-	return len(more), nil
+	return b.Buffer.Write(more)
 }

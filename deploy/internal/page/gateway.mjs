@@ -16,7 +16,6 @@ const MEANINGS = {
   Busy: "the server is busy; try again",
   NotKept: "the change couldn't be stored",
   Unreached: "the gateway doesn't reach its log; try again later",
-  ServerEnded: "the server ended meanwhile; try again",
   Memory: "the server is out of memory; try again later",
   Failed: "the gateway failed; its log says why",
   BundleTooLong: "the bundle is longer than the server allows",

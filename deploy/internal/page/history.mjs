@@ -28,8 +28,8 @@ export const history = async (gateway, locale) => {
 };
 
 const rowOf = (gateway, change) => {
-  const compare = make("button", { type: "button", textContent: "Compare", "aria-label": `Compare version ${change.id} of ${change.locale}` });
-  const restore = make("button", { type: "button", textContent: "Restore", "aria-label": `Restore version ${change.id} of ${change.locale}` });
+  const compare = make("button", { type: "button", textContent: "Compare", "aria-label": `Compare version ${change.revision} of ${change.locale}` });
+  const restore = make("button", { type: "button", textContent: "Restore", "aria-label": `Restore version ${change.revision} of ${change.locale}` });
   compare.addEventListener("click", acting(() => compareWith(gateway, change)));
   restore.addEventListener("click", acting(() => restoreTo(gateway, change)));
   const version = !change.kept ? ["not stored any more"] : change.op === "remove" ? [restore] : [compare, " ", restore];
@@ -39,19 +39,19 @@ const rowOf = (gateway, change) => {
     make("td", { textContent: DONE[change.op] ?? change.op }), make("td", { textContent: String(change.bytes) }), make("td", {}, ...version));
 };
 
-const compareWith = async (gateway, { id, locale }) => {
+const compareWith = async (gateway, { id, revision, locale }) => {
   const [earlier, now] = [await gateway.version(id), await gateway.text(locale)];
-  showDifference(at("history-diff"), `From version ${id} of ${locale} to what is installed`, earlier, now.text ?? "");
+  showDifference(at("history-diff"), `From version ${revision} of ${locale} to what is installed`, earlier, now.text ?? "");
 };
 
-const restoreTo = async (gateway, { id, locale, op }) => {
+const restoreTo = async (gateway, { id, revision, locale, op }) => {
   const { tag } = await gateway.text(locale);
-  const question = op === "remove" ? `Remove ${locale} again?` : `Make ${locale} what it was in version ${id}?`;
+  const question = op === "remove" ? `Remove ${locale} again?` : `Make ${locale} what it was in version ${revision}?`;
   if (!(await confirmed(question, op === "remove" ? "Remove" : "Restore"))) return;
   await gateway.restore(id, tag);
   await history(gateway, locale);
   at("history-title").focus(); // the button is gone
-  say(at("message"), "good", op === "remove" ? `${locale} is removed.` : `${locale} is as it was in version ${id}.`);
+  say(at("message"), "good", op === "remove" ? `${locale} is removed.` : `${locale} is as it was in version ${revision}.`);
 };
 
 const acting = (what) => async () => {

@@ -1,7 +1,7 @@
 // Places of items in the text of a bundle (docs/LANGUAGE.md).
 
-// A comment, a string, a sign that parts items, or a word. What is open at the end of the text is a word.
-const TOKENS = /\/\/[^\n]*|\/\*[^]*?\*\/|"(?:[^"\\]|\\[^])*"|[{}:,]|[^\s{}:,"]+|"/g;
+// A comment, a string, a sign that parts items, or a word. What isn't closed reaches to the end of the text, so that no text is read twice.
+const TOKENS = /\/\/[^\n]*|\/\*[^]*?(?:\*\/|$)|"(?:[^"\\]|\\[^]?)*(?:"|$)|[{}:,]|[^\s{}:,"]+/g;
 
 /**
  * Returns the offset of the item to which keys lead. If it isn't there, it returns that of the last item on the way, which is the whole

@@ -1,392 +1,407 @@
-// Package replica answers lookups from the bundles of a log, and has changes accepted.
-//
-// Two servers have the same bundles. One answers lookups; the other one judges changes. Once a change is stored, the two swap,
-// and the first one makes the change too. So a lookup never waits for a change, never finds one that isn't stored, and is
-// answered while a server that ended is replaced. Lookups of an application that take long are answered by the judging server, as
-// long as no change needs it, so that others don't wait for them.
+// Package replica brings an engine to the manifests of a store, and has changes made.
 package replica
 
 import (
 	"context"
 	"errors"
-	"fmt"
 	"log"
+	"runtime"
+	"strconv"
 	"sync"
+	"sync/atomic"
 	"time"
 
-	"github.com/prometheus/client_golang/prometheus"
-
-	"luvdregan.example/resb/deploy/internal/child"
-	"luvdregan.example/resb/deploy/internal/proc"
+	"luvdregan.example/resb/deploy/internal/engine"
+	"luvdregan.example/resb/deploy/internal/manifest"
+	"luvdregan.example/resb/deploy/internal/names"
 	"luvdregan.example/resb/deploy/internal/store"
-	"luvdregan.example/resb/deploy/internal/store/sqlite"
 )
 
-// Replies of the server.
-const (
-	done        = `{"ok":true}`
-	outOfMemory = `{"error":"Memory"}`
-	badLine     = `{"error":"BadLine"}`
-	overQuota   = `{"error":"OverQuota"}`
-)
-
-// The errors of a change.
+// The errors of a replica.
 var (
-	ErrNotKept = errors.New("the change could not be stored")
-	ErrNoRoom  = errors.New("no space on the disk")
-	ErrBehind  = errors.New("the gateway has no bundles of this revision yet")
+	ErrBehind      = errors.New("the gateway doesn't have this revision yet")
+	ErrReplaying   = errors.New("the gateway doesn't have all bundles yet")
+	ErrTooManyApps = errors.New("too many applications have bundles")
+	ErrGone        = errors.New("the caller has gone")
 )
 
-// Settings say how servers are started.
-type Settings struct {
-	Program   string
-	Arguments []string
-	Memory    int64         // of each server; 0 is no limit
-	Patience  time.Duration // for a reply to a lookup
-	Log       SharedLog     // or nil, if the changes are in the store alone
+// Options are the limits of changes, and what stays of earlier manifests.
+type Options struct {
+	Limits manifest.Limits
+	Apps   int   // the most with bundles
+	Bytes  int64 // the most of all compiled bundles
+	Keep   store.Keep
+	Every  time.Duration // between two collections of what need not stay
 }
 
-// A Replica answers from the bundles of a store.
+// A Replica is a gateway's copy of all applications.
 type Replica struct {
-	settings  Settings
-	shared             // used by run alone, except moved and trouble
-	published *pending // may be stored in the shared log
-	store     *sqlite.Store
-	turns     *child.Turns
-	changes   *changes
+	store     store.Store
+	engine    *engine.Engine
+	options   Options
+	ctx       context.Context
 	stop      context.CancelFunc
-	stopped   sync.WaitGroup
+	ends      sync.WaitGroup
+	reading   chan struct{} // taken by each bundle that is read from the store
+	preparing chan struct{} // taken while it is prepared
+	ready     atomic.Bool
+	madeRoom  atomic.Int64 // when, in seconds
+	long      sync.Map     // of a chan struct{} by holder, taken while a long change is stored
 
-	mu        sync.Mutex
-	wake      *sync.Cond
-	program   string       // of servers that are started
-	version   string       // what the program says of its version
-	wanted    *upgrade     // another program that is asked for, or nil
-	serves    *child.Child // answers lookups, or nil
-	judges    *child.Child // judges changes, or nil
-	writing   bool         // the judging one has, perhaps, what isn't stored
-	behind    bool         // the judging one lacks, perhaps, what is stored
-	borrowing borrowing
-	ending    bool
-	fills     int
-	revision  store.Revision    // of the bundles with which lookups are answered
-	left      map[bundle]string // bundles that servers don't have, and why
-	storeAll  func(context.Context, []store.Change) (store.Revision, error)
-	pause     func() // called before the server that is behind makes the changes, in tests
+	apps sync.Map // of *app by name
+	mu   sync.Mutex
 }
 
-// A bundle is named by its application and its canonical locale.
-type bundle struct{ app, locale string }
+// An app is one application.
+type app struct {
+	name    string
+	writing chan struct{} // taken by the change that is made, so that a gateway's own changes don't conflict
+	bring   sync.Mutex    // locked while the engine moves to a manifest
+	now     atomic.Pointer[View]
+	users   int // calls that need it, under the replica's mu
 
-// Open starts servers for the bundles of a store, which the replica closes.
-func Open(s *sqlite.Store, settings Settings) *Replica {
+	mu      sync.Mutex
+	moved   chan struct{} // closed when now changes
+	wanted  int64         // the newest revision that the store reported
+	swaps   int64         // the revision that a change of this gateway makes now, or 0
+	follows bool          // a goroutine brings the engine there
+}
+
+// A View is the manifest that the engine has.
+type View struct {
+	*manifest.Manifest
+	leftOut map[string]bool // bundles that the engine refuses
+	header  []string
+}
+
+// Header returns the revision as the value of a header, which nobody changes.
+func (v *View) Header() []string { return v.header }
+
+func viewOf(m *manifest.Manifest, leftOut map[string]bool) *View {
+	return &View{m, leftOut, []string{strconv.FormatInt(m.Revision, 10)}}
+}
+
+// empty returns the view of an application that was never changed.
+func empty(name string) *View { return viewOf(&manifest.Manifest{App: name}, nil) }
+
+// mostRead is how many bundles are read at once.
+const mostRead = 32
+
+// Open begins to follow a store.
+func Open(s store.Store, e *engine.Engine, o Options) *Replica {
 	ctx, stop := context.WithCancel(context.Background())
-	r := &Replica{settings: settings, program: settings.Program, store: s, turns: child.NewTurns(settings.Patience), changes: newChanges(), stop: stop,
-		left: map[bundle]string{}, storeAll: s.AppendAll, pause: func() {}, shared: shared{log: settings.Log, changedElsewhere: map[bundle]time.Time{}}}
-	r.wake = sync.NewCond(&r.mu)
-	r.stopped.Add(2)
-	if r.log != nil {
-		r.stopped.Add(1)
-		go func() {
-			defer r.stopped.Done()
-			r.watch(ctx)
-		}()
+	r := &Replica{store: s, engine: e, options: o, ctx: ctx, stop: stop, reading: make(chan struct{}, mostRead),
+		preparing: make(chan struct{}, runtime.GOMAXPROCS(0))}
+	for _, work := range []func(){r.watch, r.start, r.collect} {
+		r.do(work)
 	}
-	go func() {
-		defer r.stopped.Done()
-		r.turns.Run(servers{r})
-	}()
-	go func() {
-		defer r.stopped.Done()
-		r.run(ctx)
-	}()
-	go func() {
-		<-ctx.Done()
-		r.mu.Lock()
-		defer r.mu.Unlock()
-		r.ending = true
-		r.wake.Broadcast()
-	}()
 	return r
 }
 
-// run keeps two servers, and has changes and upgrades made, until the context ends.
-func (r *Replica) run(ctx context.Context) {
-	defer r.endUpgrades()
-	if r.log != nil {
-		r.catchUp(ctx)
-	}
-	pause := time.Duration(0)
-	for ctx.Err() == nil {
-		if u := r.takeUpgrade(); u != nil {
-			u.done <- r.upgrade(ctx, u.program)
-			continue
-		}
-		if r.isWhole() {
-			pause = 0
-			if batch, more := r.await(); len(batch) > 0 || more {
-				r.apply(ctx, batch)
-			}
-			continue
-		}
-		began := time.Now()
-		err := r.fill(ctx)
-		if err == nil || ctx.Err() != nil {
-			continue
-		}
-		if time.Since(began) > time.Minute {
-			pause = 0
-		}
-		log.Printf("server: %v; again in %v", err, pause)
-		select {
-		case <-time.After(pause):
-		case <-ctx.Done():
-		}
-		if pause = 2*pause + 100*time.Millisecond; pause > 15*time.Second {
-			pause = 15 * time.Second
-		}
-	}
-}
-
-// isWhole returns true if both servers run.
-func (r *Replica) isWhole() bool {
-	r.mu.Lock()
-	defer r.mu.Unlock()
-	return r.serves != nil && r.judges != nil
-}
-
-// await waits for changes, and returns some of them, and whether a shared log may have more; none if a server has ended, another
-// program is asked for, or the replica is closed.
-func (r *Replica) await() (batch []*pending, more bool) {
-	r.mu.Lock()
-	defer r.mu.Unlock()
-	stays := func() bool { return !r.ending && r.serves != nil && r.judges != nil && r.wanted == nil }
-	for stays() && (!r.changes.any() && !r.moved || r.mustWait()) {
-		r.wake.Wait()
-	}
-	r.borrowing.wanted = false
-	if !stays() {
-		return nil, false
-	}
-	if batch, more = r.changes.take(), r.moved; len(batch) == 0 {
-		r.changedElsewhere = map[bundle]time.Time{}
-	}
-	r.moved, r.writing = false, len(batch) > 0 || more
-	r.borrowing.wrote = r.borrowing.wrote || r.writing
-	return batch, more
-}
-
-// Ask answers a lookup or a list, within a time. Free must be called once the reply isn't used any more.
-func (r *Replica) Ask(ctx context.Context, within time.Duration, app string, line []byte) *child.Call {
-	return r.turns.Ask(ctx, within, app, line)
-}
-
-// AskMany answers several lookups, each by a call of a function that must not block.
-func (r *Replica) AskMany(ctx context.Context, app string, lines [][]byte, answer func(index int, reply *child.Call)) {
-	for i, line := range lines {
-		i := i
-		r.turns.Go(ctx, app, line, func(c *child.Call) { answer(i, c) })
-	}
-}
-
-// Change returns the server's reply to a change, and its revision, once the change is stored if it was made. A condition that isn't
-// nil must hold for the bundle just before, and no other change of the bundle is made in between; otherwise the error is
-// store.ErrCondition.
-func (r *Replica) Change(ctx context.Context, c store.Change, holds store.Condition) (reply []byte, revision store.Revision, err error) {
-	return r.change(ctx, &pending{Change: c, holds: holds})
-}
-
-// change has a change wait, and returns the reply to it.
-func (r *Replica) change(ctx context.Context, p *pending) (reply []byte, revision store.Revision, err error) {
-	if r.store.Failure() != nil {
-		return nil, 0, ErrNotKept
-	}
-	if p.Op != store.Remove && !r.store.Fits(len(p.Body)) {
-		return nil, 0, ErrNoRoom
-	}
-	if r.log != nil && !r.log.Reached() {
-		return nil, 0, store.ErrUnreached
-	}
-	p.ctx, p.came, p.line, p.answer = ctx, time.Now(), child.ChangeLine(p.Change), make(chan answer, 1)
-	p.callerGone, _ = ctx.Value(callerKey{}).(func() bool)
-	r.changes.add(p)
-	r.mu.Lock()
-	r.wake.Broadcast()
-	r.mu.Unlock()
-	select {
-	case a := <-p.answer:
-		return a.reply, a.revision, a.err
-	case <-ctx.Done():
-		if !r.isWhole() && r.changes.willBeLeftOut(p) {
-			return nil, 0, child.ErrReplaying
-		}
-		return nil, 0, child.ErrTimeout
-	}
-}
-
-// Revision returns that of the bundles with which lookups are answered.
-func (r *Replica) Revision() store.Revision {
-	r.mu.Lock()
-	defer r.mu.Unlock()
-	return r.revision
-}
-
-// Await waits until lookups are answered with the bundles of a revision, and returns ErrBehind if the context ends before.
-func (r *Replica) Await(ctx context.Context, revision store.Revision) error {
-	if r.Revision() >= revision {
-		return nil
-	}
-	late := make(chan struct{})
-	defer close(late)
+// do does something that Close waits for.
+func (r *Replica) do(work func()) {
+	r.ends.Add(1)
 	go func() {
-		select {
-		case <-ctx.Done():
-			r.mu.Lock()
-			r.wake.Broadcast()
-			r.mu.Unlock()
-		case <-late:
-		}
+		defer r.ends.Done()
+		work()
 	}()
-	r.mu.Lock()
-	defer r.mu.Unlock()
-	for r.revision < revision {
-		if ctx.Err() != nil || r.ending {
-			return ErrBehind
-		}
-		r.wake.Wait()
-	}
-	return nil
 }
 
-// Has returns true if the application has a bundle of the locale.
-func (r *Replica) Has(app, locale string) bool { return r.store.Has(app, locale) }
-
-// Ready returns an error if no server answers lookups.
-func (r *Replica) Ready() error {
-	if r.serving() == nil {
-		return child.ErrReplaying
-	}
-	return nil
-}
-
-// Writable returns an error if no change would be stored now.
-func (r *Replica) Writable() error {
-	if err := r.store.Failure(); err != nil {
-		return ErrNotKept
-	}
-	if !r.isWhole() {
-		return child.ErrReplaying
-	}
-	r.mu.Lock()
-	defer r.mu.Unlock()
-	switch {
-	case r.log == nil:
-		return nil
-	case !r.log.Reached():
-		return store.ErrUnreached
-	case r.trouble != nil:
-		return ErrNotKept
-	}
-	return nil
-}
-
-// Program returns what the servers' program says of its version, or "" if it isn't known yet.
-func (r *Replica) Program() string {
-	r.mu.Lock()
-	defer r.mu.Unlock()
-	return r.version
-}
-
-// Close stores what was accepted, and ends the servers.
+// Close ends it, and closes the store.
 func (r *Replica) Close() {
 	r.stop()
-	r.turns.Close()
-	r.stopped.Wait()
-	r.mu.Lock()
-	serves, judges := r.serves, r.judges
-	r.serves, r.judges = nil, nil
-	r.mu.Unlock()
-	for _, c := range []*child.Child{serves, judges} {
-		if c != nil {
-			log.Printf("server: process %d ended: %s", c.PID(), c.Finish(10*time.Second))
+	r.ends.Wait()
+	if err := r.store.Close(); err != nil {
+		log.Printf("store: %v", err)
+	}
+}
+
+func (r *Replica) watch() {
+	for r.ctx.Err() == nil {
+		if err := r.store.Watch(r.ctx, func(name string, revision int64) { r.seen(name, revision, false) }); err != nil && r.ctx.Err() == nil {
+			log.Printf("store: watch: %v", err)
+			pause(r.ctx, time.Second)
 		}
 	}
-	if r.log != nil {
-		r.log.Close()
+}
+
+// start becomes ready once all applications have what was stored before. Then some processors are left for lookups.
+func (r *Replica) start() {
+	began, bundles := time.Now(), 0
+	for failures := 0; r.ctx.Err() == nil; failures++ {
+		err := r.store.Sync(r.ctx)
+		if err == nil {
+			break
+		} else if failures == 0 {
+			log.Printf("store: %v", err)
+		}
+		pause(r.ctx, 100*time.Millisecond)
 	}
-	r.store.Close()
-}
-
-// A measure is a metric of a replica.
-type measure struct {
-	desc *prometheus.Desc
-	kind prometheus.ValueType
-}
-
-func newMeasure(kind prometheus.ValueType, name, help string) measure {
-	return measure{prometheus.NewDesc("resb_"+name, help, nil, nil), kind}
-}
-
-var (
-	servesNow     = newMeasure(prometheus.GaugeValue, "serves", "Whether lookups are answered: 1 or 0.")
-	writesNow     = newMeasure(prometheus.GaugeValue, "writes", "Whether the last change could be stored: 1 or 0.")
-	linesTotal    = newMeasure(prometheus.CounterValue, "lines_total", "Lines of callers that were answered.")
-	replaysTotal  = newMeasure(prometheus.CounterValue, "replays_total", "How often a server was filled with the bundles.")
-	leftOut       = newMeasure(prometheus.GaugeValue, "left_out", "Bundles that are stored, and that the servers don't have.")
-	memoryBytes   = newMeasure(prometheus.GaugeValue, "memory_bytes", "Memory of the servers.")
-	databaseBytes = newMeasure(prometheus.GaugeValue, "database_bytes", "Length of the database and its WAL.")
-	bundlesBytes  = newMeasure(prometheus.GaugeValue, "bundles_bytes", "Length of the stored bundles.")
-	bundlesNow    = newMeasure(prometheus.GaugeValue, "bundles", "Stored bundles.")
-	revisionNow   = newMeasure(prometheus.GaugeValue, "revision", "The last change with which lookups are answered.")
-)
-
-// Describe names the metrics of a replica.
-func (r *Replica) Describe(to chan<- *prometheus.Desc) {
-	for _, m := range []measure{
-		servesNow, writesNow, linesTotal, replaysTotal, leftOut, memoryBytes, databaseBytes, bundlesBytes, bundlesNow, revisionNow,
-	} {
-		to <- m.desc
+	r.apps.Range(func(_, of any) bool {
+		a := of.(*app)
+		err := r.await(r.ctx, a, a.target())
+		bundles += len(a.now.Load().Bundles)
+		return err == nil
+	})
+	if r.ctx.Err() != nil {
+		return
+	}
+	r.ready.Store(true)
+	log.Printf("gateway: ready with %d bundles after %v", bundles, time.Since(began).Round(time.Millisecond))
+	left := cap(r.preparing) - engine.Works() - 1 // beside the long work of requests
+	if left < 1 {
+		left = 1
+	}
+	for n := left; n < cap(r.preparing); n++ {
+		r.preparing <- struct{}{}
 	}
 }
 
-// Collect measures a replica.
-func (r *Replica) Collect(to chan<- prometheus.Metric) {
-	r.mu.Lock()
-	fills, left, serves := r.fills, len(r.left), 0
-	memory := int64(0)
-	for _, c := range []*child.Child{r.serves, r.judges} {
-		if c != nil {
-			memory += proc.Memory(c.PID())
+// collect removes what the store need not keep, now and then.
+func (r *Replica) collect() {
+	for pause(r.ctx, r.options.Every) {
+		if removed, err := r.store.Collect(r.ctx, r.options.Keep); err != nil && r.ctx.Err() == nil {
+			log.Printf("store: collect: %v", err)
+		} else if removed > 0 {
+			log.Printf("store: %d earlier manifests and bodies are removed", removed)
 		}
 	}
-	if r.serves != nil {
-		serves = 1
+}
+
+// Ready returns nil if the engine has all that was stored before the start.
+func (r *Replica) Ready() error {
+	if !r.ready.Load() {
+		return ErrReplaying
 	}
-	r.mu.Unlock()
-	stats, writes := r.store.Stats(), 0
-	if stats.Writes && (r.log == nil || r.Writable() == nil) {
-		writes = 1
+	return nil
+}
+
+// Writable returns nil if changes are stored, as far as is known.
+func (r *Replica) Writable(ctx context.Context) error {
+	if err := r.Ready(); err != nil {
+		return err
 	}
-	for m, value := range map[measure]float64{
-		servesNow: float64(serves), writesNow: float64(writes), linesTotal: float64(r.turns.Asked() + r.changes.answered()),
-		replaysTotal: float64(fills), leftOut: float64(left), memoryBytes: float64(memory), databaseBytes: float64(stats.Files),
-		bundlesBytes: float64(stats.Bytes), bundlesNow: float64(stats.Bundles), revisionNow: float64(r.Revision()),
-	} {
-		to <- prometheus.MustNewConstMetric(m.desc, m.kind, value)
+	return r.store.Writable(ctx)
+}
+
+func pause(ctx context.Context, d time.Duration) bool {
+	late := time.NewTimer(d)
+	defer late.Stop()
+	select {
+	case <-late.C:
+		return true
+	case <-ctx.Done():
+		return false
 	}
 }
 
-// PIDs returns the processes of the server that answers lookups and of the one that judges changes, 0 for one that is missing.
-func (r *Replica) PIDs() (serves, judges int) {
+// use returns an application, which is added if it is missing. Leave must follow.
+func (r *Replica) use(name string) *app {
 	r.mu.Lock()
 	defer r.mu.Unlock()
-	if r.serves != nil {
-		serves = r.serves.PID()
+	of, _ := r.apps.Load(name)
+	a, there := of.(*app)
+	if !there {
+		a = &app{name: name, writing: make(chan struct{}, 1), moved: make(chan struct{})}
+		a.now.Store(empty(name))
+		r.apps.Store(name, a)
 	}
-	if r.judges != nil {
-		judges = r.judges.PID()
-	}
-	return serves, judges
+	a.users++
+	return a
 }
 
-func (b bundle) String() string { return fmt.Sprintf("%s, %s", b.app, b.locale) }
+// leave ends a use. An application without a revision is removed.
+func (r *Replica) leave(a *app) {
+	r.mu.Lock()
+	defer r.mu.Unlock()
+	if a.users--; a.users == 0 && a.target() == 0 && a.now.Load().Revision == 0 {
+		r.apps.Delete(a.name)
+	}
+}
+
+// target returns the newest revision that the store reported.
+func (a *app) target() int64 {
+	a.mu.Lock()
+	defer a.mu.Unlock()
+	return a.wanted
+}
+
+// Now returns what the engine has of an application.
+func (r *Replica) Now(name string) *View {
+	if a, there := r.apps.Load(name); there {
+		return a.(*app).now.Load()
+	}
+	return empty(name)
+}
+
+// Await waits until the engine has a revision of an application.
+func (r *Replica) Await(ctx context.Context, name string, revision int64) error {
+	a := r.use(name)
+	defer r.leave(a)
+	return r.await(ctx, a, revision)
+}
+
+func (r *Replica) await(ctx context.Context, a *app, revision int64) error {
+	for {
+		a.mu.Lock()
+		moved := a.moved
+		a.mu.Unlock()
+		if a.now.Load().Revision >= revision {
+			return nil
+		}
+		select {
+		case <-moved:
+		case <-ctx.Done():
+			return ErrBehind
+		case <-r.ctx.Done():
+			return ErrBehind
+		}
+	}
+}
+
+// seen notes that the store has a revision, and moves the engine there. The revision that a change of this gateway makes now is left to
+// it for a while.
+func (r *Replica) seen(name string, revision int64, late bool) {
+	a := r.use(name)
+	defer r.leave(a)
+	a.mu.Lock()
+	defer a.mu.Unlock()
+	if revision > a.wanted {
+		a.wanted = revision
+	}
+	switch {
+	case a.wanted <= a.now.Load().Revision || a.follows || r.ctx.Err() != nil:
+	case a.wanted == a.swaps && !late:
+		time.AfterFunc(100*time.Millisecond, func() { r.seen(name, revision, true) })
+	default:
+		a.follows = true
+		r.do(func() { r.follow(a) })
+	}
+}
+
+// follow brings the engine to the newest manifest, passing over those before it.
+func (r *Replica) follow(a *app) {
+	for wait := time.Duration(0); ; {
+		a.mu.Lock()
+		wanted, now := a.wanted, a.now.Load()
+		if wanted <= now.Revision || r.ctx.Err() != nil {
+			a.follows = false
+			a.mu.Unlock()
+			return
+		}
+		a.mu.Unlock()
+		m, err := r.store.Manifest(r.ctx, a.name, wanted, now.Manifest)
+		if err == nil {
+			err = r.apply(r.ctx, a, m, nil)
+		}
+		if err == nil {
+			wait = 0
+			continue
+		}
+		if wait > time.Second {
+			log.Printf("application %s, revision %d: %v", a.name, wanted, err)
+		}
+		if wait = 2*wait + 10*time.Millisecond; wait > 5*time.Second {
+			wait = 5 * time.Second
+		}
+		pause(r.ctx, wait)
+	}
+}
+
+// apply brings the engine to a manifest in one step, unless it has a newer one. The bundles of own are prepared already, by locale.
+func (r *Replica) apply(ctx context.Context, a *app, m *manifest.Manifest, own map[string]*engine.Bundle) error {
+	a.bring.Lock()
+	defer a.bring.Unlock()
+	now := a.now.Load()
+	if now.Revision >= m.Revision {
+		return nil
+	}
+	edits, leftOut, err := r.edits(ctx, now, m, own)
+	if err != nil {
+		for _, one := range edits {
+			one.Bundle.Discard()
+		}
+		return err
+	}
+	next := viewOf(m, leftOut)
+	r.engine.Release(a.name, edits, func() { a.now.Store(next) })
+	a.mu.Lock()
+	defer a.mu.Unlock()
+	close(a.moved)
+	a.moved = make(chan struct{})
+	return nil
+}
+
+// edits returns what leads the engine from a view to a manifest, and which bundles of that it refuses.
+func (r *Replica) edits(ctx context.Context, now *View, m *manifest.Manifest, own map[string]*engine.Bundle) (
+	edits []engine.Edit, leftOut map[string]bool, err error) {
+	leftOut = map[string]bool{}
+	for locale := range now.leftOut {
+		leftOut[locale] = true
+	}
+	moves := manifest.Diff(now.Manifest, m)
+	bundles, errs := r.prepareAll(ctx, m.App, moves, own)
+	for i, move := range moves {
+		locale := move.Locale()
+		isThere := move.Old != nil && !leftOut[locale]
+		delete(leftOut, locale)
+		var fault *engine.Fault
+		if errors.As(errs[i], &fault) {
+			log.Printf("application %s: the bundle %s is left out: %v", m.App, locale, errs[i])
+			leftOut[locale] = true
+		} else if err == nil {
+			err = errs[i]
+		}
+		if bundles[i] != nil || isThere {
+			edits = append(edits, engine.Edit{Locale: locale, Bundle: bundles[i]})
+		}
+	}
+	return edits, leftOut, err
+}
+
+// prepareAll prepares the bundles that a manifest puts and own doesn't have.
+func (r *Replica) prepareAll(ctx context.Context, name string, moves []manifest.Difference, own map[string]*engine.Bundle) (
+	bundles []*engine.Bundle, errs []error) {
+	bundles, errs = make([]*engine.Bundle, len(moves)), make([]error, len(moves))
+	var ends sync.WaitGroup
+	for i, move := range moves {
+		if move.New == nil {
+			continue
+		}
+		if bundles[i] = own[move.New.Locale]; bundles[i] != nil {
+			continue
+		}
+		r.reading <- struct{}{}
+		ends.Add(1)
+		go func(i int, b *manifest.Bundle) {
+			defer ends.Done()
+			bundles[i], errs[i] = r.prepare(ctx, name, b)
+			<-r.reading
+		}(i, move.New)
+	}
+	ends.Wait()
+	return bundles, errs
+}
+
+// prepare reads a bundle of the store: its compiled file, or what was submitted if there is none, or if it is one of another version.
+func (r *Replica) prepare(ctx context.Context, name string, b *manifest.Bundle) (*engine.Bundle, error) {
+	if _, ok := names.Canonical(b.Locale); !ok {
+		return nil, &engine.Fault{Code: "BadLocale"}
+	}
+	if b.File != "" {
+		if prepared, err := r.prepareBody(ctx, name, engine.File, b.FileBody()); err == nil {
+			return prepared, nil
+		}
+	}
+	return r.prepareBody(ctx, name, b.Kind, *b)
+}
+
+func (r *Replica) prepareBody(ctx context.Context, name, kind string, b manifest.Bundle) (*engine.Bundle, error) {
+	body, err := r.store.Body(ctx, name, b)
+	if err != nil {
+		return nil, err
+	}
+	r.preparing <- struct{}{}
+	defer func() { <-r.preparing }()
+	return engine.Prepare(kind, body)
+}

@@ -5,7 +5,7 @@ import os
 import sys
 from typing import Callable, Iterator, Optional
 
-from ..common import Failure, read_file, shown, write_file, write_output
+from ..common import Failure, read_file, shown, write_file
 from ..texts import Other, bundle_of, tree_of
 from .catalogue import Catalogue, Doubt, locale_of, text_of
 from .readers import Options, read_android, read_i18next, read_java, read_po, read_strings, read_stringsdict, read_xliff
@@ -159,10 +159,7 @@ def write_report(args: argparse.Namespace, result: Result) -> None:
     members = {"written": result.written, "strings": result.strings, "doubts": [one._asdict() for one in result.doubts]}
     members["errors"] = [line for failure in result.failures for line in str(failure).split("\n")]
     data = json.dumps(members, indent=2).encode() + b"\n"
-    if args.report == "-":
-        write_output(data)
-    else:
-        write_file(args.report, data)
+    write_file(None if args.report == "-" else args.report, data)
 
 
 def convert(args: argparse.Namespace) -> None:

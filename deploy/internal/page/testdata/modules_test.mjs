@@ -56,6 +56,9 @@ for (const [keys, begin] of Object.entries({
   "nested/1/1": '"r"', "last": "last{", "menu/none": '"menu"', "menu/none/x": '"menu"', "none": "de {", "a": "de {", "list/2": "list{", "open": "de {",
 })) check(text.slice(placeOf(text, keys.split("/"))).startsWith(begin), [keys, placeOf(text, keys.split("/"))]);
 for (let cut = 0; cut < text.length; cut++) check(placeOf(text.slice(0, cut), ["nested", "1", "1"]) <= cut, cut); // while it is typed
+const search = process.cpuUsage().user;
+placeOf("de{" + "a{/*".repeat(22500), ["a"]); // 90 KB of unclosed comments
+check(process.cpuUsage().user - search < 2e6, "unclosed comments");
 check(itemsOf("root").size === 1, "a tree without keys");
 
 // a request that says nothing was done is made again, and another refusal is thrown at once

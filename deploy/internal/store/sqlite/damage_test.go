@@ -13,154 +13,183 @@ import (
 	"sync/atomic"
 	"testing"
 
+	"luvdregan.example/resb/deploy/internal/manifest"
 	"luvdregan.example/resb/deploy/internal/store"
+	. "luvdregan.example/resb/deploy/internal/store/storetest"
 )
 
-// small fills a store with some changes, and returns copies of its files: as a clean end leaves them, and as a kill does, with
-// the last changes in the WAL.
+// files are those of a folder that have changes.
+var files = []string{database, database + "-wal", marker}
+
+// copyTo copies the files of a store.
+func copyTo(t testing.TB, from, to string) {
+	t.Helper()
+	for _, name := range files {
+		content, err := os.ReadFile(filepath.Join(from, name))
+		if errors.Is(err, os.ErrNotExist) {
+			_ = os.Remove(filepath.Join(to, name))
+			continue
+		}
+		Must(t, err)
+		Must(t, os.WriteFile(filepath.Join(to, name), content, 0o600))
+	}
+	_ = os.Remove(filepath.Join(to, database+"-shm"))
+}
+
+// small fills a store with some changes, and returns copies of its files: as a clean end leaves them, and as a kill does, with the last changes in the
+// WAL.
 func small(t *testing.T) (closed, killed string) {
 	t.Helper()
 	from := t.TempDir()
-	closed, killed = t.TempDir(), t.TempDir()
-	s := opened(t, from)
-	s.add(t, some...)
-	s.Close()
-	shrink(t, from)
+	closed, killed = Memory(t), Memory(t)
+	s, err := Open(Options{Folder: from, Create: true})
+	Must(t, err)
+	var edits []manifest.Edit
+	for i := 0; i < 70; i++ {
+		edits = append(edits, Put(fmt.Sprint("l", i), fmt.Sprint("text ", i)))
+	}
+	shop := Make(t, s, Empty("shop"), edits...)
+	bank := Make(t, s, Empty("bank"), Put("de", strings.Repeat("y", 700)))
+	Must(t, s.Close())
+	db, err := sql.Open("sqlite3", filepath.Join(from, database))
+	Must(t, err)
+	db.SetMaxOpenConns(1)
+	_, err = db.Exec("pragma journal_mode = delete; pragma page_size = 512; vacuum; pragma journal_mode = wal") // few bytes
+	Must(t, err)
+	Must(t, db.Close())
 	copyTo(t, from, closed)
 	s = opened(t, from)
-	s.add(t, text(store.Replace, "bank", "de", strings.Repeat("x", 700)), text(store.Install, "bank", "fr", "y"))
+	Make(t, s, shop, Put("l7", "x"))
+	Make(t, s, bank, Put("fr", strings.Repeat("x", 700)))
 	copyTo(t, from, killed)
-	s.Close()
 	return closed, killed
 }
 
-// shrink makes the pages of a database small, so that it has few bytes.
-func shrink(t *testing.T, folder string) {
-	t.Helper()
-	db, err := sql.Open("sqlite3", filepath.Join(folder, database))
-	if err != nil {
-		t.Fatal(err)
+// contents returns all that the newest manifests name.
+func contents(s *Store) (all []string, err error) {
+	ctx := context.Background()
+	last := map[string]int64{}
+	if err := s.Newest(ctx, func(app string, revision int64) { last[app] = revision }); err != nil {
+		return nil, err
 	}
-	defer db.Close()
-	db.SetMaxOpenConns(1)
-	if _, err := db.Exec("pragma journal_mode = delete; pragma page_size = 512; vacuum; pragma journal_mode = wal"); err != nil {
-		t.Fatal(err)
+	for _, app := range []string{"bank", "shop"} {
+		m, err := s.Manifest(ctx, app, last[app], nil)
+		if err != nil {
+			return nil, err
+		}
+		for _, b := range m.Bundles {
+			body, err := s.Body(ctx, app, b)
+			if err != nil {
+				return nil, err
+			}
+			all = append(all, fmt.Sprint(app, m.Revision, b.Locale, string(body)))
+		}
 	}
+	return all, nil
 }
 
-// every has the bytes of each residue damaged in turn: RESB_EVERY_BYTE damages all of them, which takes a minute.
-const every = 16
+// every has one of this many bytes damaged: RESB_EVERY_BYTE damages all of them, which takes minutes.
+const every = 211
 
-// TestEachByteDamaged flips a bit of bytes of each file: the store doesn't open, or says which bundle is damaged, or has all
-// bundles.
+// TestEachByteDamaged flips a bit of bytes of each file: the store doesn't open and names the file, or it has all bundles.
 func TestEachByteDamaged(t *testing.T) {
 	closed, killed := small(t)
 	for _, from := range []string{closed, killed} {
-		s := opened(t, copied(t, from))
-		want := s.texts(t)
-		s.Close()
-		for _, name := range []string{database, database + "-wal", marker} {
+		folder := Memory(t)
+		copyTo(t, from, folder)
+		s, err := Open(Options{Folder: folder})
+		Must(t, err)
+		want, err := contents(s)
+		Must(t, err)
+		_ = s.Close()
+		for _, name := range files {
 			content, err := os.ReadFile(filepath.Join(from, name))
 			if err != nil {
 				continue
 			}
-			t.Run(filepath.Base(name), func(t *testing.T) { eachByte(t, from, name, content, want) })
+			t.Run(filepath.Base(from)+name, func(t *testing.T) { eachByte(t, from, name, content, want) })
 		}
 	}
 }
 
-// eachByte flips the bytes of one file, in four folders at once.
+// eachByte flips the bytes of one file, in two folders at once.
 func eachByte(t *testing.T, from, name string, content []byte, want []string) {
-	var refused int64
+	var refused, tried int64
 	var all sync.WaitGroup
-	const workers = 4
-	for w := 0; w < workers; w++ {
-		folder := copied(t, from)
+	step := every
+	if os.Getenv("RESB_EVERY_BYTE") != "" || len(content) < 100 {
+		step = 1
+	}
+	for w := 0; w < 2; w++ {
+		folder := Memory(t)
 		all.Add(1)
 		go func(w int) {
 			defer all.Done()
-			for at := w; at < len(content); at += workers {
-				if os.Getenv("RESB_EVERY_BYTE") == "" && len(content) > 100 && at/workers%every != 0 {
-					continue
-				}
+			for at := w * step; at < len(content); at += 2 * step {
 				copyTo(t, from, folder)
 				bad := append([]byte(nil), content...)
 				bad[at] ^= byte(1 << (at % 8))
-				if err := os.WriteFile(filepath.Join(folder, name), bad, 0o600); err != nil {
-					t.Error(err)
-					return
-				}
-				if found, err := readDamaged(folder); err != nil {
+				Must(t, os.WriteFile(filepath.Join(folder, name), bad, 0o600))
+				found, err := reopened(folder)
+				atomic.AddInt64(&tried, 1)
+				if errors.Is(err, store.ErrDamaged) && strings.Contains(err.Error(), folder) {
 					atomic.AddInt64(&refused, 1)
-				} else if !reflect.DeepEqual(found, want) {
-					t.Errorf("%s, byte %d of %d: %.300q", name, at, len(content), found)
+				} else if err != nil || !reflect.DeepEqual(found, want) {
+					t.Errorf("%s, byte %d of %d: %v %.300q", name, at, len(content), err, found)
 				}
 			}
 		}(w)
 	}
 	all.Wait()
-	t.Logf("%d of %d refused", refused, len(content))
+	t.Logf("%d of %d refused", refused, tried)
 }
 
-// copied copies a folder into memory, if there is a folder in memory: syncs take no time there.
-func copied(t *testing.T, from string) string {
-	t.Helper()
-	to, err := os.MkdirTemp("/dev/shm", "resb")
-	if err != nil {
-		to = t.TempDir()
-	}
-	t.Cleanup(func() { _ = os.RemoveAll(to) })
-	copyTo(t, from, to)
-	return to
-}
-
-// readDamaged returns the bundles of a store, or the error that says that it is damaged.
-func readDamaged(folder string) (found []string, err error) {
-	for _, end := range []string{"-shm", "-wal"} {
-		defer os.Remove(filepath.Join(folder, database+end))
-	}
-	s := &Store{folder: folder, bundles: map[key]store.Bundle{}, unpruned: map[string]int{}, names: map[string]int{}}
-	defer s.release()
-	if err := s.connect(filepath.Join(folder, database)); err != nil {
-		return nil, err
-	}
-	if err := s.check(); err != nil {
-		return nil, err
-	}
-	if err := s.openMarker(); err != nil {
-		return nil, err
-	}
-	bundles, err := s.Standing(context.Background())
+func reopened(folder string) ([]string, error) {
+	s, err := Open(Options{Folder: folder})
 	if err != nil {
 		return nil, err
 	}
-	for _, b := range bundles {
-		c, _, err := s.Stored(b.App, b.Locale)
-		if err != nil {
-			return nil, err
-		}
-		found = append(found, fmt.Sprintf("%s/%s %d %s", b.App, b.Locale, c.Form, c.Body))
-	}
-	return found, nil
+	defer s.Close()
+	return contents(s)
 }
 
-// TestALostTailIsNoticed cuts the WAL: changes that were acknowledged are missing, unless the marker is removed.
+// TestALostTailIsNoticed removes the WAL: changes that were acknowledged are missing, unless the marker is removed too.
 func TestALostTailIsNoticed(t *testing.T) {
 	_, killed := small(t)
-	folder := copied(t, killed)
-	if err := os.Remove(filepath.Join(folder, database+"-wal")); err != nil {
+	Must(t, os.Remove(filepath.Join(killed, database+"-wal")))
+	_, err := Open(Options{Folder: killed})
+	if !errors.Is(err, store.ErrDamaged) || !strings.Contains(err.Error(), "0000000000004\\n\", the database has 2") {
 		t.Fatal(err)
 	}
-	_, err := Open(folder, Options{})
-	if !errors.Is(err, store.ErrDamaged) || !strings.Contains(err.Error(), "the last one was 9, the database has 7") {
+	Must(t, os.Remove(filepath.Join(killed, marker)))
+	if _, err := reopened(killed); err != nil {
 		t.Fatal(err)
 	}
-	if err := os.Remove(filepath.Join(folder, marker)); err != nil {
-		t.Fatal(err)
-	}
-	s := opened(t, folder)
-	defer s.Close()
-	if got := s.texts(t); !reflect.DeepEqual(got, left) {
-		t.Errorf("%q", got)
+}
+
+// TestDamageNamesTheRow changes rows: the error names the file, the table and the row.
+func TestDamageNamesTheRow(t *testing.T) {
+	closed, _ := small(t)
+	for change, want := range map[string]string{
+		"delete from manifests where app = 'shop'":                                                      "table manifests has 1 revisions",
+		"update manifests set revision = 7 where app = 'shop'":                                          "table manifests has 8 revisions",
+		"update manifests set head = zeroblob(9) where app = 'bank'":                                    "table manifests, row [bank 1]",
+		"delete from bodies where app = 'bank'":                                                         "table bodies, row [bank",
+		"update bodies set body = 'y' where app = 'shop' and digest = (select max(digest) from bodies)": "table bodies, row [shop ",
+		"update manifests set head = (select head from manifests where app = 'bank')":                   "table manifests, row [shop 1]",
+		"delete from state":       "table state",
+		"pragma user_version = 9": "no store of version 3",
+	} {
+		folder := t.TempDir()
+		copyTo(t, closed, folder)
+		db, err := sql.Open("sqlite3", filepath.Join(folder, database))
+		Must(t, err)
+		_, err = db.Exec(change)
+		Must(t, err)
+		Must(t, db.Close())
+		_, err = Open(Options{Folder: folder})
+		if !errors.Is(err, store.ErrDamaged) || !strings.Contains(err.Error(), want) || !strings.Contains(err.Error(), filepath.Join(folder, database)) {
+			t.Errorf("%s: %v", change, err)
+		}
 	}
 }

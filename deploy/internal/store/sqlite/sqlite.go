@@ -1,5 +1,5 @@
-// Package sqlite stores the accepted changes of one machine in SQLite: the bundles that stand, each body once, and a history
-// of who changed what.
+// Package sqlite stores manifests and bodies in a database on one machine. All changes that wait are one transaction, which is synced before they
+// are acknowledged.
 package sqlite
 
 import (
@@ -7,83 +7,84 @@ import (
 	"database/sql"
 	"errors"
 	"fmt"
-	"io/fs"
+	"math"
 	"os"
 	"path/filepath"
+	"strings"
 	"sync"
 	"syscall"
+	"time"
 
 	_ "github.com/mattn/go-sqlite3" // the driver
 
+	"luvdregan.example/resb/deploy/internal/manifest"
 	"luvdregan.example/resb/deploy/internal/store"
 )
 
-// The files of a folder.
 const (
-	database = "changes.db"
-	journal  = "changes" // of version 1.1.0
+	database = "manifests.db"
+	earlier  = "changes.db" // of earlier versions
+	readers  = 4            // connections that read at once
 )
 
 // ErrMissing is the error of a folder that has no store.
 var ErrMissing = errors.New("there is no store in this folder")
 
-// A key names a bundle.
-type key struct{ app, locale string }
-
-// A Store is a log in the database of a folder.
-type Store struct {
-	folder string
-	lock   *os.File
-	db     *sql.DB
-	writer *sql.Conn
-	marker *os.File // the revision that was last acknowledged
-	spare  int64    // bytes that a change leaves free on the disk
-
-	writing   sync.Mutex // held during a transaction
-	droppable bool       // there may be earlier versions; the mutex above is held
-	unwiped   bool       // the WAL has what was erased; the same
-	mu        sync.Mutex
-	bundles   map[key]store.Bundle
-	last      store.Revision
-	number    store.Revision   // of the last change in the history of a log that is followed
-	whole     store.Revision   // of a log that is followed: up to it nothing is missing
-	bytes     int64            // of the bundles
-	unpruned  map[string]int   // changes of an application since its history was pruned
-	unlooked  map[string]int64 // bytes of an application's versions since it was seen whether they are too many
-	follows   bool             // the changes are those of another log
-	names     map[string]int   // of each application, if it follows a log: those that have a bundle, and those that had one
-	broken    error
-	failed    bool // the last transaction failed
-}
-
 // Options say how a store is opened.
 type Options struct {
-	Create bool                             // makes the store if it is missing
-	Logf   func(format string, args ...any) // reports an import
-	Spare  int64                            // the bytes that a change leaves free on the disk, instead of the usual ones
-	Follow bool                             // the store has the changes of another log
-	Either bool                             // opens a store of both kinds
+	Folder string
+	Create bool // makes the store if it is missing
 }
 
-// Open opens the store of a folder. It imports the journal of version 1.1.0 if the folder has one and no store. Without either
-// it returns ErrMissing, unless it may create the store. It returns an error that wraps store.ErrDamaged if what was
-// acknowledged can't be there.
-func Open(folder string, options Options) (*Store, error) {
-	if options.Create {
-		if err := os.MkdirAll(folder, 0o700); err != nil {
+// A Store is the database of a folder. One process at a time has it.
+type Store struct {
+	folder   string
+	lock     *os.File
+	reader   *sql.DB
+	body     *sql.Stmt // of reader
+	writer   *sql.DB   // with one connection
+	prepared map[string]*sql.Stmt
+	marker   *os.File // has the number of the last change that was acknowledged
+	spare    int64    // bytes that a change leaves free on the disk
+
+	short, long chan *job
+	closing     chan struct{}
+	ended       chan struct{}
+	committing  sync.Mutex   // held until the changes of a transaction are reported
+	reading     sync.RWMutex // held while a connection reads, so that a checkpoint can wait until none does
+	collecting  sync.Mutex
+	collected   map[string]store.Collected // the applications of which nothing was to be removed
+
+	state              // of the database; the goroutine that writes has it
+	unmoved int        // bytes that were written since the last checkpoint, about; the same
+	mu      sync.Mutex // guards what follows
+	broken  error
+	failed  error // of the last transaction that needed space
+	tried   time.Time
+	seen    func(app string, revision int64) // of Watch
+	watched chan struct{}                    // closed once Watch has reported all that was there
+}
+
+// Open opens the store of a folder. If something in it isn't what was acknowledged it returns an error that wraps store.ErrDamaged and names the
+// place.
+func Open(o Options) (*Store, error) {
+	if o.Create {
+		if err := os.MkdirAll(o.Folder, 0o700); err != nil {
 			return nil, err
 		}
 	}
-	lock, err := takeLock(folder)
+	lock, err := takeLock(o.Folder)
 	if err != nil {
 		return nil, err
 	}
-	s := &Store{folder: folder, lock: lock, droppable: true, bundles: map[key]store.Bundle{}, unpruned: map[string]int{},
-		unlooked: map[string]int64{}, names: map[string]int{}}
-	if err := s.open(options); err != nil {
+	s := &Store{folder: o.Folder, lock: lock, short: make(chan *job), long: make(chan *job), prepared: map[string]*sql.Stmt{},
+		collected: map[string]store.Collected{}, closing: make(chan struct{}), ended: make(chan struct{}), watched: make(chan struct{})}
+	if err := s.open(o); err != nil {
 		s.release()
 		return nil, err
 	}
+	s.reserve()
+	go s.run()
 	return s, nil
 }
 
@@ -101,206 +102,271 @@ func takeLock(folder string) (*os.File, error) {
 		_ = lock.Close()
 		return nil, fmt.Errorf("%s: another gateway has this folder", path)
 	}
-	return lock, nil
+	return lock, own(folder, path)
 }
 
-func (s *Store) open(options Options) error {
-	if err := s.provide(options); err != nil {
+func (s *Store) open(o Options) error {
+	path := filepath.Join(s.folder, database)
+	if _, err := os.Stat(filepath.Join(s.folder, earlier)); err == nil {
+		return fmt.Errorf("%s: %s is the store of an earlier version, which isn't read; take an empty folder, and send all bundles again", s.folder, earlier)
+	}
+	if info, err := os.Stat(path); err != nil || info.Size() == 0 {
+		if !o.Create {
+			return fmt.Errorf("%s: %w; -init makes an empty one", s.folder, ErrMissing)
+		}
+		if err := create(path); err != nil {
+			return err
+		}
+	}
+	// What is deleted isn't overwritten, because a full disk would lack the space; Debian's SQLite does it by default.
+	options := "_journal_mode=WAL&_synchronous=FULL&_busy_timeout=5000&_secure_delete=off"
+	var err error
+	if s.writer, err = openDatabase(path, options); err != nil {
 		return err
 	}
-	path := filepath.Join(s.folder, database)
-	if err := s.connect(path); err != nil {
-		return fmt.Errorf("%s: %w", path, err)
+	s.writer.SetMaxOpenConns(1)
+	_, err = s.exec("pragma wal_autocheckpoint = 0") // also finds out if the file can be opened
+	if err == nil {
+		_, err = s.exec("pragma journal_size_limit = 4194304")
 	}
-	if err := s.check(); err != nil {
-		return fmt.Errorf("%s: %w", path, err)
+	if err == nil {
+		s.reader, err = openDatabase(path, options+"&_query_only=on")
 	}
-	if err := s.openFollower(options); err != nil {
-		return fmt.Errorf("%s: %w", path, err)
+	if err == nil {
+		s.reader.SetMaxOpenConns(readers)
+		s.reader.SetMaxIdleConns(readers)
+		s.state, err = check(s.reader, false)
+	}
+	if err == nil {
+		s.body, err = s.reader.Prepare(selectBody)
+	}
+	if err != nil {
+		return fmt.Errorf("%s: %w", path, damaged(err))
 	}
 	if err := s.openMarker(); err != nil {
 		return err
 	}
-	s.reserve()
-	if _, err := s.writer.ExecContext(context.Background(), byDigest); err != nil {
-		return fmt.Errorf("%s: %w", path, s.judge(err))
-	}
-	if options.Spare != 0 {
-		s.spare = options.Spare
+	// processes that were killed before they moved theirs may have left a long WAL
+	if info, err := os.Stat(path + "-wal"); err == nil && info.Size() > someWAL {
+		_ = s.checkpoint("truncate")
 	}
 	return nil
 }
 
-// provide makes the database if it is missing, from the journal of version 1.1.0 or empty.
-func (s *Store) provide(options Options) error {
-	path := filepath.Join(s.folder, database)
-	old := filepath.Join(s.folder, journal)
-	hasDatabase, err := exists(path)
-	if err != nil {
-		return err
-	}
-	hasJournal, err := exists(old)
-	if err != nil {
-		return err
-	}
-	switch {
-	case hasDatabase && hasJournal:
-		return s.setAside(old)
-	case hasDatabase:
-		return nil
-	case hasJournal:
-		return s.importJournal(old, options.Logf)
-	case options.Create:
-		return s.create(func(*Store) error { return nil })
-	}
-	return fmt.Errorf("%s: %w; -init makes an empty one", s.folder, ErrMissing)
+func openDatabase(path, options string) (*sql.DB, error) {
+	return sql.Open("sqlite3", "file:"+strings.NewReplacer("%", "%25", "?", "%3f", "#", "%23").Replace(path)+"?"+options)
 }
 
-func exists(path string) (bool, error) {
-	_, err := os.Stat(path)
-	if errors.Is(err, fs.ErrNotExist) {
-		return false, nil
-	}
-	return err == nil, err
-}
-
-// create makes the database beside its place, fills it, and renames it once it is synced.
-func (s *Store) create(fill func(made *Store) error) error {
-	temporary := filepath.Join(s.folder, database+".new")
-	for _, end := range []string{"", "-wal", "-shm"} {
-		if err := os.Remove(temporary + end); err != nil && !errors.Is(err, fs.ErrNotExist) {
-			return err
-		}
-	}
-	made := &Store{folder: s.folder, bundles: map[key]store.Bundle{}, unpruned: map[string]int{}, unlooked: map[string]int64{}}
-	err := made.connect(temporary)
-	if err == nil {
-		_, err = made.writer.ExecContext(context.Background(), schema)
-	}
-	if err == nil {
-		err = fill(made)
-	}
-	if err == nil {
-		err = made.checkpoint() // closing does it too, but doesn't say if it fails
-	}
-	made.release()
-	if err != nil {
-		return err
-	}
-	if err := os.Rename(temporary, filepath.Join(s.folder, database)); err != nil {
-		return err
-	}
-	return syncFolder(s.folder)
-}
-
-func syncFolder(path string) error {
-	folder, err := os.Open(path)
-	if err != nil {
-		return err
-	}
-	defer folder.Close()
-	return folder.Sync()
-}
-
-// connect opens the database and a connection that writes.
-func (s *Store) connect(path string) error {
-	// Debian's SQLite overwrites what is deleted, for which a full disk would lack the space.
-	const options = "?_journal_mode=WAL&_synchronous=FULL&_busy_timeout=5000&_secure_delete=off&_txlock=immediate"
-	db, err := sql.Open("sqlite3", "file:"+escape(path)+options)
-	if err != nil {
-		return err
-	}
-	s.db = db
-	ctx := context.Background()
-	if s.writer, err = db.Conn(ctx); err != nil {
-		return fmt.Errorf("%w: %v", store.ErrDamaged, err)
-	}
-	_, err = s.writer.ExecContext(ctx, "pragma wal_autocheckpoint = 256; pragma journal_size_limit = 4194304")
-	return err
-}
-
-// checkpoint moves the changes from the WAL into the database, and empties the WAL.
-func (s *Store) checkpoint() error {
-	var busy, pages, moved int
-	err := s.writer.QueryRowContext(context.Background(), "pragma wal_checkpoint(truncate)").Scan(&busy, &pages, &moved)
-	if err == nil && busy != 0 {
-		err = errors.New("somebody reads what is in the WAL")
-	}
-	return err
-}
-
-// release closes what is open.
+// release closes what is open. The last connection moves the changes from the WAL into the database.
 func (s *Store) release() {
-	if s.writer != nil {
-		_ = s.writer.Close()
+	for _, prepared := range s.prepared {
+		_ = prepared.Close()
 	}
-	if s.db != nil {
-		_ = s.db.Close() // the last connection moves the changes from the WAL into the database
+	for _, db := range []*sql.DB{s.reader, s.writer} {
+		if db != nil {
+			_ = db.Close()
+		}
 	}
 	if s.marker != nil {
 		_ = s.marker.Close()
 	}
-	if s.lock != nil {
-		_ = s.lock.Close()
-	}
+	_ = s.lock.Close()
 }
 
-// Close closes the store.
-func (s *Store) Close() {
-	s.writing.Lock()
-	defer s.writing.Unlock()
+// Close ends the transaction that is made, and closes the store.
+func (s *Store) Close() error {
+	close(s.closing)
+	<-s.ended
 	s.release()
+	return nil
 }
 
-// Has returns true if the application has a bundle of the locale.
-func (s *Store) Has(app, locale string) bool {
-	_, there := s.bundle(app, locale)
-	return there
-}
-
-func (s *Store) bundle(app, locale string) (store.Bundle, bool) {
-	s.mu.Lock()
-	defer s.mu.Unlock()
-	b, there := s.bundles[key{app, store.Canonical(locale)}]
-	return b, there
-}
-
-// Standing describes the bundles in the order of their installation.
-func (s *Store) Standing(context.Context) ([]store.Bundle, error) {
-	s.mu.Lock()
-	defer s.mu.Unlock()
-	return store.InOrder(s.bundles), nil
-}
-
-// Stored returns the change that installs the bundle, or false if the application has none of the locale. It returns an error
-// that wraps store.ErrDamaged if the body isn't the one that was stored.
-func (s *Store) Stored(app, locale string) (store.Change, bool, error) {
-	b, there := s.bundle(app, locale)
-	if !there {
-		return store.Change{}, false, nil
+// read calls a function with the database at one moment.
+func (s *Store) read(ctx context.Context, do func(tx *sql.Tx) error) error {
+	s.reading.RLock()
+	defer s.reading.RUnlock()
+	tx, err := s.reader.BeginTx(ctx, nil)
+	if err != nil {
+		return err
 	}
-	body, err := s.body(b)
-	return store.Change{Op: store.Install, App: b.App, Locale: b.Locale, Form: b.Form, Body: body, Who: b.Who}, true, err
+	defer func() { _ = tx.Rollback() }()
+	return do(tx)
 }
 
-// Stats are what the metrics say of a store.
-type Stats struct {
-	Bundles  int
-	Bytes    int64 // of the bundles
-	Files    int64 // of the database with its WAL
-	Revision store.Revision
-	Writes   bool // the last change could be stored
-}
-
-// Stats returns the metrics.
-func (s *Store) Stats() Stats {
-	s.mu.Lock()
-	defer s.mu.Unlock()
-	stats := Stats{Bundles: len(s.bundles), Bytes: s.bytes, Revision: s.last, Writes: s.broken == nil && !s.failed}
-	for _, end := range []string{"", "-wal"} {
-		if info, err := os.Stat(filepath.Join(s.folder, database+end)); err == nil {
-			stats.Files += info.Size()
+// each calls a function for each row.
+func each(tx *sql.Tx, do func(rows *sql.Rows) error, query string, args ...any) error {
+	rows, err := tx.Query(query, args...)
+	if err != nil {
+		return err
+	}
+	defer rows.Close()
+	for rows.Next() {
+		if err := do(rows); err != nil {
+			return err
 		}
 	}
-	return stats
+	return rows.Err()
+}
+
+// eachHead calls a function for the last manifests of an application before a revision, the newest first.
+func eachHead(tx *sql.Tx, app string, before int64, most int, do func(m *manifest.Manifest) error) error {
+	const query = "select revision, head from manifests where app = ? and revision < ? order by revision desc limit ?"
+	return each(tx, func(rows *sql.Rows) error {
+		var revision int64
+		var head []byte
+		if err := rows.Scan(&revision, &head); err != nil {
+			return err
+		}
+		m, err := manifest.ReadHead(head)
+		if err == nil && (m.App != app || m.Revision != revision) {
+			err = errors.New("it is the manifest of another row")
+		}
+		if err != nil {
+			return rowDamaged("manifests", err, app, revision)
+		}
+		return do(m)
+	}, query, app, before, most)
+}
+
+const selectBody = "select crc, body from bodies where app = ? and digest = ?"
+
+// blobsOf returns the function that reads a body, or a page of a manifest, which is stored like one.
+func blobsOf(tx *sql.Tx, app string) func(manifest.Digest) ([]byte, error) {
+	prepared, err := tx.Prepare(selectBody)
+	return func(d manifest.Digest) ([]byte, error) {
+		if err != nil {
+			return nil, err
+		}
+		return scanBlob(prepared.QueryRow(app, d), app, d)
+	}
+}
+
+func scanBlob(row *sql.Row, app string, d manifest.Digest) (body []byte, err error) {
+	var crc uint32
+	if err = row.Scan(&crc, &body); errors.Is(err, sql.ErrNoRows) {
+		return nil, fmt.Errorf("%w: %s, %s", store.ErrNoBody, app, d)
+	}
+	if err == nil && checksum(body) != crc {
+		err = rowDamaged("bodies", errors.New("it has another checksum"), app, d)
+	}
+	return body, err
+}
+
+// Manifest returns the manifest of a revision.
+func (s *Store) Manifest(ctx context.Context, app string, revision int64, near *manifest.Manifest) (m *manifest.Manifest, err error) {
+	before := revision + 1
+	if revision == 0 {
+		before = math.MaxInt64
+	}
+	err = s.read(ctx, func(tx *sql.Tx) error {
+		return eachHead(tx, app, before, 1, func(found *manifest.Manifest) error {
+			if revision != 0 && found.Revision != revision {
+				return nil
+			}
+			m = found
+			return m.Fill(near, blobsOf(tx, app))
+		})
+	})
+	if err == nil && m == nil {
+		err = fmt.Errorf("%w: %s at %d", store.ErrNoVersion, app, revision)
+	}
+	return m, err
+}
+
+// History returns the last manifests.
+func (s *Store) History(ctx context.Context, app string, before int64, most int) (all []*manifest.Manifest, err error) {
+	if before == 0 {
+		before = math.MaxInt64
+	}
+	err = s.read(ctx, func(tx *sql.Tx) error {
+		blobs := blobsOf(tx, app)
+		return eachHead(tx, app, before, most, func(m *manifest.Manifest) error {
+			all = append(all, m)
+			return m.FillMade(blobs)
+		})
+	})
+	return all, err
+}
+
+// Body returns a body.
+func (s *Store) Body(_ context.Context, app string, b manifest.Bundle) ([]byte, error) {
+	s.reading.RLock()
+	defer s.reading.RUnlock()
+	return scanBlob(s.body.QueryRow(app, b.Digest), app, b.Digest)
+}
+
+// selectNewest finds each application with its last revision by a few steps in the index.
+const selectNewest = `
+with recursive n (app) as (
+	select min(app) from manifests
+	union all
+	select (select min(app) from manifests where app > n.app) from n where app is not null
+)
+select app, (select max(revision) from manifests where app = n.app) from n where app is not null`
+
+func newest(tx *sql.Tx, do func(app string, revision int64)) error {
+	return each(tx, func(rows *sql.Rows) error {
+		var app string
+		var revision int64
+		err := rows.Scan(&app, &revision)
+		if err == nil {
+			do(app, revision)
+		}
+		return err
+	}, selectNewest)
+}
+
+// Newest calls a function for the newest manifest of each application.
+func (s *Store) Newest(ctx context.Context, do func(app string, revision int64)) error {
+	return s.read(ctx, func(tx *sql.Tx) error { return newest(tx, do) })
+}
+
+// Watch reports all newest manifests, and then those that this process stores. There is one Watch at a time.
+func (s *Store) Watch(ctx context.Context, seen func(app string, revision int64)) error {
+	s.mu.Lock()
+	isFirst := s.seen == nil
+	s.seen = seen
+	s.mu.Unlock()
+	if err := s.Newest(ctx, seen); err != nil {
+		return err
+	}
+	if isFirst {
+		close(s.watched)
+	}
+	<-ctx.Done()
+	return ctx.Err()
+}
+
+// tell reports a stored manifest.
+func (s *Store) tell(app string, revision int64) {
+	s.mu.Lock()
+	defer s.mu.Unlock()
+	if s.seen != nil {
+		s.seen(app, revision)
+	}
+}
+
+// Sync waits until somebody watches, and until the changes of the transaction that is made are reported.
+func (s *Store) Sync(ctx context.Context) error {
+	select {
+	case <-s.watched:
+	case <-ctx.Done():
+		return store.ErrUnreached
+	}
+	s.committing.Lock()
+	defer s.committing.Unlock()
+	return nil
+}
+
+// Stats returns how long the files are.
+func (s *Store) Stats(context.Context) (stats store.Stats, err error) {
+	for _, end := range []string{"", "-wal"} {
+		if info, err := os.Stat(filepath.Join(s.folder, database+end)); err == nil {
+			stats.Bytes += info.Size()
+		}
+	}
+	if free, _, ok := s.disk(); ok {
+		stats.Quota = stats.Bytes + free
+	}
+	return stats, nil
 }

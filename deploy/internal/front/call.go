@@ -1,0 +1,295 @@
+// Package front takes requests: it knows who asks, admits what is within the limits, and writes replies, logs, metrics and pages. What an address
+// of an application does is for another package.
+package front
+
+import (
+	"context"
+	"log"
+	"net"
+	"net/http"
+	"net/url"
+	"runtime/debug"
+	"strconv"
+	"strings"
+	"time"
+
+	"luvdregan.example/resb/deploy/internal/auth"
+	"luvdregan.example/resb/deploy/internal/convert"
+	"luvdregan.example/resb/deploy/internal/engine"
+	"luvdregan.example/resb/deploy/internal/limits"
+	"luvdregan.example/resb/deploy/internal/replica"
+	"luvdregan.example/resb/deploy/internal/wire"
+)
+
+// Options are the settings of a handler.
+type Options struct {
+	TextBytes, FileBytes, LookBytes, ReleaseBytes int64
+	Limits                                        limits.Options
+	ReadTime, Patience                            time.Duration
+	Version, Commit                               string          // of the gateway
+	Leaving                                       context.Context // is done when the gateway ends
+	Access, Audit                                 Journal         // or nil
+	Origins                                       []string        // whose scripts may ask; `*` is all
+	Proxies                                       []*net.IPNet    // whose X-Forwarded-For is believed
+	IsTLS                                         bool
+	Alone                                         bool // no other gateway changes the store
+}
+
+// A Handler answers requests.
+type Handler struct {
+	Backend *replica.Replica
+	Engine  *engine.Engine
+	Tokens  *auth.Tokens
+	Convert *convert.Runner
+	Options Options
+	OpenAPI []byte
+	Metrics *Metrics
+	routes  []route // in the order in which they are tried
+	limits  *limits.Limits
+}
+
+// Begin completes a handler, whose exported fields except Metrics are set.
+func (h *Handler) Begin(addresses []Address) {
+	h.routes = routesOf(addresses)
+	h.limits = limits.New(h.Options.Limits)
+	h.Metrics = newMetrics(h.Backend, h.limits, h.Tokens)
+}
+
+// A Call is one request on its way.
+type Call struct {
+	*Handler
+	W         http.ResponseWriter
+	R         *http.Request
+	App       string
+	Parts     []string // of the address after the application
+	Path      string   // of an item
+	Query     url.Values
+	Who       auth.Holder
+	Operation *Operation
+	Ticket    limits.Ticket
+	Code      string // of a refusal
+	Status    int
+	Sent      int // bytes of the reply
+
+	ctx    context.Context // or nil until it is needed
+	cancel context.CancelFunc
+	known  bool
+	edits  []audited // what a change asked for
+	whole  bool      // its body was read
+	got    int       // bytes of the body
+}
+
+// Values of headers, which nobody changes.
+var (
+	noSniff   = []string{"nosniff"}
+	privately = []string{"private, no-cache"}
+	noStore   = []string{"no-store"}
+	byToken   = []string{"Authorization"}
+	strictly  = []string{"max-age=31536000"}
+	JSONType  = []string{wire.JSON}
+)
+
+// ServeHTTP answers each request.
+func (h *Handler) ServeHTTP(w http.ResponseWriter, r *http.Request) { h.serve(w, r, (*Call).route) }
+
+// Inside answers the requests for metrics and health at an address that callers don't reach.
+func (h *Handler) Inside() http.Handler {
+	return http.HandlerFunc(func(w http.ResponseWriter, r *http.Request) { h.serve(w, r, (*Call).inside) })
+}
+
+func (h *Handler) serve(w http.ResponseWriter, r *http.Request, answer func(*Call) error) {
+	began := time.Now()
+	c := &Call{Handler: h, W: w, R: r, Operation: &Other}
+	defer func() {
+		if failure := recover(); failure != nil {
+			log.Printf("panic: %v\n%s", failure, debug.Stack())
+			c.Status = http.StatusInternalServerError
+			h.Metrics.panics.Inc()
+			c.end(began)
+			panic(http.ErrAbortHandler)
+		}
+	}()
+	head := w.Header()
+	head["X-Content-Type-Options"] = noSniff
+	if h.Options.IsTLS {
+		head["Strict-Transport-Security"] = strictly
+	}
+	if len(r.TransferEncoding) > 0 {
+		head.Set("Connection", "close") // a proxy may have seen another end of the body (RFC 9112, 6.1)
+	}
+	err := error(wire.BadLength)
+	if !wire.HasTwoLengths(r) {
+		err = answer(c)
+	}
+	if err != nil {
+		c.refuse(err)
+	}
+	c.end(began)
+}
+
+// end counts a request, and writes its lines.
+func (c *Call) end(began time.Time) {
+	now := time.Now()
+	if c.cancel != nil {
+		c.cancel()
+	}
+	c.logAccess(began, now)
+	c.logAudit(now)
+	if !c.known {
+		c.Operation = &Other // whatever it asked for
+	}
+	c.Metrics.count(c.Operation.Kind, c.Status, now.Sub(began))
+}
+
+// route answers what the address names.
+func (c *Call) route() error {
+	escaped := c.R.URL.EscapedPath()
+	parts, ok := wire.Segments(escaped)
+	switch {
+	case !ok:
+		return wire.BadPath
+	case parts[0] != "v1" || len(parts) == 1:
+		return c.page(parts)
+	case wire.CORS(c.W.Header(), c.R, c.Options.Origins):
+		return c.Write(http.StatusNoContent, nil, nil)
+	}
+	c.App, c.Parts = parts[1], parts[2:]
+	if len(c.Parts) > 1 {
+		c.Path = pathIn(escaped, parts)
+	}
+	return c.application()
+}
+
+// pathIn returns the path of an item in an address: what follows the application and the locale.
+func pathIn(escaped string, parts []string) string {
+	if strings.IndexByte(escaped, '%') >= 0 {
+		return strings.Join(parts[3:], "/")
+	}
+	return escaped[len("/v1//")+len(parts[1])+len(parts[2])+1:]
+}
+
+// application does what an application's address names, if the token allows it.
+func (c *Call) application() error {
+	do, allow := c.find(c.Parts, c.R.Method)
+	if token, ok := auth.Bearer(c.R.Header["Authorization"]); ok {
+		c.Who, c.known = c.Tokens.Find(token)
+	}
+	may := auth.Right(0)
+	if c.known {
+		may = c.Who.May(c.App, time.Now())
+	}
+	c.Operation = do
+	switch {
+	case !c.known:
+		c.W.Header().Set("WWW-Authenticate", `Bearer realm="resb"`)
+		return wire.Unauthorized
+	case may == 0 || do.Do != nil && may < do.Right:
+		return wire.Forbidden
+	case hasEmpty(c.Parts):
+		return wire.BadPath
+	case allow == "":
+		return wire.NoPage
+	case do.Do != nil:
+		return c.limited(do)
+	}
+	c.W.Header().Set("Allow", allow)
+	if c.R.Method == http.MethodOptions {
+		return c.Write(http.StatusNoContent, nil, nil)
+	}
+	return wire.NotAllowed
+}
+
+// hasEmpty returns true if a part is empty: joined again, a path of one empty part would be none.
+func hasEmpty(parts []string) bool {
+	for _, part := range parts {
+		if part == "" {
+			return true
+		}
+	}
+	return false
+}
+
+// limited does a request within the limits, once the gateway has the revision that the query names.
+func (c *Call) limited(do *Operation) error {
+	if err := c.limits.Begin(&c.Ticket, c.App, c.Who.ID(), time.Now()); err != nil {
+		return err
+	}
+	defer func() { c.Ticket.End(int64(c.Sent+c.got), time.Now()) }()
+	err := c.readQuery()
+	if err == nil {
+		err = c.Backend.Ready()
+	}
+	if err == nil {
+		err = do.Do(c)
+	}
+	if err != nil {
+		c.refuse(err)
+	}
+	return nil
+}
+
+// readQuery reads the query, and waits for the revision that it names.
+func (c *Call) readQuery() (err error) {
+	if c.R.URL.RawQuery == "" {
+		return nil
+	}
+	if c.Query, err = url.ParseQuery(c.R.URL.RawQuery); err != nil {
+		return wire.BadQuery // Query would leave out what is malformed, such as ?after=%zz
+	}
+	given, asks := c.Query["after"]
+	if !asks {
+		return nil
+	}
+	revision, err := strconv.ParseInt(given[0], 10, 64)
+	if err != nil || revision < 0 || len(given) > 1 {
+		return wire.BadRevision
+	}
+	ctx, cancel := context.WithTimeout(c.R.Context(), c.Options.Patience)
+	defer cancel()
+	return c.Backend.Await(ctx, c.App, revision)
+}
+
+// Asks returns true if the query has a name.
+func (c *Call) Asks(name string) bool {
+	_, asks := c.Query[name]
+	return asks
+}
+
+// Context ends when the caller has gone, or has waited for too long.
+func (c *Call) Context() context.Context {
+	if c.ctx == nil {
+		c.ctx, c.cancel = context.WithTimeout(c.R.Context(), c.Options.Patience)
+	}
+	return c.ctx
+}
+
+// Hold counts memory of the request, if its application and its token may have it.
+func (c *Call) Hold(bytes int64) error { return c.Ticket.Hold(bytes) }
+
+// Work does long work once it is the turn of the application and the token.
+func (c *Call) Work(ctx context.Context, do func() error) error {
+	end, err := c.Ticket.Work(ctx)
+	if err != nil {
+		return err
+	}
+	defer end()
+	return do()
+}
+
+// Short is the most bytes that any number of requests load, compress or parse at once.
+const Short = 8 << 10
+
+// Long does work over this many bytes, after waiting for its turn if they aren't few.
+func (c *Call) Long(ctx context.Context, bytes int64, do func() error) error {
+	if bytes > Short && c.Ticket.IsBegun() { // pages have no ticket
+		return c.Work(ctx, do)
+	}
+	return do()
+}
+
+// Body reads the body of a request, up to a limit.
+func (c *Call) Body(limit int64) ([]byte, error) {
+	body, err := wire.ReadBody(c.W, c.R, limit, c.Options.ReadTime, c.Hold)
+	c.got, c.whole = len(body), err == nil
+	return body, err
+}

@@ -1,0 +1,100 @@
+package front
+
+import (
+	"crypto/sha256"
+	"encoding/hex"
+	"time"
+
+	"luvdregan.example/resb/deploy/internal/wire"
+)
+
+// A Journal writes values as lines of JSON; nil writes none. Tokens are never among them.
+type Journal interface{ Write(value any) }
+
+// An access is a line about a request.
+type access struct {
+	Time   string  `json:"time"`
+	From   string  `json:"from"`
+	Method string  `json:"method"`
+	Path   string  `json:"path"`
+	App    string  `json:"app,omitempty"`
+	Token  string  `json:"token,omitempty"`
+	Status int     `json:"status"`
+	Sent   int     `json:"sent"`
+	MS     float64 `json:"ms"`
+	Agent  string  `json:"agent,omitempty"`
+}
+
+// An audited change. The result is `ok` or the error code.
+type audited struct {
+	Time   string `json:"time"`
+	From   string `json:"from"`
+	Token  string `json:"token"`
+	App    string `json:"app"`
+	Action string `json:"action"`
+	Locale string `json:"locale,omitempty"`
+	Bytes  int    `json:"bytes,omitempty"`
+	SHA256 string `json:"sha256,omitempty"`
+	Result string `json:"result"`
+}
+
+// mostLogged is the most bytes of a text of a caller in a log.
+const mostLogged = 2048
+
+func clip(text string) string {
+	if len(text) > mostLogged {
+		return text[:mostLogged] + ".."
+	}
+	return text
+}
+
+// logAccess writes the line of a request. The query is left out, since callers may put what they like there.
+func (c *Call) logAccess(began, now time.Time) {
+	if c.Options.Access == nil {
+		return
+	}
+	c.Options.Access.Write(access{began.UTC().Format(time.RFC3339Nano), wire.Caller(c.R, c.Options.Proxies), c.R.Method,
+		clip(c.R.URL.EscapedPath()), clip(c.App), c.name(), c.Status, c.Sent, float64(now.Sub(began).Microseconds()) / 1000, clip(c.R.UserAgent())})
+}
+
+// name returns the name of the token, or "" if it is unknown.
+func (c *Call) name() string {
+	if !c.known {
+		return ""
+	}
+	return c.Who.Name()
+}
+
+// Asked notes what a change asks for, once for each locale; a later body replaces an earlier one.
+func (c *Call) Asked(locale string, body []byte) {
+	if c.Options.Audit == nil {
+		return
+	}
+	line := audited{Locale: clip(locale), Bytes: len(body)}
+	if body != nil {
+		sum := sha256.Sum256(body)
+		line.SHA256 = hex.EncodeToString(sum[:])
+	}
+	if last := len(c.edits) - 1; last >= 0 && c.edits[last].Locale == line.Locale {
+		c.edits = c.edits[:last]
+	}
+	c.edits = append(c.edits, line)
+}
+
+// logAudit writes the lines of a change that was made or refused, for whatever reason.
+func (c *Call) logAudit(now time.Time) {
+	if c.Options.Audit == nil || c.Operation.Action == "" {
+		return
+	}
+	if len(c.edits) == 0 {
+		c.edits = []audited{{}}
+	}
+	for _, line := range c.edits {
+		line.Time, line.From, line.Token = now.UTC().Format(time.RFC3339Nano), wire.Caller(c.R, c.Options.Proxies), c.name()
+		line.App, line.Action, line.Result = clip(c.App), c.Operation.Action, c.Code
+		if line.Result == "" {
+			line.Result = "ok"
+		}
+		c.Options.Audit.Write(line)
+	}
+}

@@ -1,0 +1,125 @@
+package front
+
+import (
+	"context"
+	"net/http"
+	"strconv"
+	"sync/atomic"
+	"time"
+
+	"github.com/prometheus/client_golang/prometheus"
+	"github.com/prometheus/client_golang/prometheus/promhttp"
+	"github.com/prometheus/procfs"
+
+	"luvdregan.example/resb/deploy/internal/auth"
+	"luvdregan.example/resb/deploy/internal/limits"
+	"luvdregan.example/resb/deploy/internal/replica"
+)
+
+// bounds are the upper bounds of the histograms' buckets, in seconds.
+var bounds = []float64{50e-6, 100e-6, 250e-6, 500e-6, 1e-3, 2.5e-3, 5e-3, 10e-3, 25e-3, 50e-3, 0.1, 0.25, 0.5, 1, 2.5, 10}
+
+// Metrics count requests by kind and status, and their times.
+type Metrics struct {
+	registry    *prometheus.Registry
+	requests    *prometheus.CounterVec
+	times       []prometheus.Observer // by kind
+	refused     prometheus.Counter
+	panics      prometheus.Counter
+	connections int64
+}
+
+func newMetrics(backend *replica.Replica, of *limits.Limits, tokens *auth.Tokens) *Metrics {
+	counter := func(name, help string) prometheus.CounterOpts {
+		return prometheus.CounterOpts{Name: "resb_" + name, Help: help}
+	}
+	times := prometheus.NewHistogramVec(prometheus.HistogramOpts{Name: "resb_request_seconds", Buckets: bounds,
+		Help: "Times from a request's header to the end of its response."}, []string{"kind"})
+	m := &Metrics{
+		registry: prometheus.NewRegistry(),
+		requests: prometheus.NewCounterVec(counter("requests_total", "Requests by kind and status."), []string{"kind", "status"}),
+		refused:  prometheus.NewCounter(counter("connections_refused_total", "Connections past the limit.")),
+		panics:   prometheus.NewCounter(counter("panics_total", "Requests that met a fault of the gateway.")),
+	}
+	for _, name := range kindNames {
+		m.times = append(m.times, times.WithLabelValues(name))
+	}
+	m.registry.MustRegister(m.requests, times, m.refused, m.panics)
+	sum := func(of func(replica.Sum) float64) func() float64 { return func() float64 { return of(backend.Sum()) } }
+	for _, g := range []struct {
+		name, help string
+		value      func() float64
+	}{
+		{"connections", "Connections of callers.", func() float64 { return float64(atomic.LoadInt64(&m.connections)) }},
+		{"memory_bytes", "Memory of the gateway.", memory},
+		{"requests_now", "Requests of applications on their way.", func() float64 { n, _ := of.Now(); return float64(n) }},
+		{"body_bytes_now", "Bytes of requests on their way.", func() float64 { _, n := of.Now(); return float64(n) }},
+		{"tokens_file_bad", "1 if the file of tokens can't be read, or a line of it is wrong.", func() float64 { return float64(tokens.Bad()) }},
+		{"ready", "1 if lookups are answered.", func() float64 { return one(backend.Ready() == nil) }},
+		{"writes", "1 if changes are stored, as far as is known.", func() float64 { return one(soon(backend.Writable) == nil) }},
+		{"apps", "Applications with bundles.", sum(func(s replica.Sum) float64 { return float64(s.Apps) })},
+		{"bundles", "Bundles.", sum(func(s replica.Sum) float64 { return float64(s.Bundles) })},
+		{"left_out", "Stored bundles that the library of this gateway refuses.", sum(func(s replica.Sum) float64 { return float64(s.LeftOut) })},
+		{"bundles_bytes", "Bytes of the compiled bundles.", sum(func(s replica.Sum) float64 { return float64(s.FilesBytes) })},
+		{"stored_bytes", "Bytes of what was submitted for the present bundles.", sum(func(s replica.Sum) float64 { return float64(s.StoredBytes) })},
+		{"database_bytes", "Bytes of the store's files, or of etcd's database.", func() (bytes float64) {
+			_ = soon(func(ctx context.Context) error {
+				stats, err := backend.Stats(ctx)
+				bytes = float64(stats.Bytes) // 0 if it can't be reached
+				return err
+			})
+			return bytes
+		}},
+	} {
+		m.Gauge(g.name, g.help, g.value)
+	}
+	return m
+}
+
+// soon asks the store, which may not answer.
+func soon(ask func(context.Context) error) error {
+	ctx, cancel := context.WithTimeout(context.Background(), time.Second)
+	defer cancel()
+	return ask(ctx)
+}
+
+func one(is bool) float64 {
+	if is {
+		return 1
+	}
+	return 0
+}
+
+// memory returns the memory of the process in bytes, or 0.
+func memory() float64 {
+	var stat procfs.ProcStat
+	self, err := procfs.Self()
+	if err == nil {
+		stat, _ = self.Stat()
+	}
+	return float64(stat.ResidentMemory())
+}
+
+// Gauge adds a metric whose value is asked for when it is read.
+func (m *Metrics) Gauge(name, help string, value func() float64) {
+	m.registry.MustRegister(prometheus.NewGaugeFunc(prometheus.GaugeOpts{Name: "resb_" + name, Help: help}, value))
+}
+
+// Connect counts a connection that was opened or closed, and returns how many there are.
+func (m *Metrics) Connect(more int64) int64 { return atomic.AddInt64(&m.connections, more) }
+
+// Refuse counts a connection past the limit.
+func (m *Metrics) Refuse() { m.refused.Inc() }
+
+func (m *Metrics) count(of Kind, status int, took time.Duration) {
+	m.requests.WithLabelValues(kindNames[of], strconv.Itoa(status)).Inc()
+	m.times[of].Observe(took.Seconds())
+}
+
+// measured writes the metrics in Prometheus' text form.
+func (c *Call) measured() error {
+	c.NoStore()
+	c.Status = http.StatusOK
+	promhttp.HandlerFor(c.Metrics.registry, promhttp.HandlerOpts{}).ServeHTTP(c.W, c.R)
+	return nil
+}

@@ -1,0 +1,112 @@
+package front
+
+import (
+	"net/http"
+	"strings"
+
+	"luvdregan.example/resb/deploy/internal/auth"
+)
+
+// A Kind is what a request is counted as.
+type Kind int
+
+// The kinds.
+const (
+	KindOther Kind = iota
+	KindLook
+	KindLooks
+	KindList
+	KindChange
+	KindFetch
+	KindHistory
+	KindCheck
+)
+
+var kindNames = []string{"other", "look", "looks", "list", "change", "fetch", "history", "check"}
+
+// An Operation is what a method does at an address, and how it is described.
+type Operation struct {
+	Method, ID, Summary string
+	Forms               string // what the ID of the reading of a form begins with, if there are forms
+	Right               auth.Right
+	Kind                Kind
+	Action              string // the name of a change in the audit log
+	Do                  func(*Call) error
+	Takes, Gives        []string // the types of bodies and replies
+	Statuses            []int    // beside those of all addresses
+	Query               []string // beside `after`
+}
+
+// Other is the operation of all that has none.
+var Other = Operation{}
+
+// An Address is a pattern below /v1/{app} with its operations. `{locale}` and the like stand for one part, `{path}` for one or more.
+type Address struct {
+	Pattern    string
+	Operations []Operation
+}
+
+// Parts returns the parts of the pattern.
+func (a *Address) Parts() []string {
+	if a.Pattern == "" {
+		return nil
+	}
+	return strings.Split(a.Pattern[1:], "/")
+}
+
+// A route is an address that is ready to be found.
+type route struct {
+	parts      []string
+	operations map[string]*Operation // by method
+	allow      string
+}
+
+func routesOf(addresses []Address) (all []route) {
+	for i := range addresses {
+		a := &addresses[i]
+		one := route{a.Parts(), map[string]*Operation{}, ""}
+		for j := range a.Operations {
+			o := &a.Operations[j]
+			one.operations[o.Method] = o
+			if one.allow += o.Method + ", "; o.Method == http.MethodGet {
+				one.operations[http.MethodHead] = o
+				one.allow += "HEAD, "
+			}
+		}
+		one.allow += "OPTIONS"
+		all = append(all, one)
+	}
+	return all
+}
+
+// matches returns true if the parts of an address fit a pattern. What begins with `_` is the gateway's own, and no locale.
+func (r *route) matches(parts []string) bool {
+	n := len(r.parts)
+	if len(parts) < n || len(parts) > n && !(n > 0 && r.parts[n-1] == "{path}") {
+		return false
+	}
+	for i, part := range r.parts {
+		if part[0] != '{' && part != parts[i] || part[0] == '{' && i == 0 && strings.HasPrefix(parts[0], "_") {
+			return false
+		}
+	}
+	return true
+}
+
+// find returns the operation of a method at an address after the application, and the methods that the address has, or "" if there is no such
+// address. If it hasn't the method, the operation does nothing.
+func (h *Handler) find(parts []string, method string) (o *Operation, allow string) {
+	for i := range h.routes {
+		r := &h.routes[i]
+		if !r.matches(parts) {
+			continue
+		}
+		if allow == "" {
+			allow = r.allow
+		}
+		if o := r.operations[method]; o != nil {
+			return o, r.allow
+		}
+	}
+	return &Other, allow
+}

@@ -1,0 +1,103 @@
+package limits
+
+import (
+	"context"
+	"errors"
+	"fmt"
+	"testing"
+	"time"
+)
+
+func begin(t *testing.T, l *Limits, app, holder string, want error) *Ticket {
+	t.Helper()
+	ticket := &Ticket{}
+	if err := l.Begin(ticket, app, holder, time.Now()); !errors.Is(err, want) {
+		t.Fatalf("%s by %s: %v and not %v", app, holder, err, want)
+	}
+	return ticket
+}
+
+// TestAHolderOfManyApplications takes requests and bytes over many applications, and leaves half of the rest to another holder.
+func TestAHolderOfManyApplications(t *testing.T) {
+	l := New(Options{Each: 1000, All: 100, Bytes: 1 << 20, Works: 2})
+	for i := 0; i < 50; i++ {
+		begin(t, l, fmt.Sprint("app", i), "prefix", nil)
+	}
+	begin(t, l, "app50", "prefix", ErrTooMany)
+	other := begin(t, l, "bank", "other", nil)
+	if err := other.Hold(1 << 18); err != nil {
+		t.Error(err)
+	}
+	held := int64(0)
+	for i := 0; ; i++ {
+		one := &Ticket{of: l, accounts: [2]*account{l.account(key{false, fmt.Sprint("app", i)}), l.account(key{true, "prefix"})}}
+		if one.Hold(1<<14) != nil {
+			break
+		}
+		held += 1 << 14
+	}
+	if held != (1<<20-1<<18)/2 {
+		t.Errorf("%d bytes are held", held)
+	}
+	other.End(0, time.Now())
+	if requests, bytes := l.Now(); requests != 50 || bytes != held {
+		t.Error(requests, bytes)
+	}
+}
+
+func TestRates(t *testing.T) {
+	l := New(Options{Each: 9, All: 9, Bytes: 9, Rate: 2, DayBytes: 100, Works: 1})
+	now := time.Unix(secondsADay*20000+10, 0)
+	for i := 0; i < 3; i++ {
+		ticket := &Ticket{}
+		err := l.Begin(ticket, "shop", "ci", now)
+		var rate *OverRate
+		if isOver := errors.As(err, &rate); isOver != (i == 2) || isOver && rate.Wait != time.Second/2 {
+			t.Fatal(i, err)
+		}
+		if err == nil {
+			ticket.End(40, now)
+		}
+	}
+	later := now.Add(time.Minute)
+	begin(t, l, "bank", "me", nil).End(1<<30, later) // counts for nobody else
+	ticket := &Ticket{}
+	if err := l.Begin(ticket, "shop", "ci", later); err != nil {
+		t.Fatal(err)
+	}
+	ticket.End(60, later)
+	err := l.Begin(&Ticket{}, "shop", "ci", later)
+	var rate *OverRate
+	if !errors.As(err, &rate) || rate.Wait != (secondsADay-70)*time.Second {
+		t.Error("over the bytes of the day: ", err)
+	}
+	if err := l.Begin(&Ticket{}, "shop", "ci", now.Add(secondsADay*time.Second)); err != nil {
+		t.Error("the next day: ", err)
+	}
+}
+
+// TestWork has one long work of an application and of a holder at a time.
+func TestWork(t *testing.T) {
+	l := New(Options{Each: 9, All: 99, Bytes: 9, Works: 2})
+	one, same, other := begin(t, l, "a", "x", nil), begin(t, l, "b", "x", nil), begin(t, l, "c", "y", nil)
+	end, err := one.Work(context.Background())
+	if err != nil {
+		t.Fatal(err)
+	}
+	soon, cancel := context.WithTimeout(context.Background(), time.Millisecond)
+	defer cancel()
+	if _, err := same.Work(soon); err != ErrGone {
+		t.Error("the same holder: ", err)
+	}
+	if free, err := other.Work(context.Background()); err != nil {
+		t.Error(err)
+	} else {
+		free()
+	}
+	end()
+	if free, err := same.Work(context.Background()); err != nil {
+		t.Error(err)
+	} else {
+		free()
+	}
+}

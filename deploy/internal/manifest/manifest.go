@@ -1,0 +1,147 @@
+// Package manifest describes an application by one small value: its bundles, by the digests of their bodies. It judges changes, each of which
+// makes the next manifest from the present one. It does no input or output.
+package manifest
+
+import (
+	"crypto/sha256"
+	"encoding/base64"
+	"sync"
+)
+
+// A Digest is the SHA-256 of a body in base64url. A body is stored under its application and its digest, and never changes.
+type Digest string
+
+// DigestOf returns the digest of a body.
+func DigestOf(body []byte) Digest {
+	sum := sha256.Sum256(body)
+	return Digest(base64.RawURLEncoding.EncodeToString(sum[:]))
+}
+
+// A Bundle describes the bundle of one locale.
+type Bundle struct {
+	Locale   string `json:"l"`
+	Digest   Digest `json:"d"`
+	Kind     string `json:"k"`           // text or file
+	Bytes    int64  `json:"b"`           // of the body
+	Compiled int64  `json:"c"`           // of the compiled file
+	File     Digest `json:"f,omitempty"` // of the compiled file, if it is stored too
+	At       int64  `json:"t"`           // milliseconds since 1970
+	Who      string `json:"w,omitempty"`
+	Order    int64  `json:"o"` // grows with each installation in the application
+}
+
+// FileBody returns the bundle with the stored compiled file as its body.
+func (b Bundle) FileBody() Bundle {
+	b.Digest, b.Bytes = b.File, b.Compiled
+	return b
+}
+
+// The operations of a Made.
+const (
+	Install = "install"
+	Replace = "replace"
+	Remove  = "remove"
+)
+
+// A Made is what a change did to the bundle of one locale. A removal has no digest.
+type Made struct {
+	Op       string `json:"op"`
+	Locale   string `json:"l"`
+	Digest   Digest `json:"d,omitempty"`
+	Kind     string `json:"k,omitempty"`
+	Bytes    int64  `json:"b,omitempty"`
+	Compiled int64  `json:"c,omitempty"`
+}
+
+// A Manifest is an application at one revision. It never changes: a change makes the next one, whose revision is one more. Revision 0 is the
+// application before its first change.
+type Manifest struct {
+	App      string   `json:"app"`
+	Revision int64    `json:"rev"`
+	ID       string   `json:"id"`               // the random name of the change that made it
+	Before   string   `json:"before,omitempty"` // the ID of the manifest that it replaced
+	Op       string   `json:"op"`
+	Who      string   `json:"who,omitempty"`
+	At       int64    `json:"at"`
+	Erased   bool     `json:"erased,omitempty"` // no earlier manifest is kept
+	Made     []Made   `json:"-"`                // what the change did, in the order of its edits
+	Bundles  []Bundle `json:"-"`                // in the order of their installation
+	Orders   int64    `json:"orders,omitempty"` // how many installations there were
+	Bytes    int64    `json:"bytes,omitempty"`  // of the bodies together
+	Compiled int64    `json:"compiled,omitempty"`
+
+	pages []page // of the bundles; nil if the head has them
+	log   page   // of Made; empty if the head has it
+	index *index // nil if nobody made it
+}
+
+// An index finds bundles. It is made when it is first needed.
+type index struct {
+	once  sync.Once
+	place map[string]int
+}
+
+// Find returns the bundle of a locale, or nil.
+func (m *Manifest) Find(locale string) *Bundle {
+	if m.index == nil { // it isn't of Judge or ReadHead
+		m = &Manifest{Bundles: m.Bundles, index: &index{}}
+	}
+	m.index.once.Do(func() {
+		m.index.place = make(map[string]int, len(m.Bundles))
+		for i := range m.Bundles {
+			m.index.place[m.Bundles[i].Locale] = i
+		}
+	})
+	if at, there := m.index.place[locale]; there {
+		return &m.Bundles[at]
+	}
+	return nil
+}
+
+// Names returns the digests of the bodies that the manifest names.
+func (m *Manifest) Names() map[Digest]bool {
+	all := make(map[Digest]bool, len(m.Bundles))
+	for _, b := range m.Bundles {
+		all[b.Digest] = true
+	}
+	return all
+}
+
+// A Difference is a bundle that two manifests have differently. Old or New is nil if one of them doesn't have the bundle.
+type Difference struct{ Old, New *Bundle }
+
+// Locale returns that of the bundle.
+func (d *Difference) Locale() string {
+	if d.New == nil {
+		return d.Old.Locale
+	}
+	return d.New.Locale
+}
+
+// Diff returns what differs between the bundles of two manifests.
+func Diff(from, to *Manifest) (all []Difference) {
+	same := equalPages(from, to)
+	old := map[string]*Bundle{}
+	for i := range from.Bundles {
+		if b := &from.Bundles[i]; !same[pageOf(b.Locale)] {
+			old[b.Locale] = b
+		}
+	}
+	for i := range to.Bundles {
+		b := &to.Bundles[i]
+		if same[pageOf(b.Locale)] {
+			continue
+		}
+		was := old[b.Locale]
+		delete(old, b.Locale)
+		if was == nil || was.Digest != b.Digest || was.Kind != b.Kind || was.Order != b.Order {
+			all = append(all, Difference{was, b})
+		}
+	}
+	for i := range from.Bundles {
+		if b := &from.Bundles[i]; old[b.Locale] != nil {
+			all = append(all, Difference{b, nil})
+		}
+	}
+	return all
+}

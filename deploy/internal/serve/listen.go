@@ -1,0 +1,151 @@
+// Package serve has the listeners of a gateway, with TLS and a limit on connections, and the files of its logs.
+package serve
+
+import (
+	"errors"
+	"net"
+	"net/http"
+	"os"
+	"strings"
+	"sync"
+	"sync/atomic"
+	"time"
+
+	"luvdregan.example/resb/deploy/internal/front"
+)
+
+// A Listener counts connections, and refuses those past the limit.
+type Listener struct {
+	net.Listener
+	Metrics *front.Metrics
+	Most    int64
+	Plain   bool // no TLS is spoken over it
+}
+
+const (
+	tooManyConnections = "HTTP/1.1 503 Service Unavailable\r\nContent-Type: application/json\r\nContent-Length: 17\r\n" +
+		"Retry-After: 1\r\nConnection: close\r\n\r\n{\"error\":\"Busy\"}\n"
+	tooSlow = "HTTP/1.1 408 Request Timeout\r\nContent-Type: application/json\r\nContent-Length: 17\r\nConnection: close\r\n\r\n" +
+		"{\"error\":\"Slow\"}\n"
+)
+
+// Accept returns the next connection that is within the limit.
+func (l *Listener) Accept() (net.Conn, error) {
+	for {
+		c, err := l.Listener.Accept()
+		if err != nil {
+			return nil, err
+		}
+		if l.Metrics.Connect(1) <= l.Most {
+			counted := &conn{Conn: c, of: l}
+			if l.Plain {
+				return &caller{Conn: counted}, nil
+			}
+			return counted, nil
+		}
+		l.Metrics.Connect(-1)
+		l.Metrics.Refuse()
+		if l.Plain {
+			_ = c.SetWriteDeadline(time.Now().Add(time.Second))
+			_, _ = c.Write([]byte(tooManyConnections))
+		}
+		_ = c.Close()
+	}
+}
+
+// A conn is a connection, which is counted as long as it is open.
+type conn struct {
+	net.Conn
+	of      *Listener
+	closing sync.Once
+}
+
+// Close ends the connection.
+func (c *conn) Close() error {
+	c.closing.Do(func() { c.of.Metrics.Connect(-1) })
+	return c.Conn.Close()
+}
+
+// A caller is a connection for HTTP/1.1, within TLS if that is on.
+type caller struct {
+	net.Conn
+	begun int32 // a part of a header has come
+	asked int32 // a whole header has come, and its response isn't done
+	late  int32 // the caller got the error that it is too slow
+
+	next lengths // of the header that comes
+	both bool    // the last header has two lengths
+}
+
+// HasTwoLengths returns true if the header of the request has both Content-Length and Transfer-Encoding, of which net/http drops the
+// first. Another program before this one may have gone by the other. A header that came with an earlier request's body isn't seen.
+func (c *caller) HasTwoLengths() bool { return c.both }
+
+// Lengths are the fields of a header that say where a body ends. Of a line only the begin is stored.
+type lengths struct {
+	line              [len("transfer-encoding:")]byte
+	used              int
+	content, encoding bool
+	over              bool // the header has ended
+}
+
+// take reads the next bytes of a header, and what follows it.
+func (l *lengths) take(bytes []byte) {
+	for _, b := range bytes {
+		switch {
+		case l.over:
+			return
+		case b != '\n':
+			if l.used < len(l.line) && b != '\r' {
+				l.line[l.used] = b
+				l.used++
+			}
+		default:
+			name, _, _ := strings.Cut(string(l.line[:l.used]), ":")
+			l.content = l.content || strings.EqualFold(name, "Content-Length")
+			l.encoding = l.encoding || strings.EqualFold(name, "Transfer-Encoding")
+			l.over, l.used = l.used == 0, 0
+		}
+	}
+}
+
+// Read reads bytes of the caller. If they don't come in time, and a header is begun, the caller gets an error.
+func (c *caller) Read(b []byte) (int, error) {
+	n, err := c.Conn.Read(b)
+	if n > 0 {
+		atomic.StoreInt32(&c.begun, 1)
+		if atomic.LoadInt32(&c.asked) == 0 {
+			c.next.take(b[:n])
+		}
+	}
+	late := errors.Is(err, os.ErrDeadlineExceeded) && atomic.LoadInt32(&c.begun) == 1 && atomic.LoadInt32(&c.asked) == 0
+	if late && atomic.CompareAndSwapInt32(&c.late, 0, 1) {
+		_ = c.SetWriteDeadline(time.Now().Add(time.Second))
+		_, _ = c.Conn.Write([]byte(tooSlow))
+	}
+	return n, err
+}
+
+// Write writes bytes to the caller, unless it got the error for being slow: net/http mistakes the part of a line for the whole.
+func (c *caller) Write(b []byte) (int, error) {
+	if atomic.LoadInt32(&c.late) == 1 {
+		return 0, os.ErrDeadlineExceeded
+	}
+	return c.Conn.Write(b)
+}
+
+// State is called by the server when a connection changes its state.
+func State(of net.Conn, to http.ConnState) {
+	c, ok := of.(*caller)
+	if !ok {
+		return
+	}
+	switch to {
+	case http.StateActive:
+		atomic.StoreInt32(&c.asked, 1)
+		c.both, c.next = c.next.content && c.next.encoding, lengths{}
+	case http.StateIdle:
+		atomic.StoreInt32(&c.begun, 0)
+		atomic.StoreInt32(&c.asked, 0)
+	}
+}

@@ -1,0 +1,90 @@
+package serve
+
+import (
+	"crypto/tls"
+	"fmt"
+	"log"
+	"os"
+	"runtime"
+	"strings"
+	"sync/atomic"
+)
+
+// A Pair is a certificate with its key, read again when the content of one of the files changes.
+type Pair struct {
+	files   [2]string // certificate and key
+	content [2]string
+	now     atomic.Pointer[tls.Certificate]
+	failed  string // why the files could not be read again, or empty
+}
+
+// OpenPair reads the files; without files there is no pair.
+func OpenPair(cert, key string) (*Pair, error) {
+	if cert == "" {
+		return nil, nil
+	}
+	p := &Pair{files: [2]string{cert, key}}
+	_, err := p.read()
+	return p, err
+}
+
+// read reads the files. It returns false if their content is that of the last time.
+func (p *Pair) read() (isNew bool, err error) {
+	var content [2]string
+	for i, file := range p.files {
+		text, err := os.ReadFile(file)
+		if err != nil {
+			return false, err
+		}
+		content[i] = string(text)
+	}
+	if content == p.content {
+		return false, nil
+	}
+	now, err := tls.X509KeyPair([]byte(content[0]), []byte(content[1]))
+	if err == nil {
+		p.content = content
+		p.now.Store(&now)
+	}
+	return true, err
+}
+
+// Again reads the files again. If they don't fit each other the earlier ones stay, and the files are read once more the next time: one of them
+// may have been written just before the other.
+func (p *Pair) Again() {
+	if p == nil {
+		return
+	}
+	isNew, err := p.read()
+	switch {
+	case err != nil && p.failed != err.Error():
+		log.Printf("certificates: %v; the earlier ones stay", err)
+		p.failed = err.Error()
+	case err == nil && isNew:
+		log.Print("certificates: read again")
+		p.failed = ""
+	}
+}
+
+// protocols returns those that are offered over TLS. HTTP/2 is one of them if Go limits the streams that a caller opens and resets
+// (CVE-2023-44487), as 1.20.10 and 1.21.3 do.
+func protocols(version string) []string {
+	var minor, patch int
+	_, _ = fmt.Sscanf(version, "go1.%d.%d", &minor, &patch)
+	if minor > 21 || minor == 21 && patch >= 3 || minor == 20 && patch >= 10 {
+		return []string{"h2", "http/1.1"}
+	}
+	return []string{"http/1.1"}
+}
+
+// Configuration returns that of TLS. In each suite of TLS 1.2 a key that is found later decrypts nothing.
+func (p *Pair) Configuration() *tls.Config {
+	c := &tls.Config{MinVersion: tls.VersionTLS12, NextProtos: protocols(runtime.Version()),
+		GetCertificate: func(*tls.ClientHelloInfo) (*tls.Certificate, error) { return p.now.Load(), nil }}
+	for _, suite := range tls.CipherSuites() {
+		if strings.HasPrefix(suite.Name, "TLS_ECDHE_") {
+			c.CipherSuites = append(c.CipherSuites, suite.ID)
+		}
+	}
+	return c
+}

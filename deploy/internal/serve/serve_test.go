@@ -1,0 +1,93 @@
+package serve
+
+import (
+	"io"
+	"net"
+	"os"
+	"path/filepath"
+	"syscall"
+	"testing"
+	"time"
+)
+
+// TestAJournalThatNobodyReads drops lines, and never waits.
+func TestAJournalThatNobodyReads(t *testing.T) {
+	from, to, err := os.Pipe()
+	if err != nil {
+		t.Fatal(err)
+	}
+	defer from.Close()
+	j, err := OpenJournal("-")
+	if err != nil {
+		t.Fatal(err)
+	}
+	j.mu.Lock()
+	j.to = to
+	j.mu.Unlock()
+	began, before := time.Now(), dropped.Load()
+	for i := 0; i < 3*mostQueued; i++ {
+		j.Write(map[string]string{"text": "a line that nobody reads"})
+	}
+	if took := time.Since(began); took > 30*time.Second || dropped.Load()-before < mostQueued {
+		t.Error(took, dropped.Load()-before)
+	}
+	j.Flush() // ends within a second
+	j.Write("late")
+}
+
+// TestJournalFiles refuses a FIFO, and writes to a new file after the earlier one was renamed.
+func TestJournalFiles(t *testing.T) {
+	path := filepath.Join(t.TempDir(), "log")
+	if err := syscall.Mkfifo(path+".fifo", 0o600); err != nil {
+		t.Fatal(err)
+	}
+	if _, err := OpenJournal(path + ".fifo"); err == nil {
+		t.Error("a FIFO is taken")
+	}
+	j, err := OpenJournal(path)
+	if err != nil {
+		t.Fatal(err)
+	}
+	if err := os.Rename(path, path+".1"); err != nil {
+		t.Fatal(err)
+	}
+	if err := j.Again(); err != nil {
+		t.Fatal(err)
+	}
+	j.Write("new")
+	j.Flush()
+	if content, err := os.ReadFile(path); string(content) != "\"new\"\n" {
+		t.Errorf("%q %v", content, err)
+	}
+}
+
+// TestTwoLengths finds both lengths in a header, in whatever parts it comes.
+func TestTwoLengths(t *testing.T) {
+	for text, want := range map[string]bool{
+		"PUT / HTTP/1.1\r\nContent-Length: 1\r\ntransfer-encoding: chunked\r\n\r\n":                true,
+		"PUT / HTTP/1.1\r\nContent-Length: 1\r\nX: Transfer-Encoding:\r\n\r\nTransfer-Encoding:\n": false,
+	} {
+		here, there := net.Pipe()
+		c := &caller{Conn: here}
+		go func() {
+			_, _ = io.WriteString(there, text)
+			_ = there.Close()
+		}()
+		for buffer := make([]byte, 3); ; {
+			if _, err := c.Read(buffer); err != nil {
+				break
+			}
+		}
+		if got := c.next.content && c.next.encoding; got != want {
+			t.Errorf("%q: %v", text, got)
+		}
+	}
+}
+
+func TestProtocols(t *testing.T) {
+	for version, want := range map[string]int{"go1.19.8": 1, "go1.20.9": 1, "go1.20.10": 2, "go1.21.2": 1, "go1.21.3": 2, "go1.23.1": 2} {
+		if got := protocols(version); len(got) != want {
+			t.Error(version, got)
+		}
+	}
+}

@@ -1,0 +1,415 @@
+// Package etcd stores manifests and bodies in etcd, which any number of gateways share.
+//
+//	m/APP              REVISION ID of the newest manifest. A swap compares the whole value, so a copy of all keys works as well as a snapshot.
+//	m/                 nothing; each swap puts it, so its modification revision is that of the last swap of all applications.
+//	h/APP/REVISION     the head of each manifest, with 16 digits.
+//	d/APP/DIGEST       nothing, for each body, or page of a manifest, whose parts are below. A client that stores a body puts this first.
+//	b/APP/DIGEST/PART  a part of a body.
+//
+// Names have no `/`, and a prefix always ends in it, so no application is in another one's.
+package etcd
+
+import (
+	"context"
+	"crypto/tls"
+	"errors"
+	"fmt"
+	"strings"
+	"sync"
+	"time"
+
+	"go.etcd.io/etcd/clientv3"
+	"go.etcd.io/etcd/etcdserver/api/v3rpc/rpctypes"
+	"go.etcd.io/etcd/mvcc/mvccpb"
+	"go.uber.org/zap"
+	"google.golang.org/grpc/codes"
+	"google.golang.org/grpc/status"
+
+	"luvdregan.example/resb/deploy/internal/manifest"
+	"luvdregan.example/resb/deploy/internal/store"
+)
+
+const (
+	wait     = 2 * time.Second // for an answer; then another server is asked
+	overdue  = 3 * time.Second // after which a watch that is behind is begun again
+	pulse    = 2 * time.Second // between two looks whether the watch still works
+	pageKeys = 64              // keys of a list
+
+	leastGrace = 10 * time.Minute // of a collection: a change may take this long after it stored its bodies
+)
+
+// Options say how etcd is reached.
+type Options struct {
+	Endpoints      []string
+	TLS            *tls.Config
+	User, Password string
+	Logf           func(format string, args ...any)
+}
+
+// A Store is a client of etcd.
+type Store struct {
+	*clientv3.Client
+	logf func(format string, args ...any)
+
+	grace time.Duration // the least of a collection
+
+	collecting sync.Mutex
+	marks      []mark
+	collected  map[string]store.Collected // the applications of which nothing was to be removed
+
+	mu       sync.Mutex
+	reported int64         // Watch has reported all swaps up to this revision of etcd
+	moved    chan struct{} // closed when reported grows
+	again    chan struct{} // asks for another watch
+}
+
+// Open makes a client. It doesn't wait for a server.
+func Open(o Options) (*Store, error) {
+	log := zap.NewProductionConfig()
+	log.Level = zap.NewAtomicLevelAt(zap.ErrorLevel)
+	c, err := clientv3.New(clientv3.Config{Endpoints: o.Endpoints, TLS: o.TLS, Username: o.User, Password: o.Password,
+		DialTimeout: wait, DialKeepAliveTime: 10 * time.Second, DialKeepAliveTimeout: wait, PermitWithoutStream: true, LogConfig: &log})
+	if err != nil {
+		return nil, fmt.Errorf("etcd: %w", err)
+	}
+	if o.Logf == nil {
+		o.Logf = func(string, ...any) {}
+	}
+	return &Store{Client: c, logf: o.Logf, grace: leastGrace, collected: map[string]store.Collected{}, moved: make(chan struct{}),
+		again: make(chan struct{}, 1)}, nil
+}
+
+// finalError returns what an error of etcd is for a caller if the same request again can't help, or nil.
+func finalError(err error) error {
+	switch rpctypes.Error(err) {
+	case rpctypes.ErrNoSpace:
+		return fmt.Errorf("%w: %v", store.ErrNoRoom, err)
+	case rpctypes.ErrRequestTooLarge, rpctypes.ErrTooManyOps:
+		return store.ErrTooLong
+	case rpctypes.ErrPermissionDenied, rpctypes.ErrAuthFailed, rpctypes.ErrUserEmpty:
+		return fmt.Errorf("%w: %v", store.ErrUnreached, err)
+	}
+	return nil
+}
+
+// isUnsent returns true if no server can have got the request.
+func isUnsent(err error) bool {
+	s, _ := status.FromError(err)
+	message := strings.ToLower(s.Message())
+	return s.Code() == codes.Unavailable && (strings.Contains(message, "error while dialing") ||
+		strings.Contains(message, "no address available") || strings.Contains(message, "no connection available"))
+}
+
+// try does something that may be done twice until a server answers. The client takes the servers in turn, so the next attempt is at another one.
+func (s *Store) try(ctx context.Context, do func(ctx context.Context) error) error {
+	for {
+		within, cancel := context.WithTimeout(ctx, wait)
+		err := do(within)
+		cancel()
+		if err == nil {
+			return nil
+		}
+		if final := finalError(err); final != nil {
+			return final
+		}
+		if !pause(ctx, 30*time.Millisecond) {
+			return fmt.Errorf("%w: %v", store.ErrUnreached, err)
+		}
+	}
+}
+
+// pause waits, and returns false if the context ended.
+func pause(ctx context.Context, d time.Duration) bool {
+	select {
+	case <-time.After(d):
+		return true
+	case <-ctx.Done():
+		return false
+	}
+}
+
+func (s *Store) get(ctx context.Context, key string, options ...clientv3.OpOption) (r *clientv3.GetResponse, err error) {
+	err = s.try(ctx, func(ctx context.Context) (err error) {
+		r, err = s.Get(ctx, key, options...)
+		return err
+	})
+	return r, err
+}
+
+// list calls a function for the keys with a prefix, and returns a revision that they aren't older than. A server reads the values of a page into its
+// memory even if it sends only the keys, so pages are short.
+func (s *Store) list(ctx context.Context, prefix string, each func(kv *mvccpb.KeyValue), options ...clientv3.OpOption) (revision int64, err error) {
+	for from, end := prefix, clientv3.GetPrefixRangeEnd(prefix); ; {
+		r, err := s.get(ctx, from, append(options, clientv3.WithRange(end), clientv3.WithLimit(pageKeys))...)
+		if err != nil {
+			return 0, err
+		}
+		if revision == 0 {
+			revision = r.Header.Revision
+		}
+		for _, kv := range r.Kvs {
+			each(kv)
+		}
+		if !r.More {
+			return revision, nil
+		}
+		from = string(r.Kvs[len(r.Kvs)-1].Key) + "\x00"
+	}
+}
+
+// read reads a key that never changes, from any server, or with most of them if that one lacks it.
+func (s *Store) read(ctx context.Context, key string) ([]byte, error) {
+	r, err := s.get(ctx, key, clientv3.WithSerializable())
+	if err == nil && len(r.Kvs) == 0 {
+		r, err = s.get(ctx, key)
+	}
+	if err != nil {
+		return nil, err
+	} else if len(r.Kvs) == 0 {
+		return nil, store.ErrNoVersion
+	}
+	return r.Kvs[0].Value, nil
+}
+
+func headKey(app string, revision int64) string { return fmt.Sprintf("h/%s/%016d", app, revision) }
+
+// newestValue is the value of m/APP.
+func newestValue(revision int64, id string) string { return fmt.Sprintf("%d %s", revision, id) }
+
+// newestOf reads m/APP; the application is "" for m/ itself.
+func newestOf(kv *mvccpb.KeyValue) (app string, revision int64) {
+	_, _ = fmt.Sscanf(string(kv.Value), "%d", &revision)
+	return string(kv.Key[len("m/"):]), revision
+}
+
+// newestRevision returns that of the newest manifest, or 0.
+func (s *Store) newestRevision(ctx context.Context, app string) (revision int64, err error) {
+	r, err := s.get(ctx, "m/"+app)
+	if err == nil && len(r.Kvs) > 0 {
+		_, revision = newestOf(r.Kvs[0])
+	}
+	return revision, err
+}
+
+// Manifest returns the manifest of a revision.
+func (s *Store) Manifest(ctx context.Context, app string, revision int64, near *manifest.Manifest) (*manifest.Manifest, error) {
+	if revision == 0 {
+		var err error
+		if revision, err = s.newestRevision(ctx, app); err != nil {
+			return nil, err
+		}
+	}
+	head, err := s.read(ctx, headKey(app, revision))
+	if err != nil {
+		return nil, fmt.Errorf("%s at %d: %w", app, revision, err)
+	}
+	m, err := readHead(app, head)
+	if err == nil {
+		err = m.Fill(near, func(d manifest.Digest) ([]byte, error) { return s.body(ctx, app, d, 0) })
+	}
+	return m, err
+}
+
+func readHead(app string, head []byte) (*manifest.Manifest, error) {
+	m, err := manifest.ReadHead(head)
+	if err == nil && m.App != app {
+		err = fmt.Errorf("etcd: a manifest of %s is under %s: %w", m.App, app, store.ErrDamaged)
+	}
+	return m, err
+}
+
+// History returns the last manifests. Revisions have no gaps, so a server needn't read and sort more than these.
+func (s *Store) History(ctx context.Context, app string, before int64, most int) (all []*manifest.Manifest, err error) {
+	newest, err := s.newestRevision(ctx, app)
+	if err != nil {
+		return nil, err
+	}
+	if before == 0 || before > newest {
+		before = newest + 1
+	}
+	first := before - int64(most)
+	if first < 0 {
+		first = 0
+	}
+	r, err := s.get(ctx, headKey(app, first), clientv3.WithRange(headKey(app, before)), clientv3.WithSort(clientv3.SortByKey, clientv3.SortDescend))
+	if err != nil {
+		return nil, err
+	}
+	for _, kv := range r.Kvs {
+		m, err := readHead(app, kv.Value)
+		if err == nil {
+			err = m.FillMade(func(d manifest.Digest) ([]byte, error) { return s.body(ctx, app, d, 0) })
+		}
+		if err != nil {
+			return nil, err
+		}
+		all = append(all, m)
+	}
+	return all, nil
+}
+
+// Body returns a body.
+func (s *Store) Body(ctx context.Context, app string, b manifest.Bundle) ([]byte, error) {
+	return s.body(ctx, app, b.Digest, b.Bytes)
+}
+
+// body reads the parts of a body of this length, or of a page, which has one part.
+func (s *Store) body(ctx context.Context, app string, d manifest.Digest, bytes int64) ([]byte, error) {
+	body := make([]byte, 0, bytes)
+	for part := 0; part == 0 || int64(part*partSize) < bytes; part++ {
+		value, err := s.read(ctx, partKey(app, d, part))
+		if errors.Is(err, store.ErrNoVersion) {
+			return nil, fmt.Errorf("%w: %s, %s", store.ErrNoBody, app, d)
+		} else if err != nil {
+			return nil, err
+		}
+		body = append(body, value...)
+	}
+	if manifest.DigestOf(body) != d {
+		return nil, fmt.Errorf("etcd: %s, %s has another digest: %w", app, d, store.ErrDamaged)
+	}
+	return body, nil
+}
+
+// Newest calls a function for the newest manifest of each application.
+func (s *Store) Newest(ctx context.Context, each func(app string, revision int64)) error {
+	_, err := s.newest(ctx, each)
+	return err
+}
+
+func (s *Store) newest(ctx context.Context, each func(app string, revision int64)) (int64, error) {
+	return s.list(ctx, "m/", func(kv *mvccpb.KeyValue) {
+		if app, revision := newestOf(kv); app != "" {
+			each(app, revision)
+		}
+	})
+}
+
+// Watch reports all manifests. A watch at a server that stands still doesn't end, so a Sync is made all the time, and the watch is begun again if it is
+// behind.
+func (s *Store) Watch(ctx context.Context, seen func(app string, revision int64)) error {
+	go func() {
+		for pause(ctx, pulse) {
+			within, cancel := context.WithTimeout(ctx, 2*overdue)
+			_ = s.Sync(within)
+			cancel()
+		}
+	}()
+	for ctx.Err() == nil {
+		if err := s.watchOnce(ctx, seen); err != nil && ctx.Err() == nil {
+			s.logf("etcd: watch: %v", err)
+			pause(ctx, 100*time.Millisecond)
+		}
+	}
+	return ctx.Err()
+}
+
+// watchOnce lists what is there, and watches from that revision on. The watcher is a separate one, as the client's would stay at its server.
+func (s *Store) watchOnce(ctx context.Context, seen func(app string, revision int64)) error {
+	from, err := s.newest(ctx, seen)
+	if err != nil {
+		return err
+	}
+	s.report(from)
+	w := clientv3.NewWatcher(s.Client)
+	within, cancel := context.WithCancel(clientv3.WithRequireLeader(ctx))
+	defer func() {
+		cancel()
+		go w.Close()
+	}()
+	updates := w.Watch(within, "m/", clientv3.WithPrefix(), clientv3.WithRev(from+1))
+	for {
+		select {
+		case u, open := <-updates:
+			if !open || u.Err() != nil {
+				return fmt.Errorf("it ended: %v", u.Err())
+			}
+			for _, e := range u.Events {
+				if app, revision := newestOf(e.Kv); app != "" && e.Type == clientv3.EventTypePut {
+					seen(app, revision)
+				}
+			}
+			if n := len(u.Events); n > 0 { // not the revision of the header, which may be before its events
+				s.report(u.Events[n-1].Kv.ModRevision)
+			}
+		case <-s.again:
+			return errors.New("it stands still")
+		case <-ctx.Done():
+			return ctx.Err()
+		}
+	}
+}
+
+// report notes that Watch has reported all swaps up to a revision of etcd.
+func (s *Store) report(revision int64) {
+	s.mu.Lock()
+	defer s.mu.Unlock()
+	if revision > s.reported {
+		s.reported = revision
+		close(s.moved)
+		s.moved = make(chan struct{})
+	}
+}
+
+// Sync reads when the last swap was, which most servers must confirm, and waits until Watch has come to it. A progress request of etcd 3.4 can't
+// serve for this: its answer may come before events that it covers.
+func (s *Store) Sync(ctx context.Context) error {
+	r, err := s.get(ctx, "m/")
+	if err != nil {
+		return err
+	}
+	last := int64(0)
+	if len(r.Kvs) > 0 {
+		last = r.Kvs[0].ModRevision
+	}
+	late := time.NewTimer(overdue)
+	defer late.Stop()
+	for {
+		s.mu.Lock()
+		reported, moved := s.reported, s.moved
+		s.mu.Unlock()
+		if reported >= last && reported > 0 {
+			return nil
+		}
+		select {
+		case <-moved:
+		case <-late.C:
+			select {
+			case s.again <- struct{}{}:
+			default:
+			}
+			late.Reset(overdue)
+		case <-ctx.Done():
+			return store.ErrUnreached
+		}
+	}
+}
+
+// Writable returns an error if most servers can't be reached, or if one has raised an alarm, as it does when its quota is full.
+func (s *Store) Writable(ctx context.Context) error {
+	if _, err := s.get(ctx, "m/"); err != nil {
+		return err
+	}
+	within, cancel := context.WithTimeout(ctx, wait)
+	defer cancel()
+	r, err := s.AlarmList(within)
+	if err == nil && len(r.Alarms) > 0 {
+		return fmt.Errorf("%w: etcd has the alarm %v", store.ErrNoRoom, r.Alarms[0].Alarm)
+	}
+	return nil // the list needs rights that a gateway may not have
+}
+
+// Stats returns the length of the database at the first server that answers.
+func (s *Store) Stats(ctx context.Context) (stats store.Stats, err error) {
+	err = store.ErrUnreached
+	for _, endpoint := range s.Endpoints() {
+		within, cancel := context.WithTimeout(ctx, wait)
+		r, failed := s.Status(within, endpoint)
+		cancel()
+		if failed == nil {
+			return store.Stats{Bytes: r.DbSize}, nil
+		}
+		err = fmt.Errorf("%w: %v", store.ErrUnreached, failed)
+	}
+	return stats, err
+}

@@ -1,0 +1,389 @@
+package sqlite
+
+import (
+	"context"
+	"database/sql"
+	"errors"
+	"fmt"
+	"os"
+	"path/filepath"
+	"time"
+
+	"github.com/mattn/go-sqlite3"
+
+	"luvdregan.example/resb/deploy/internal/manifest"
+	"luvdregan.example/resb/deploy/internal/store"
+)
+
+// The limits of one transaction of several short jobs. A long job is alone, and has its turn after them, so a short one waits for at most one of them.
+const (
+	mostJobs  = 256
+	mostBytes = 2 << 20
+	mostShort = 64 << 10 // bytes
+	perJob    = 16 << 10 // what the tables of a job take in the WAL, about
+)
+
+// A job is a part of a transaction.
+type job struct {
+	do      func(t *transaction) error
+	bytes   int
+	shrinks bool   // it may have the reserve of a full disk
+	wipes   bool   // what it deletes is overwritten; it is alone
+	stored  func() // called once it is stored, or nil
+	done    chan error
+	err     error
+}
+
+// A transaction has the connection that writes, and the state as it will be.
+type transaction struct {
+	*Store
+	state
+}
+
+// prepare prepares a statement of the connection that writes, once.
+func (s *Store) prepare(query string) (prepared *sql.Stmt, err error) {
+	if prepared = s.prepared[query]; prepared == nil {
+		if prepared, err = s.writer.Prepare(query); err == nil {
+			s.prepared[query] = prepared
+		}
+	}
+	return prepared, err
+}
+
+func (s *Store) exec(query string, args ...any) (sql.Result, error) {
+	prepared, err := s.prepare(query)
+	if err != nil {
+		return nil, err
+	}
+	return prepared.Exec(args...)
+}
+
+// query reads one row.
+func (s *Store) query(query string, args []any, to ...any) error {
+	prepared, err := s.prepare(query)
+	if err != nil {
+		return err
+	}
+	return prepared.QueryRow(args...).Scan(to...)
+}
+
+// submit has a job done. The context counts only until a transaction has it.
+func (s *Store) submit(ctx context.Context, j *job) error {
+	j.done = make(chan error, 1)
+	to := s.short
+	if j.bytes > mostShort || j.wipes {
+		to = s.long
+	}
+	select {
+	case to <- j:
+		return <-j.done
+	case <-ctx.Done():
+	case <-s.closing:
+	}
+	return store.ErrUnreached
+}
+
+// run makes transactions of the jobs that wait. While one is synced the next ones gather.
+func (s *Store) run() {
+	defer close(s.ended)
+	for {
+		group := s.gather(nil)
+		if len(group) == 0 {
+			select {
+			case j := <-s.short:
+				group = s.gather([]*job{j})
+			case j := <-s.long:
+				group = []*job{j}
+			case <-s.closing:
+				return
+			}
+		}
+		s.finish(group)
+		select {
+		case j := <-s.long:
+			s.finish([]*job{j})
+		default:
+		}
+	}
+}
+
+// gather adds the short jobs that wait.
+func (s *Store) gather(group []*job) []*job {
+	for bytes := 0; len(group) < mostJobs && bytes < mostBytes; {
+		select {
+		case j := <-s.short:
+			bytes += j.bytes
+			group = append(group, j)
+		default:
+			return group
+		}
+	}
+	return group
+}
+
+// finish stores a group, and answers.
+func (s *Store) finish(group []*job) {
+	s.committing.Lock()
+	s.commit(group)
+	s.committing.Unlock()
+	for _, j := range group {
+		j.done <- j.err
+	}
+	s.boundWAL()
+}
+
+// commit stores a group, or the jobs of one that fails one by one: a change for which there is no space must not keep others from being stored.
+func (s *Store) commit(group []*job) {
+	err := s.attempt(group)
+	if err != nil && len(group) > 1 && s.failure() == nil {
+		for i := range group {
+			s.commit(group[i : i+1])
+		}
+		return
+	}
+	if errors.Is(err, store.ErrNoRoom) && group[0].shrinks {
+		s.withReserve(func() {
+			group[0].wipes = false // for which the space may be missing
+			err = s.transact(group)
+		})
+	}
+	if err != nil || !group[0].shrinks {
+		s.mu.Lock()
+		s.failed = err
+		s.mu.Unlock()
+	}
+	for _, j := range group {
+		if err != nil {
+			j.err = err
+		} else if j.err == nil && j.stored != nil {
+			j.stored()
+		}
+	}
+}
+
+// attempt stores a group if there is space.
+func (s *Store) attempt(group []*job) error {
+	bytes := 0
+	for _, j := range group {
+		bytes += j.bytes
+	}
+	if !s.fits(bytes) {
+		return fmt.Errorf("%w on the disk of %s", store.ErrNoRoom, s.folder)
+	}
+	s.unmoved += bytes + len(group)*perJob
+	return s.transact(group)
+}
+
+// transact makes a transaction. A job that is refused leaves nothing in it; any other error ends it.
+func (s *Store) transact(group []*job) error {
+	if err := s.failure(); err != nil {
+		return err
+	}
+	wipes := group[0].wipes
+	if wipes {
+		_, _ = s.exec("pragma secure_delete = on")
+		defer func() { _, _ = s.exec("pragma secure_delete = off") }()
+	}
+	if _, err := s.exec("begin immediate"); err != nil {
+		return s.judge(err)
+	}
+	t := &transaction{s, s.state}
+	err := t.all(group)
+	if err == nil {
+		_, err = t.exec("update state set swaps = ?, revisions = ? where one = 1", t.swaps, t.revisions)
+	}
+	if err == nil {
+		_, err = s.exec("commit")
+	}
+	if err != nil {
+		_, _ = s.exec("rollback") // SQLite may have done it
+		return s.judge(err)
+	}
+	s.state = t.state
+	s.mark()
+	if wipes {
+		_ = s.checkpoint("truncate") // the WAL has what was erased
+	}
+	return nil
+}
+
+// all does the jobs, each in a savepoint.
+func (t *transaction) all(group []*job) error {
+	for _, j := range group {
+		before := t.state // the job may fail
+		if _, err := t.exec("savepoint job"); err != nil {
+			return err
+		}
+		j.err = j.do(t)
+		if j.err != nil && !errors.Is(j.err, store.ErrConflict) {
+			return j.err
+		}
+		if j.err != nil {
+			t.state = before
+			if _, err := t.exec("rollback to job"); err != nil {
+				return err
+			}
+		}
+		if _, err := t.exec("release job"); err != nil {
+			return err
+		}
+	}
+	return nil
+}
+
+// Swap stores a manifest with its bodies. Once its transaction has begun it doesn't give up, so it knows whether it stored them, unless a sync
+// failed. Most bodies of a long change are stored before, so that the changes of others come between.
+func (s *Store) Swap(ctx context.Context, next *manifest.Manifest, bodies map[manifest.Digest][]byte) error {
+	head, blobs := next.Head(), next.Fresh()
+	bytes := len(head)
+	part := map[manifest.Digest][]byte{}
+	for digest, body := range bodies {
+		blobs[digest], part[digest] = body, body
+		if bytes += len(body); bytes < mostBytes {
+			continue
+		}
+		early := part
+		err := s.submit(ctx, &job{bytes: bytes, do: func(t *transaction) error { return t.put(next.App, early) }})
+		if err != nil {
+			return err
+		}
+		bytes, part = 0, map[manifest.Digest][]byte{}
+	}
+	return s.submit(ctx, &job{do: func(t *transaction) error { return t.swap(next, head, blobs) }, bytes: bytes, shrinks: len(bodies) == 0,
+		wipes: next.Erased, stored: func() { s.tell(next.App, next.Revision) }})
+}
+
+// swap stores a manifest if the application has the one before.
+func (t *transaction) swap(next *manifest.Manifest, head []byte, blobs map[manifest.Digest][]byte) error {
+	var revision int64
+	var before manifest.Manifest
+	var stored []byte
+	err := t.query("select revision, head from manifests where app = ? order by revision desc limit 1", []any{next.App}, &revision, &stored)
+	if err == nil {
+		var now *manifest.Manifest
+		if now, err = manifest.ReadHead(stored); err == nil {
+			before = *now
+		}
+	} else if errors.Is(err, sql.ErrNoRows) {
+		err = nil
+	}
+	switch {
+	case err != nil:
+		return err
+	case before.ID != next.Before || revision > 0 && revision != next.Revision-1:
+		return store.ErrConflict
+	}
+	t.revisions += next.Revision - revision
+	for i := 0; next.Erased && i < 2; i++ {
+		if _, err := t.exec([]string{"delete from manifests where app = ?", "delete from bodies where app = ?"}[i], next.App); err != nil {
+			return err
+		}
+	}
+	if err := t.put(next.App, blobs); err != nil {
+		return err
+	}
+	_, err = t.exec("insert into manifests values (?, ?, ?)", next.App, next.Revision, head)
+	return err
+}
+
+// put stores bodies with the number of this change, so that a plan which was made before doesn't remove them. For one that is there SQLite doesn't
+// write the body again.
+func (t *transaction) put(app string, blobs map[manifest.Digest][]byte) error {
+	t.swaps++
+	for digest, body := range blobs {
+		done, err := t.exec("update bodies set swap = ? where app = ? and digest = ?", t.swaps, app, digest)
+		if err != nil {
+			return err
+		}
+		if there, _ := done.RowsAffected(); there > 0 {
+			continue
+		}
+		if body == nil {
+			body = []byte{}
+		}
+		if _, err := t.exec("insert into bodies values (?, ?, ?, ?, ?)", app, digest, t.swaps, checksum(body), body); err != nil {
+			return err
+		}
+	}
+	return nil
+}
+
+// judge returns what an error of SQLite means. After a failed sync nobody knows what the disk has: the system may have dropped the pages that it
+// couldn't write, and the next sync succeeds without them. So no more changes are stored until the next start, which checks what is there.
+func (s *Store) judge(err error) error {
+	var of sqlite3.Error
+	switch {
+	case !errors.As(err, &of):
+		return err
+	case of.Code == sqlite3.ErrFull:
+		return fmt.Errorf("%w: %v", store.ErrNoRoom, err)
+	case of.ExtendedCode == sqlite3.ErrIoErrFsync || of.ExtendedCode == sqlite3.ErrIoErrDirFsync:
+		s.mu.Lock()
+		defer s.mu.Unlock()
+		s.broken = fmt.Errorf("%w until the next start: %v", store.ErrBroken, err)
+		return fmt.Errorf("%w: %v", store.ErrUnsettled, err)
+	}
+	return fmt.Errorf("%w: %v", store.ErrBroken, err) // such as a disk that is read-only, perhaps for a while
+}
+
+func (s *Store) failure() error {
+	s.mu.Lock()
+	defer s.mu.Unlock()
+	return s.broken
+}
+
+// Writable returns why the last transaction failed, unless a new one succeeds, which it tries once a second.
+func (s *Store) Writable(ctx context.Context) error {
+	s.mu.Lock()
+	err := s.failed
+	retries := err != nil && time.Since(s.tried) > time.Second
+	if retries {
+		s.tried = time.Now()
+	}
+	s.mu.Unlock()
+	if !retries {
+		return err
+	}
+	return s.submit(ctx, &job{do: func(t *transaction) error {
+		t.swaps++ // SQLite writes nothing if nothing changes
+		return nil
+	}, bytes: mostShort})
+}
+
+// The lengths of the WAL. From the first one on it is moved into the database, as far as nobody reads what is there; from the second one on those
+// that read wait until it is empty, because a WAL that somebody reads all the time never gets empty by itself.
+const (
+	someWAL = 2 << 20
+	mostWAL = 16 << 20
+)
+
+// boundWAL moves a long WAL into the database. A reader in another process, such as a backup, isn't waited for.
+func (s *Store) boundWAL() {
+	if s.unmoved < someWAL {
+		return
+	}
+	s.unmoved = 0
+	how := "passive"
+	if info, err := os.Stat(filepath.Join(s.folder, database+"-wal")); err == nil && info.Size() > mostWAL {
+		how = "truncate"
+	}
+	_ = s.checkpoint(how)
+}
+
+// checkpoint moves the changes from the WAL into the database. SQLite's own checkpoints are off, as they don't say if a sync failed.
+func (s *Store) checkpoint(how string) error {
+	if how == "truncate" {
+		s.reading.Lock()
+		defer s.reading.Unlock()
+		_, _ = s.exec("pragma busy_timeout = 20")
+		defer func() { _, _ = s.exec("pragma busy_timeout = 5000") }()
+	}
+	var busy, pages, moved int
+	if err := s.query("pragma wal_checkpoint("+how+")", nil, &busy, &pages, &moved); err != nil {
+		return s.judge(err)
+	}
+	if busy != 0 {
+		return errors.New("somebody reads what is in the WAL")
+	}
+	return nil
+}

@@ -1,0 +1,94 @@
+package wire
+
+import (
+	"bytes"
+	"compress/gzip"
+	"io"
+	"net/http"
+	"runtime"
+	"strings"
+	"sync"
+
+	"luvdregan.example/resb/deploy/internal/names"
+)
+
+// LeastGzip is the fewest bytes that are worth compressing.
+const LeastGzip = 1 << 10
+
+// slice is how much is compressed before other goroutines run.
+const slice = 32 << 10
+
+var zippers = sync.Pool{New: func() any {
+	w, _ := gzip.NewWriterLevel(io.Discard, gzip.BestSpeed) // the level is a valid one
+	return w
+}}
+
+// quality returns the weight that headers such as Accept-Encoding give a member, by its name or by `*`, or -1.
+func quality(headers []string, name string) float64 {
+	found := -1.0
+	for _, header := range headers {
+		for _, one := range strings.Split(header, ",") {
+			member, parameters, _ := strings.Cut(one, ";")
+			member = strings.TrimSpace(member)
+			if strings.EqualFold(member, name) {
+				return names.Weight(parameters)
+			}
+			if member == "*" {
+				found = names.Weight(parameters)
+			}
+		}
+	}
+	return found
+}
+
+// TakesGzip returns true if the caller takes compressed replies.
+func TakesGzip(r *http.Request) bool { return quality(r.Header["Accept-Encoding"], "gzip") > 0 }
+
+// Zipped returns the body compressed, and changes the headers that say so; or the body itself if that isn't shorter.
+func Zipped(h http.Header, body []byte) []byte {
+	var out bytes.Buffer
+	w := zippers.Get().(*gzip.Writer)
+	defer zippers.Put(w)
+	w.Reset(&out)
+	for left := body; len(left) > 0; runtime.Gosched() {
+		n := len(left)
+		if n > slice {
+			n = slice
+		}
+		_, _ = w.Write(left[:n]) // a buffer takes all
+		left = left[n:]
+	}
+	if w.Close() != nil || out.Len() >= len(body) {
+		return body
+	}
+	h.Set("Content-Encoding", "gzip")
+	if tag := h.Get("ETag"); tag != "" {
+		h.Set("ETag", strings.TrimSuffix(tag, `"`)+gzipTag+`"`)
+	}
+	return out.Bytes()
+}
+
+// Compressed returns a writer whose bytes are compressed if the caller takes that, and sets the headers. Close writes what is left.
+func Compressed(h http.Header, r *http.Request, to io.Writer) io.WriteCloser {
+	h.Add("Vary", "Accept-Encoding")
+	if !TakesGzip(r) {
+		return plain{to}
+	}
+	h.Set("Content-Encoding", "gzip")
+	w := zippers.Get().(*gzip.Writer)
+	w.Reset(to)
+	return zipper{w}
+}
+
+type plain struct{ io.Writer }
+
+// Close does nothing.
+func (plain) Close() error { return nil }
+
+type zipper struct{ *gzip.Writer }
+
+// Close writes what is left, and gives the writer back.
+func (z zipper) Close() error {
+	defer zippers.Put(z.Writer)
+	return z.Writer.Close()
+}

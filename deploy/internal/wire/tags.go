@@ -1,0 +1,132 @@
+package wire
+
+import (
+	"crypto/sha256"
+	"encoding/base64"
+	"net/http"
+	"strings"
+	"time"
+
+	"luvdregan.example/resb/deploy/internal/manifest"
+)
+
+// gzipTag ends the tag of a compressed reply, inside its quotes: a strong tag names bytes.
+const gzipTag = ".gz"
+
+// tagBytes is how many bytes of a hash a tag has, tagLength how many characters of base64url.
+const (
+	tagBytes  = 16
+	tagLength = 22
+)
+
+// TagOf returns the tag of a reply, equal only for equal replies.
+func TagOf(reply []byte) string {
+	sum := sha256.Sum256(reply)
+	var tag [tagLength + 2]byte
+	tag[0], tag[len(tag)-1] = '"', '"'
+	base64.RawURLEncoding.Encode(tag[1:len(tag)-1], sum[:tagBytes])
+	return string(tag[:])
+}
+
+// BundleTag returns the tag of a bundle: the first bytes of its SHA-256. After a full stop a tag of another form has its name, and one of a
+// reply a hash of it.
+func BundleTag(digest manifest.Digest, suffix string) string {
+	whole, err := base64.RawURLEncoding.DecodeString(string(digest))
+	if err != nil || len(whole) < tagBytes {
+		whole = make([]byte, tagBytes) // no bundle has such a digest
+	}
+	if suffix != "" {
+		suffix = "." + suffix
+	}
+	return `"` + base64.RawURLEncoding.EncodeToString(whole[:tagBytes]) + suffix + `"`
+}
+
+// isTagOf returns true if a strong tag is one of a bundle, in whatever form.
+func isTagOf(tag string, b *manifest.Bundle) bool {
+	if len(tag) < 2 || tag[0] != '"' || tag[len(tag)-1] != '"' {
+		return false
+	}
+	hash, _, _ := strings.Cut(tag[1:len(tag)-1], ".")
+	return `"`+hash+`"` == BundleTag(b.Digest, "")
+}
+
+// Tags returns the members of headers.
+func Tags(headers []string) (all []string) {
+	for _, header := range headers {
+		for _, one := range strings.Split(header, ",") {
+			all = append(all, strings.TrimSpace(one))
+		}
+	}
+	return all
+}
+
+// Has returns true if the caller has what a tag names, perhaps compressed, and the tag that the reply gets.
+func Has(r *http.Request, tag string) (reply string, has bool) {
+	headers := r.Header["If-None-Match"]
+	if len(headers) == 0 {
+		return tag, false
+	}
+	for _, one := range Tags(headers) {
+		given := strings.TrimPrefix(one, "W/")
+		if one == "*" || given == tag {
+			return tag, true
+		}
+		if strings.TrimSuffix(given, gzipTag+`"`)+`"` == tag {
+			return given, true
+		}
+	}
+	return tag, false
+}
+
+// Conditions are those of a request that changes a bundle (RFC 9110, 13.1).
+type Conditions struct {
+	match, noneMatch []string // tags
+	since            time.Time
+}
+
+// ConditionsOf reads the headers of a request.
+func ConditionsOf(h http.Header) (c Conditions) {
+	c.match, c.noneMatch = Tags(h.Values("If-Match")), Tags(h.Values("If-None-Match"))
+	if date, err := http.ParseTime(h.Get("If-Unmodified-Since")); err == nil && len(c.match) == 0 {
+		c.since = date
+	}
+	return c
+}
+
+// Any returns true if there are conditions.
+func (c Conditions) Any() bool { return len(c.match) > 0 || len(c.noneMatch) > 0 || !c.since.IsZero() }
+
+// Hold returns true if all conditions hold for a bundle, or for nil if there is none.
+func (c Conditions) Hold(now *manifest.Bundle) bool {
+	one := func(all []string, weak bool) bool {
+		for _, tag := range all {
+			if weak {
+				tag = strings.TrimPrefix(tag, "W/")
+			}
+			if now != nil && (tag == "*" || isTagOf(tag, now)) {
+				return true
+			}
+		}
+		return false
+	}
+	switch {
+	case len(c.match) > 0 && !one(c.match, false), one(c.noneMatch, true):
+		return false
+	case !c.since.IsZero() && (now == nil || At(now).Truncate(time.Second).After(c.since)):
+		return false
+	}
+	return true
+}
+
+// At returns when a bundle was put.
+func At(b *manifest.Bundle) time.Time { return time.UnixMilli(b.At).UTC() }
+
+// IsOneOf returns true if headers with tags, which are strong, have one.
+func IsOneOf(tag string, headers []string) bool {
+	for _, one := range Tags(headers) {
+		if one == "*" || one == tag || strings.TrimSuffix(one, gzipTag+`"`)+`"` == tag {
+			return true
+		}
+	}
+	return false
+}

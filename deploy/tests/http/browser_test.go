@@ -1,0 +1,263 @@
+package http
+
+import (
+	"bufio"
+	"encoding/base64"
+	"encoding/json"
+	"fmt"
+	"os"
+	"os/exec"
+	"strings"
+	"testing"
+	"time"
+)
+
+// A browser is a headless chromium, spoken to by its pipe.
+type browser struct {
+	t          *testing.T
+	to         *os.File
+	from       *bufio.Reader
+	id         int
+	session    string
+	complaints []string // errors of scripts and of the policy
+}
+
+// openBrowser starts chromium, if it is installed.
+func openBrowser(t *testing.T) *browser {
+	t.Helper()
+	path, err := exec.LookPath("chromium")
+	if err != nil {
+		t.Skip("skipped: chromium is not there")
+	}
+	command := exec.Command(path, "--headless", "--no-sandbox", "--disable-gpu", "--disable-dev-shm-usage", "--no-first-run",
+		"--user-data-dir="+t.TempDir(), "--remote-debugging-pipe", "--window-size=1100,1300", "about:blank")
+	theirs, to, err := os.Pipe()
+	if err != nil {
+		t.Fatal(err)
+	}
+	from, ours, err := os.Pipe()
+	if err != nil {
+		t.Fatal(err)
+	}
+	command.ExtraFiles = []*os.File{theirs, ours}
+	if err := command.Start(); err != nil {
+		t.Fatal(err)
+	}
+	_, _ = theirs.Close(), ours.Close()
+	late := time.AfterFunc(5*generous, func() { _ = command.Process.Kill() })
+	b := &browser{t: t, to: to, from: bufio.NewReader(from)}
+	t.Cleanup(func() {
+		b.session = ""
+		b.call("Browser.close", nil)
+		_ = command.Wait()
+		late.Stop()
+	})
+	var made struct{ TargetID string }
+	b.ask("Target.createTarget", map[string]any{"url": "about:blank"}, &made)
+	var attached struct{ SessionID string }
+	b.ask("Target.attachToTarget", map[string]any{"targetId": made.TargetID, "flatten": true}, &attached)
+	b.session = attached.SessionID
+	for _, part := range []string{"Page", "Runtime", "Log"} {
+		b.call(part+".enable", nil)
+	}
+	return b
+}
+
+func (b *browser) call(method string, parameters any) json.RawMessage {
+	b.id++
+	members := map[string]any{"id": b.id, "method": method, "params": parameters}
+	if b.session != "" {
+		members["sessionId"] = b.session
+	}
+	message, _ := json.Marshal(members)
+	if _, err := b.to.Write(append(message, 0)); err != nil {
+		return nil
+	}
+	for {
+		text, err := b.from.ReadBytes(0)
+		if err != nil {
+			return nil
+		}
+		var got struct {
+			ID     int
+			Method string
+			Params struct {
+				Entry struct{ Level, Source string }
+			}
+			Result json.RawMessage
+			Error  json.RawMessage
+		}
+		if json.Unmarshal(text[:len(text)-1], &got) != nil {
+			continue
+		}
+		entry := got.Params.Entry
+		if got.Method == "Runtime.exceptionThrown" || entry.Level == "error" && entry.Source != "network" {
+			b.complaints = append(b.complaints, string(text))
+		}
+		if got.ID == b.id {
+			if got.Error != nil {
+				b.t.Errorf("%s: %s", method, got.Error)
+			}
+			return got.Result
+		}
+	}
+}
+
+func (b *browser) ask(method string, parameters, result any) {
+	b.t.Helper()
+	if err := json.Unmarshal(b.call(method, parameters), result); err != nil {
+		b.t.Fatalf("%s: %v", method, err)
+	}
+}
+
+// run returns the value of an expression of the page as a text.
+func (b *browser) run(script string) string {
+	b.t.Helper()
+	var got struct {
+		Result           struct{ Value any }
+		ExceptionDetails json.RawMessage
+	}
+	b.ask("Runtime.evaluate", map[string]any{"expression": script, "awaitPromise": true, "returnByValue": true}, &got)
+	if got.ExceptionDetails != nil {
+		b.t.Errorf("%s: %s", script, got.ExceptionDetails)
+	}
+	return fmt.Sprint(got.Result.Value)
+}
+
+// is fails unless an expression has a value.
+func (b *browser) is(script, want string) {
+	b.t.Helper()
+	if got := b.run(script); got != want {
+		b.t.Errorf("%s: %.500q, and not %q", script, got, want)
+	}
+}
+
+// until waits until the values of expressions have parts: scripts and parts alternate.
+func (b *browser) until(pairs ...string) {
+	b.t.Helper()
+	for end := time.Now().Add(generous); len(pairs) > 0; time.Sleep(20 * time.Millisecond) {
+		got := b.run(pairs[0])
+		if strings.Contains(got, pairs[1]) {
+			pairs = pairs[2:]
+		} else if time.Now().After(end) {
+			b.picture("failed")
+			b.t.Fatalf("%s: %.500q, and no %q in it", pairs[0], got, pairs[1])
+		}
+	}
+}
+
+// keys has the keys that the tests press beside letters, with their codes and what they type.
+var keys = map[string]struct {
+	code int
+	text string
+}{"Tab": {9, ""}, "Enter": {13, "\r"}, "Escape": {27, ""}, " ": {32, " "}, "End": {35, ""}, "Home": {36, ""}, "a": {65, ""}}
+
+// The modifiers of a key.
+const (
+	withControl = 2
+	withShift   = 8
+)
+
+// press presses a key.
+func (b *browser) press(key string, modifiers int) {
+	b.t.Helper()
+	for _, kind := range []string{"keyDown", "keyUp"} {
+		event := map[string]any{"type": kind, "key": key, "code": key, "windowsVirtualKeyCode": keys[key].code, "modifiers": modifiers}
+		if kind == "keyDown" && keys[key].text != "" {
+			event["text"] = keys[key].text
+		}
+		if key == "a" && modifiers == withControl {
+			event["commands"] = []string{"selectAll"}
+		}
+		b.call("Input.dispatchKeyEvent", event)
+	}
+}
+
+// write types a text into what has the focus, in the place of what is there.
+func (b *browser) write(text string) {
+	b.t.Helper()
+	b.press("a", withControl)
+	b.call("Input.insertText", map[string]any{"text": text})
+}
+
+// focused names what has the focus by its id or text.
+const focused = `(e => e.id || e.hash || (e.ariaLabel ?? e.textContent).slice(0, 40) || e.localName)(document.activeElement)`
+
+// tab presses Tab until something has the focus, as somebody does who has no mouse.
+func (b *browser) tab(to string) {
+	b.t.Helper()
+	var passed []string
+	for i := 0; i < 80; i++ {
+		now := b.run(focused)
+		if now == to {
+			return
+		}
+		passed = append(passed, now)
+		b.press("Tab", 0)
+	}
+	b.t.Fatalf("Tab doesn't reach %s: %q", to, passed)
+}
+
+// fill types into a field that it reaches by Tab.
+func (b *browser) fill(id, text string) {
+	b.t.Helper()
+	b.tab(id)
+	b.write(text)
+}
+
+// enter types into a field, and presses Enter.
+func (b *browser) enter(id, text string) {
+	b.t.Helper()
+	b.fill(id, text)
+	b.press("Enter", 0)
+}
+
+// activate presses a key on something that it reaches by Tab.
+func (b *browser) activate(id string) {
+	b.t.Helper()
+	b.tab(id)
+	b.press("Enter", 0)
+}
+
+// click clicks with a script.
+func (b *browser) click(selector string) {
+	b.t.Helper()
+	b.run(fmt.Sprintf("document.querySelector(%q).click(); ''", selector))
+}
+
+// visit opens the page of a gateway that has bundles, each with its locale.
+func visit(t *testing.T, bundles ...string) (*browser, *site) {
+	t.Helper()
+	b, s := openBrowser(t), open(t)
+	for i := 0; i < len(bundles); i += 2 {
+		s.put(bundles[i], bundles[i+1])
+	}
+	b.call("Page.navigate", map[string]any{"url": s.URL + "/"})
+	b.until("document.documentElement?.dataset.ready", "yes")
+	return b, s
+}
+
+// picture writes what is seen to a file if the variable GATEWAY_PICTURES names a folder.
+func (b *browser) picture(name string) {
+	folder := os.Getenv("GATEWAY_PICTURES")
+	if folder == "" {
+		return
+	}
+	var got struct{ Data string }
+	b.ask("Page.captureScreenshot", map[string]any{"format": "png"}, &got)
+	image, err := base64.StdEncoding.DecodeString(got.Data)
+	if err == nil {
+		err = os.WriteFile(folder+"/"+name+".png", image, 0o600)
+	}
+	if err != nil {
+		b.t.Error(err)
+	}
+}
+
+// fine fails if a script failed or the policy was broken.
+func (b *browser) fine() {
+	b.t.Helper()
+	for _, complaint := range b.complaints {
+		b.t.Error(complaint)
+	}
+}

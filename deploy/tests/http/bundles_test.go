@@ -1,0 +1,247 @@
+package http
+
+import (
+	"compress/gzip"
+	"fmt"
+	"io"
+	"math/rand"
+	"net/http"
+	"strings"
+	"testing"
+	"time"
+
+	"luvdregan.example/resb/deploy/tests/harness"
+)
+
+// TestConditionsOfChanges makes changes under conditions that hold or don't: those that don't change nothing.
+func TestConditionsOfChanges(t *testing.T) {
+	s := beside(t)
+	tag := s.put("de", `de{a{"A"}}`).Tag()
+	past, future := "Mon, 02 Jan 2006 15:04:05 GMT", time.Now().Add(time.Hour).UTC().Format(http.TimeFormat)
+	const fails = 412
+	for _, c := range []struct {
+		do, header string
+		status     int
+	}{
+		{"PUT /v1/shop/de.txt", `If-Match: "nonsense"`, fails}, {"PUT /v1/shop/de.txt", "If-Match: W/" + tag, fails}, {"PUT /v1/shop/de.txt", "If-None-Match: *", fails},
+		{"PUT /v1/shop/de.txt", "If-None-Match: W/" + tag, fails}, {"DELETE /v1/shop/de", `If-Match: "nonsense"`, fails}, {"DELETE /v1/shop/de", "If-None-Match: " + tag, fails},
+		{"PUT /v1/shop/de.txt", "If-Unmodified-Since: " + past, fails}, {"PUT /v1/shop/fr.txt", "If-Match: *", fails}, {"PUT /v1/shop/fr.txt", "If-Match: " + tag, fails},
+		{"DELETE /v1/shop/fr", "If-Match: *", fails}, {"POST /v1/shop/de.txt", "If-Match: x", fails}, {"PUT /v1/shop/fr", "Content-Type: text/plain | If-Match: *", fails},
+		{"PUT /v1/shop/de.txt", `If-Match: "nonsense", ` + tag, 200}, {"PUT /v1/shop/DE.txt", "If-Match: *", 200}, {"PUT /v1/shop/de.txt", `If-None-Match: "nonsense"`, 200},
+		{"PUT /v1/shop/de.txt", "If-Unmodified-Since: " + future, 200}, {"PUT /v1/shop/fr.txt", "If-None-Match: *", 201}, {"DELETE /v1/shop/fr", "If-Match: *", 200},
+	} {
+		body, want := `de{a{"A"}}`, ""
+		if c.status == fails {
+			body, want = `de{a{"B"}}`, "={\"error\":\"PreconditionFailed\"}\n"
+		}
+		if strings.HasPrefix(c.do, "DELETE") {
+			body = ""
+		}
+		s.run(step{"w " + c.do, c.header, body, c.status, want, ""}, step{"r GET /v1/shop/de/a", "", "", 200, `"A"`, ""})
+	}
+}
+
+// TestTagsOfBundles change with the bytes of the bundle, in each form.
+func TestTagsOfBundles(t *testing.T) {
+	s := beside(t)
+	seen := map[string]string{}
+	for _, value := range []string{"A", "B", "C"} {
+		text := `de{a{"` + value + `"}}`
+		put := s.put("de", text)
+		for _, path := range []string{"/v1/shop/de", "/v1/shop/de.txt", "/v1/shop/de.res", "/v1/shop/de.json"} {
+			got := s.get(path)
+			if got.Status != 200 || got.Tag() == "" || seen[got.Tag()] != "" {
+				t.Errorf("%s of %s: %d, %q was that of %s", path, value, got.Status, got.Tag(), seen[got.Tag()])
+			}
+			seen[got.Tag()] = path + " of " + value
+			s.run(step{"r GET " + path, "If-None-Match: " + got.Tag(), "", 304, "", ""}, step{"w PUT /v1/shop/de.txt", "If-Match: " + got.Tag(), text, 200, "", ""})
+			if path == "/v1/shop/de.txt" && (got.Tag() != put.Tag() || got.Body != text) {
+				t.Errorf("%q, and %q when it was put; %s", got.Tag(), put.Tag(), got.Body)
+			}
+		}
+	}
+}
+
+// TestABundleComesBack in the form in which it was submitted, byte for byte, and in the others.
+func TestABundleComesBack(t *testing.T) {
+	s := beside(t)
+	const text = "// mine\nde{ a{\"\u00c4\"} }\n"
+	s.put("de", text)
+	file := s.get("/v1/shop/de.res")
+	if file.Status != 200 || !strings.Contains(file.Body, "\xda\x27") || file.Header.Get("Content-Type") != "application/octet-stream" {
+		t.Fatalf("%d %q %v", file.Status, file.Body, file.Header)
+	}
+	const asText, asJSON = "Content-Type: text/plain; charset=utf-8", "Content-Type: application/json"
+	s.run([]step{
+		{"w PUT /v1/shop/fr.res", "", file.Body, 201, "", ""}, {"r GET /v1/shop/fr.res", "", "", 200, "=" + file.Body, ""},
+		{"r GET /v1/shop/fr.txt", "", "", 200, "\u00c4", asText}, {"r GET /v1/shop/de.json", "", "", 200, "={\"a\":\"\u00c4\"}\n", asJSON},
+		{"r GET /v1/shop/fr.json", "", "", 200, "={\"a\":\"\u00c4\"}\n", asJSON}, {"r GET /v1/shop/DE.txt", "", "", 200, "=" + text, asText + " | Last-Modified>since"},
+		{"r GET /v1/shop/de.txt", "If-Modified-Since: {since}", "", 304, "", ""}, {"r GET /v1/shop/none.txt", "", "", 404, "!Absent", ""},
+		{"r GET /v1/shop/.json", "", "", 404, "", ""}, {"r GET /v1/bank/de.txt", "", "", 403, "", ""}, {"b GET /v1/bank/de.txt", "", "", 404, "={\"error\":\"Absent\"}\n", ""},
+		{"w PUT /v1/shop/de", asFile, file.Body[:len(file.Body)-1], 400, "!BadFile", ""}, {"w PUT /v1/shop/it", asFile, file.Body, 201, "", ""},
+	}...)
+}
+
+// TestKindsOfItems installs each kind as a text and as a compiled file, and finds them also after a start.
+func TestKindsOfItems(t *testing.T) {
+	s := beside(t)
+	s.put("de", `de{a{"Ä"} i:int{-7} b:bin{00ff} l{"x","y"} t{k{"v"}} v:intvector{1,2}}`)
+	s.run(step{"w PUT /v1/shop/fr.res", "", s.get("/v1/shop/de.res").Body, 201, "", ""})
+	for round := 0; round < 2; round++ {
+		for path, want := range map[string]string{"/a": `"value":"Ä"`, "/i": `"signed":-7`, "/b": `"hex":"00ff"`, "/l/1": `"value":"y"`, "/l": `"len":2`,
+			"/t": `"keys":["k"]`, "/t/k": `"value":"v"`, "/v": `"values":[1,2]`, "": `"keys":["a","b","i","l","t","v"]`} {
+			for _, locale := range []string{"de", "fr"} {
+				s.run(step{"r GET /v1/shop/" + locale + path, "", "", 200, want, ""})
+			}
+		}
+		s.Restart()
+	}
+}
+
+// TestListsAndRepliesStay makes changes at random, under all names that a locale has: what is listed and found is the same after starts.
+func TestListsAndRepliesStay(t *testing.T) {
+	s := beside(t)
+	random := rand.New(rand.NewSource(1))
+	names := []string{"de", "DE", "de-at", "de_AT", "fr", "zh-hant", "zh_Hant_TW", "root", "en@x=y", "en"}
+	seen := func() string {
+		text := s.get("/v1/shop").Body
+		for _, name := range names {
+			got := s.get("/v1/shop/" + name + "/a")
+			text += got.Body + got.Header.Get("Resb-Revision")
+		}
+		return text
+	}
+	for round := 0; round < 4; round++ {
+		for i := 0; i < 100; i++ {
+			name, method := names[random.Intn(len(names))], []string{"PUT", "PUT", "POST", "DELETE"}[random.Intn(4)]
+			text := fmt.Sprintf(`x{a{"%d"} b{"%s"}}`, i, strings.Repeat("y", random.Intn(2000)))
+			if got := s.ask(method, "/v1/shop/"+name, shopWrites, text, "Content-Type", "text/plain"); got.Status >= 500 {
+				t.Fatalf("%s %s: %d %s", method, name, got.Status, got.Body)
+			}
+		}
+		before := seen()
+		if s.Restart(); seen() != before {
+			t.Errorf("after a start:\n%s\nand before:\n%s", seen(), before)
+		}
+	}
+}
+
+// TestCompression has replies compressed where that is worth it, each form with another tag.
+func TestCompression(t *testing.T) {
+	s := beside(t)
+	text := `de{a{"` + strings.Repeat("long ", 2000) + `"}}`
+	s.put("de", text)
+	unpacked := func(a harness.Answer) string {
+		from, err := gzip.NewReader(strings.NewReader(a.Body))
+		if err != nil {
+			t.Fatal(err)
+		}
+		content, err := io.ReadAll(from)
+		if err != nil {
+			t.Fatal(err)
+		}
+		return string(content)
+	}
+	for _, path := range []string{"/v1/shop/de.txt", "/v1/shop/de/a", "/openapi.json"} {
+		plain, packed := s.get(path), s.get(path, "Accept-Encoding", "gzip")
+		if packed.Header.Get("Content-Encoding") != "gzip" || unpacked(packed) != plain.Body || len(packed.Body) > len(plain.Body)/2 || plain.Header.Get("Content-Encoding") != "" {
+			t.Errorf("%s: %v, %v", path, packed.Header, plain.Header)
+		}
+		if packed.Tag() == plain.Tag() || !headed("Vary~Accept-Encoding", plain.Header) {
+			t.Errorf("%s: one tag for both, or no Vary: %v", path, plain.Header)
+		}
+		for _, tag := range []string{packed.Tag(), plain.Tag()} {
+			s.run(step{"r GET " + path, "Accept-Encoding: gzip | If-None-Match: " + tag, "", 304, "", "ETag: " + tag})
+		}
+		if head := s.ask("HEAD", path, shopReads, "", "Accept-Encoding", "gzip"); head.Length != packed.Length {
+			t.Errorf("%s: %d", path, head.Length)
+		}
+	}
+	packed := s.get("/v1/shop/de.txt", "Accept-Encoding", "gzip")
+	s.run([]step{{"w PUT /v1/shop/de.txt", "If-Match: " + packed.Tag(), text, 200, "", ""}, {"r GET /v1/shop", "Accept-Encoding: gzip", "", 200, "", "-Content-Encoding"}}...)
+	lines := strings.Repeat(`{"locale":"de","path":"a"}`+"\n", 50)
+	want := s.ask("POST", "/v1/shop/look", shopReads, lines)
+	got := s.ask("POST", "/v1/shop/look", shopReads, lines, "Accept-Encoding", "gzip")
+	if unpacked(got) != want.Body || len(want.Body) < 100000 || want.Header.Get("Content-Encoding") != "" {
+		t.Errorf("%d and %d bytes, %v", len(got.Body), len(want.Body), got.Header)
+	}
+}
+
+// TestTheReasonOfARefusal has the code, the line and a message of a bundle that is refused, and advice for a file of ICU's default
+// format. The codes and lines are those of docs/LANGUAGE.md and docs/FORMAT.md.
+func TestTheReasonOfARefusal(t *testing.T) {
+	s := beside(t)
+	icu := "\x20\x00\xda\x27\x14\x00\x00\x00\x00\x00\x02\x00ResB\x03\x00\x00\x00\x01\x04\x00\x00\x00\x00\x00\x00" + strings.Repeat("\x00", 64)
+	for _, c := range []struct{ path, body, code, line, message string }{
+		{"de.txt", "de{\n open{\"a\"}\n\n\n open{\"b\"}\n}", "DuplicateKey", `"line":5`, "key 'open' is already defined in line 2"},
+		{"de.txt", "de{\n a{\"\xff\"}}", "NotUtf8", `"line":2`, "UTF-8"}, {"de.txt", "de{\n\n bad\xc3\xa4{\"x\"}}", "BadKey", `"line":3`, "key"},
+		{"de.res", icu, "FormatVersion", "", "icu2text"},
+	} {
+		got := s.ask("PUT", "/v1/shop/"+c.path, shopWrites, c.body)
+		if got.Status != 400 || !strings.HasPrefix(got.Error(), "Bad") || !strings.Contains(got.Body, `"code":"`+c.code+`"`) || !strings.Contains(got.Body, c.line) ||
+			!strings.Contains(got.Body, c.message) {
+			t.Errorf("%s: %d %s", c.code, got.Status, got.Body)
+		}
+	}
+	for _, c := range []struct{ name, body, want string }{ // a check stores nothing
+		{"de.txt", "de{a{\"A\"}}", `{"errors":[],"warnings":[]}`},
+		{"de.txt", "de{ days{\n \"lundi\", \"mardi\" \"jeudi\" } }", `{"errors":[],"warnings":[{"line":2,"column":`},
+		{"fr.txt", "de{a{\"A\"}}", `{"errors":[],"warnings":[{"line":1,"message":"the text has the name 'de', and it is put as 'fr'"}]}`},
+		{"de.txt", "de{\n bad\u00e4{}}", `{"errors":[{"code":"BadKey","line":2,"message":"`}, {"de.res", "\x00\x20\xda", `{"errors":[{"code":"`},
+	} {
+		s.run(step{"r POST /v1/shop/_check/" + c.name, "", c.body, 200, c.want, ""})
+	}
+	s.run([]step{{"r POST /v1/shop/_check/de", "", "x", 415, "", ""}, {"r POST /v1/bank/_check/de.txt", "", "x", 403, "", ""}}...)
+	s.names()
+}
+
+// withTree returns a gateway with bundles that inherit from each other, in both forms.
+func withTree(t *testing.T) *site {
+	t.Helper()
+	s := open(t)
+	s.put("fr", `fr{menu{open{"deO"}}}`)
+	file := s.get("/v1/shop/fr.res").Body
+	s.run([]step{{"w DELETE /v1/shop/fr", "", "", 200, "", ""}, {"w PUT /v1/shop/de.res", "", file, 201, "", ""},
+		{"w PUT /v1/shop/root.txt", "", `root{menu{open{"O"} close{"C"}} title{"T"}}`, 201, "", ""}, {"w PUT /v1/shop/de_AT.txt", "", `de_AT{title{"atT"}}`, 201, "", ""},
+		{"b PUT /v1/bank/de_AT.txt", "", `de_AT{title{"bank"}}`, 201, "", ""}}...)
+	return s
+}
+
+// TestTrees have what an item inherits, and a tag that changes with each bundle that may count.
+func TestTrees(t *testing.T) {
+	s := withTree(t)
+	tags := map[string]bool{}
+	for path, want := range map[string]string{
+		"de_AT": `{"menu":{"close":"C","open":"deO"},"title":"atT"}`, "de-at/menu": `{"close":"C","open":"deO"}`, "de_AT/menu/open": `"deO"`,
+		"root": `{"menu":{"close":"C","open":"O"},"title":"T"}`, "xx": `{"menu":{"close":"C","open":"O"},"title":"T"}`,
+	} {
+		at := "r GET /v1/shop/" + path + "?tree"
+		got := s.get("/v1/shop/" + path + "?tree")
+		if tags[got.Tag()] && path != "xx" && path != "root" { // which are equal
+			t.Errorf("%s: the tag of another tree", path)
+		}
+		tags[got.Tag()] = true
+		s.run(step{at, "", "", 200, "=" + want + "\n", "Content-Type: application/json | Resb-Revision"})
+		for _, given := range []string{got.Tag(), "W/" + got.Tag(), `"x", ` + got.Tag(), "*"} {
+			s.run(step{at, "If-None-Match: " + given, "", 304, "=", "ETag: " + got.Tag()})
+		}
+	}
+	s.run([]step{
+		{"r GET /v1/shop/-/menu?tree", "Accept-Language: de-AT", "", 200, "={\"close\":\"C\",\"open\":\"deO\"}\n", "Vary~Accept-Language"},
+		{"r GET /v1/shop/de_AT?tree", "", "", 200, "", "ETag>tag"},
+		{"w PUT /v1/shop/root.txt", "", `root{menu{open{"O"} close{"C2"}}}`, 200, "", "Resb-Revision>now"},
+		{"r GET /v1/shop/de_AT?tree&after={now}", "If-None-Match: {tag}", "", 200, "={\"menu\":{\"close\":\"C2\",\"open\":\"deO\"},\"title\":\"atT\"}\n", ""},
+	}...)
+	vast := "vast{" // each key has the next one twice
+	for i := 'a'; i < 'q'; i++ {
+		vast += fmt.Sprintf("k%c{a:alias{\"/LOCALE/k%c\"} b:alias{\"/LOCALE/k%c\"}} ", i, i+1, i+1)
+	}
+	s.run([]step{
+		{"b PUT /v1/bank/vast.txt", "", vast + "kq{a{\"" + strings.Repeat("x", 4000) + "\"}}}", 201, "", ""},
+		{"r GET /v1/shop/de_AT/none?tree", "", "", 404, "!Missing", "-ETag"}, {"r GET /v1/shop/de_AT/menu/none?tree", "", "", 404, "!Missing", ""},
+		{"b GET /v1/bank/fr?tree", "", "", 404, "!NoBundle", ""}, {"b GET /v1/bank/vast?tree", "", "", 413, "!TreeTooLarge", "-ETag"},
+		{"b GET /v1/shop/de_AT?tree", "", "", 403, "!Forbidden", ""}, {"r GET /v1/shop/d%00e?tree", "", "", 400, "!BadLocale", ""},
+		{"r GET /v1/shop/de/a%00b?tree", "", "", 400, "!BadPath", ""}, {"r GET /v1/shop/--parents=x?tree", "", "", 400, "!BadLocale", ""},
+		{"r GET /v1/shop/de?tree&after=x", "", "", 400, "!BadRevision", ""},
+	}...)
+}

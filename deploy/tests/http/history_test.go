@@ -1,0 +1,306 @@
+package http
+
+import (
+	"bytes"
+	"encoding/json"
+	"fmt"
+	"os"
+	"path/filepath"
+	"strings"
+	"syscall"
+	"testing"
+	"time"
+
+	"luvdregan.example/resb/deploy/tests/harness"
+)
+
+// A past is a change in the reply to a request for the history.
+type past struct {
+	ID, Bytes, Revision       int
+	Locale, Op, Token, SHA256 string
+	Kept                      bool
+	At                        time.Time
+}
+
+func (s *site) past(query string) []past {
+	s.t.Helper()
+	got := s.ask("GET", "/v1/shop/_history"+query, shopWrites, "")
+	var reply struct{ History []past }
+	if err := json.Unmarshal([]byte(got.Body), &reply); err != nil || got.Status != 200 {
+		s.t.Fatalf("%v: %d %s", err, got.Status, got.Body)
+	}
+	return reply.History
+}
+
+// TestTheHistory has each change with the token's name, and earlier versions come back.
+func TestTheHistory(t *testing.T) {
+	s := beside(t)
+	made := strings.TrimSpace(command(t, 0, "", "token", "add", "-tokens", s.Tokens, "-name", "translator", "shop", "write"))
+	eventually(t, "the token is known", func() bool { return s.ask("GET", "/v1/shop", made, "").Status == 200 })
+	began := time.Now().Truncate(time.Millisecond)
+	s.ask("PUT", "/v1/shop/de.txt", made, `de{a{"A"}}`)
+	s.ask("PUT", "/v1/bank/de.txt", bankWrites, `de{a{"Z"}}`)
+	s.put("de", `de{a{"B"}}`)
+	s.put("fr", `fr{a{"F"}}`)
+	s.ask("DELETE", "/v1/shop/de", shopWrites, "")
+	all := s.past("")
+	if len(all) != 4 || all[3].Token != "translator" || all[3].Op != "install" || all[3].Bytes != 10 || all[2].Op != "replace" || all[0].Op != "remove" ||
+		all[1].Locale != "fr" || len(all[1].SHA256) != 64 || len(all[2].Token) != 8 || !all[3].Kept {
+		t.Fatalf("%+v", all)
+	}
+	for i, later := 0, time.Now(); i < len(all); i++ {
+		if all[i].Revision != 4-i || all[i].At.After(later) || all[i].At.Before(began) {
+			t.Errorf("%+v after %v", all[i], later)
+		}
+		later = all[i].At
+	}
+	if some := s.past("?locale=DE&last=1&before=" + fmt.Sprint(all[0].ID)); len(some) != 1 || some[0].ID != all[2].ID {
+		t.Errorf("%+v", some)
+	}
+	first, removal := fmt.Sprint(all[3].ID), fmt.Sprint(all[0].ID)
+	s.run([]step{
+		{"w GET /v1/shop/_history/" + first + ".txt", "", "", 200, `=de{a{"A"}}`, "ETag"}, {"w GET /v1/shop/_history/" + first + ".json", "", "", 200, `{"a":"A"}`, "ETag"},
+		{"w POST /v1/shop/_history/" + first + "/restore", "", "", 201, "", "Resb-Revision: 5"}, {"r GET /v1/shop/de/a", "", "", 200, `"A"`, ""},
+		{"w POST /v1/shop/_history/" + removal + "/restore", `If-Match: "nonsense"`, "", 412, "", ""},
+		{"w POST /v1/shop/_history/" + removal + "/restore", "", "", 200, "", ""}, {"r GET /v1/shop", "", "", 200, "={\"names\":[\"fr\"]}\n", ""},
+		{"w GET /v1/shop/_history?last=1001", "", "", 400, "", ""}, {"w GET /v1/shop/_history?last=x", "", "", 400, "", ""},
+		{"w GET /v1/shop/_history/99999.txt", "", "", 404, "!NoVersion", ""}, {"w GET /v1/shop/_history/x.txt", "", "", 404, "", ""},
+		{"w GET /v1/shop/_history/" + removal + ".txt", "", "", 404, "", ""}, {"w GET /v1/bank/_history/" + first + ".txt", "", "", 403, "", ""},
+		{"w POST /v1/shop/_history/9999/restore", "", "", 404, "", ""}, {"w POST /v1/shop/_history", "", "", 405, "", ""}, {"w GET /v1/shop/_none", "", "", 404, "", ""},
+		{"w PUT /v1/shop/_history/x.txt", "", "", 405, "", ""}, {"w GET /v1/shop/_history/" + first, "", "", 404, "", ""}, {"r GET /v1/shop/_history", "", "", 403, "", ""},
+		{"b GET /v1/bank/_history/" + fmt.Sprint(all[1].ID) + ".txt", "", "", 404, "", ""},
+	}...)
+	for i := 0; i < 103; i++ {
+		s.put("it", fmt.Sprintf(`it{a{"%d"}}`, i))
+	}
+	if len(s.past("")) != 100 || len(s.past("?last=103&locale=it")) != 103 || len(s.past("?last=0")) != 0 || len(s.past("?last=1000")) != 109 {
+		t.Errorf("%d", len(s.past("?last=1000")))
+	}
+	before := s.past("?last=1000")
+	if s.Restart(); fmt.Sprint(s.past("?last=1000")) != fmt.Sprint(before) {
+		t.Error("the history is another one after a start")
+	}
+}
+
+// TestDifferences lists what changed between two versions of a bundle, also of its removal and of another locale.
+func TestDifferences(t *testing.T) {
+	s := beside(t)
+	s.put("de", `de{a{"A"}}`)
+	s.put("de", `de{/* a comment */ a{"B"}}`)
+	s.ask("DELETE", "/v1/shop/de", shopWrites, "")
+	all := s.past("")
+	first, second, removal := fmt.Sprint(all[2].ID), fmt.Sprint(all[1].ID), fmt.Sprint(all[0].ID)
+	for versions, want := range map[string]string{
+		first + " " + second: `[{"new":"B","old":"A","path":"a"}]`, second + " " + first: `[{"new":"A","old":"B","path":"a"}]`, first + " " + first: `[]`,
+		first + " " + removal: `[{"old":"A","path":"a"}]`, removal + " " + second: `[{"new":"B","path":"a"}]`, removal + " " + removal: `[]`,
+	} {
+		from, to, _ := strings.Cut(versions, " ")
+		s.run(step{"w GET /v1/shop/_history/" + from + "/diff?with=" + to, "", "", 200, fmt.Sprintf("={\"changes\":%s,\"from\":%s,\"to\":%s}\n", want, from, to), "Cache-Control: no-store"})
+	}
+	for address, want := range map[string]int{first + "/diff": 400, first + "/diff?with=": 400, first + "/diff?with=x": 400, first + "/diff?with=-1": 400,
+		first + "/diff?with=99999999": 404, "99999999/diff?with=" + first: 404, "x/diff?with=" + first: 404, first + "/diff/x": 404} {
+		s.run(step{"w GET /v1/shop/_history/" + address, "", "", want, "", ""})
+	}
+	s.run([]step{{"r GET /v1/shop/_history/" + first + "/diff?with=" + second, "", "", 403, "", ""},
+		{"w PUT /v1/shop/_history/" + first + "/diff?with=" + second, "", "x", 405, "", "Allow: GET, HEAD, OPTIONS"}}...)
+}
+
+// TestErase gives a new owner nothing of an application: no bundles, and no history.
+func TestErase(t *testing.T) {
+	s := beside(t)
+	for _, text := range []string{"A", "B", "C"} {
+		s.put("de", `de{a{"a-secret-`+text+`"}}`)
+		s.put(text+text, `x{a{"a-secret-`+text+`"}}`)
+	}
+	s.run([]step{{"b PUT /v1/bank/de.txt", "", `de{a{"Z"}}`, 201, "", ""}, {"r DELETE /v1/shop?erase", "", "", 403, "", ""}, {"b DELETE /v1/shop?erase", "", "", 403, "", ""},
+		{"w DELETE /v1/shop", "", "", 400, "", ""}, {"w DELETE /v1/shop?erase=false", "", "", 400, "!BadQuery", ""},
+		{"w DELETE /v1/shop?erase", "", "", 200, "=" + yes, ""}, {"r GET /v1/shop", "", "", 200, "={\"names\":[]}\n", "Resb-Revision: 7"}, {"b GET /v1/bank/de/a", "", "", 200, `"Z"`, ""}}...)
+	if all := s.past(""); len(all) != 0 {
+		t.Errorf("%+v", all)
+	}
+	if files := s.filesWith("a-secret"); len(files) > 0 {
+		t.Errorf("%s have a part of it", files)
+	}
+	if got := s.put("de", `de{a{"N"}}`); got.Revision() != 8 || len(s.past("")) != 1 {
+		t.Errorf("%v %+v", got.Header, s.past(""))
+	}
+}
+
+// filesWith returns the files of the state that have a text.
+func (s *site) filesWith(text string) (all []string) {
+	_ = filepath.Walk(s.State, func(path string, _ os.FileInfo, _ error) error {
+		if content, err := os.ReadFile(path); err == nil && bytes.Contains(content, []byte(text)) {
+			all = append(all, path)
+		}
+		return nil
+	})
+	return all
+}
+
+// patch sends a merge patch.
+func (s *site) patch(path, body string, headers ...string) harness.Answer {
+	s.t.Helper()
+	return s.ask("PATCH", path, shopWrites, body, append([]string{"Content-Type", asPatch}, headers...)...)
+}
+
+// TestPatches change single items of a bundle, which keeps its form.
+func TestPatches(t *testing.T) {
+	s := beside(t)
+	s.put("de", `de{menu{open{"A"} close{"B"}} title{"T"}}`)
+	s.run(step{"w PUT /v1/shop/fr.res", "", s.get("/v1/shop/de.res").Body, 201, "", ""})
+	for locale, form := range map[string]string{"de": ".txt", "fr": ".res"} {
+		before := s.get("/v1/shop/" + locale + ".json")
+		got := s.patch("/v1/shop/"+locale, `{"menu":{"open":"Ö \"","close":null,"new":"N"},"title":null}`)
+		if got.Status != 200 || got.Body != yes || got.Revision() < 0 || got.Tag() == before.Tag() {
+			t.Errorf("%s: %d %s %v", locale, got.Status, got.Body, got.Header)
+		}
+		s.run(step{"r GET /v1/shop/" + locale + ".json", "", "", 200, "={\"menu\":{\"new\":\"N\",\"open\":\"Ö \\\"\"}}\n", ""})
+		kept := s.get("/v1/shop/" + locale + form)
+		if kept.Tag() != got.Tag() || strings.HasPrefix(kept.Body, "de") != (locale == "de") {
+			t.Errorf("%s: %v %q", locale, kept.Header, kept.Body)
+		}
+		again := s.patch("/v1/shop/"+locale+".json", `{"menu":{"new":"N","close":null}}`)
+		if n := len(s.past("?locale=" + locale)); again.Status != 200 || again.Tag() != got.Tag() || n != 2 {
+			t.Errorf("%s: nothing is changed, and %d %v, %d versions", locale, again.Status, again.Header, n)
+		}
+	}
+	if one := s.past("?locale=de")[0]; one.Op != "replace" {
+		t.Errorf("%+v", one)
+	}
+}
+
+// TestPatchesThatAreRefused change nothing.
+func TestPatchesThatAreRefused(t *testing.T) {
+	s := beside(t, "-text-bytes", "2000")
+	tag := s.put("de", `de{a{"A"}}`).Tag()
+	for _, c := range []step{
+		{"shop/fr", "", `{"a":"B"}`, 404, "!Absent", ""}, {"shop/de", `If-Match: "x"`, `{"a":"B"}`, 412, "!PreconditionFailed", ""},
+		{"shop/de", "Content-Type: application/json", `{"a":"B"}`, 415, "!BadType", "Accept-Patch: " + asPatch},
+		{"shop/de", "Content-Encoding: gzip", `{"a":"B"}`, 415, "!BadType", "Accept-Patch: " + asPatch}, {"shop/de", "", strings.Repeat(" ", 2001), 413, "!TooLarge", ""},
+		{"shop/de", "", `{"a":"` + strings.Repeat("x", 1992) + `"}`, 413, "!TooLarge", ""}, {"shop/de", "", ``, 400, `"code":"NotJson","column":1`, ""},
+		{"shop/de", "", "{\n \"a\": ]}", 400, `{"code":"NotJson","column":7,"error":"BadPatch","line":2`, ""}, {"shop/de", "", `"text"`, 400, "NotTable", ""},
+		{"shop/de", "", "{\n \"m\":{\"n\":\"B\", \"bad\u00e4\":\"C\"}}", 400, `"error":"BadPatch","line":2`, ""}, {"bank/de", "", `{}`, 403, "!Forbidden", ""},
+		{"shop/de", "", `{"a":"B","a":"C"}`, 400, `{"code":"DuplicateKey","column":14,"error":"BadPatch","line":1,`, ""}, {"shop/de/a", "", `"B"`, 405, "!NotAllowed", ""},
+		{"shop/de", "", `{"a":"B","c":[true]}`, 400, `"code":"UnknownValue"`, ""}, {"shop/de", "", `{"m":{"n":{"bad` + "\u00e4" + `":"C"}}}`, 400, `"path":"/m/n`, ""},
+	} {
+		c.do, c.headers = "w PATCH /v1/"+c.do, "Content-Type: "+asPatch+" | "+c.headers
+		s.run(c)
+	}
+	s.run([]step{{"r PATCH /v1/shop/de", "Content-Type: " + asPatch, `{"a":"B"}`, 403, "", ""}, {"r GET /v1/shop/de.txt", "", "", 200, "", "ETag: " + tag},
+		{"w PATCH /v1/shop/de", "Content-Type: " + asPatch + " | If-Match: " + tag, `{"a":"B"}`, 200, "", ""},
+		{"w PATCH /v1/shop/de", "Content-Type: " + asPatch + " | If-Match: " + tag, `{"a":"C"}`, 412, "", ""},
+		{"w PATCH /v1/shop/de", "Content-Type: " + asPatch + " | Content-Encoding: Identity", `{"a":"C"}`, 200, "", ""}}...)
+	s = open(t, "-body-bytes", "300000")
+	long := `de{a{"` + strings.Repeat("x", 80000) + `"}}`
+	s.put("de", long)
+	for i := 0; i < 3; i++ { // over what an application may have of the memory
+		s.run(step{"w PATCH /v1/shop/de", "Content-Type: " + asPatch, `{"b":"B"}`, 429, "!TooMany", ""})
+	}
+	s.put("de", long)
+}
+
+// TestPatchesAtOnce has 8 callers patch a key each at the same time, five times: no patch is lost.
+func TestPatchesAtOnce(t *testing.T) {
+	s := beside(t)
+	s.put("de", `de{a{"A"}}`)
+	const writers, rounds = 8, 5
+	harness.Together(writers, func(w int) {
+		for i := 1; i <= rounds; {
+			got, err := harness.Send(harness.Client, "PATCH", s.URL+"/v1/shop/de", shopWrites, fmt.Sprintf(`{"w%c":"%d"}`, 'a'+w, i), "Content-Type", asPatch)
+			switch {
+			case err == nil && got.Status == 200:
+				i++
+			case err != nil || got.Status != 503 && got.Status != 504: // too many others changed it
+				t.Error(err, got.Status, got.Body)
+				return
+			}
+		}
+	})
+	want := `{"a":"A"`
+	for w := 0; w < writers; w++ {
+		want += fmt.Sprintf(`,"w%c":"%d"`, 'a'+w, rounds)
+	}
+	s.has("/de.json", want+"}\n")
+	if n := len(s.past("")); n != 1+writers*rounds {
+		t.Errorf("%d versions", n)
+	}
+}
+
+// journal reads the lines of a log that are about an application. None may have a token.
+func journal(t *testing.T, path string) (all []map[string]any) {
+	t.Helper()
+	content, err := os.ReadFile(path)
+	if err != nil {
+		t.Fatal(err)
+	}
+	for _, line := range strings.SplitAfter(string(content), "\n") {
+		var value map[string]any
+		if err := json.Unmarshal([]byte(line), &value); err != nil && strings.HasSuffix(line, "\n") {
+			t.Errorf("%v: %s", err, line)
+		}
+		if value["app"] != nil {
+			all = append(all, value)
+		}
+	}
+	for _, token := range []string{shopWrites, shopReads, "nobody"} {
+		if bytes.Contains(content, []byte(token)) {
+			t.Errorf("%s has a token", path)
+		}
+	}
+	return all
+}
+
+// TestLogs has a line of JSON for each request and each change that was asked for, made or not, whatever callers send, and no token in
+// any.
+func TestLogs(t *testing.T) {
+	t.Parallel()
+	folder := t.TempDir()
+	access, audit := filepath.Join(folder, "access"), filepath.Join(folder, "audit")
+	s := open(t, "-access-log", access, "-audit-log", audit, "-proxies", "127.0.0.0/8")
+	const patches = "Content-Type: " + asPatch
+	s.run([]step{
+		{"w PUT /v1/shop/de.txt?token=" + shopWrites, `User-Agent: a"<b> | X-Forwarded-For: 10.1.1.1, 192.0.2.7`, `de{a{"A"}}`, 201, "", ""},
+		{"w PUT /v1/shop/de.txt", "", `de{bad}`, 400, "", ""}, {"w DELETE /v1/shop/fr", "", "", 404, "", ""},
+		{"w PUT /v1/shop/de.txt", "If-None-Match: *", `de{a{"B"}}`, 412, "", ""}, {"w DELETE /v1/shop/de", `If-Match: "nonsense"`, "", 412, "", ""},
+		{"r PUT /v1/shop/de.txt", "", "de{}", 403, "", ""}, {"b PUT /v1/shop/de.txt", "", "de{}", 403, "", ""},
+		{"w PATCH /v1/shop/de", patches, `{"a":"B"}`, 200, "", ""}, {"w PATCH /v1/shop/de", patches, `{"a":`, 400, "", ""},
+		{"w PATCH /v1/shop/fr", patches, `{}`, 404, "", ""}, {"w PUT /v1/shop/de", "", "de{}", 415, "", ""},
+		{"w PUT /v1/shop/de.txt", "", "de{a{\"\xff\"}}", 400, "", ""}, {"w PUT /v1/shop/de.txt?strict", "", "fr{}", 409, "", ""},
+		{"w POST /v1/shop/_releases", "Content-Type: " + asLines, "nonsense", 400, "", ""}, {"r DELETE /v1/shop?erase", "", "", 403, "", ""},
+	}...)
+	s.get("/v1/shop/%22%0a%ff")
+	s.ask("GET", "/v1/shop/de", "nobody's token, which is long enough", "")
+	eventually(t, "all requests are logged", func() bool { return len(journal(t, access)) == 17 })
+	requests, changes := journal(t, access), journal(t, audit)
+	if requests[0]["from"] != "192.0.2.7" || changes[0]["from"] != "192.0.2.7" || requests[1]["from"] != "127.0.0.1" {
+		t.Errorf("from %v, %v and then %v", requests[0]["from"], changes[0]["from"], requests[1]["from"])
+	}
+	first := requests[0]
+	if first["path"] != "/v1/shop/de.txt" || first["status"] != 201.0 || first["app"] != "shop" || len(fmt.Sprint(first["token"])) != 8 || first["method"] != "PUT" {
+		t.Errorf("%v", first)
+	}
+	if requests[16]["token"] != nil || requests[16]["status"] != 401.0 {
+		t.Errorf("%v", requests[16])
+	}
+	var results []string // before a change is judged it isn't known whether it installs or replaces
+	for _, one := range changes {
+		results = append(results, fmt.Sprint(one["app"], " ", one["result"]))
+	}
+	want := "ok BadText Absent PreconditionFailed PreconditionFailed Forbidden Forbidden ok BadPatch Absent BadType BadText OtherName BadRelease Forbidden"
+	if got := strings.ReplaceAll(strings.Join(results, " "), "shop ", ""); got != want {
+		t.Errorf("%s, and not %s", got, want)
+	}
+	if changes[0]["sha256"] == nil || changes[0]["bytes"] != 10.0 {
+		t.Errorf("%v", changes[0])
+	}
+	if err := os.Rename(access, access+".1"); err != nil {
+		t.Fatal(err)
+	}
+	s.Signal(syscall.SIGHUP)
+	eventually(t, "the log is opened again", func() bool {
+		_, err := os.Stat(access)
+		return err == nil
+	})
+	s.get("/v1/shop")
+	eventually(t, "the new log has a line", func() bool { return len(journal(t, access)) == 1 })
+}

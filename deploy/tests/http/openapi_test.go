@@ -1,0 +1,121 @@
+package http
+
+import (
+	"bytes"
+	"os"
+	"os/exec"
+	"path/filepath"
+	"regexp"
+	"sort"
+	"strings"
+	"testing"
+)
+
+// TestTheDescriptionHasTheRoutes compares the methods that openapi.json has of each address with those
+// that the gateway says by OPTIONS. `describes` compares the statuses of all requests of the tests.
+func TestTheDescriptionHasTheRoutes(t *testing.T) {
+	s := open(t)
+	s.describe()
+	for path, methods := range described.paths {
+		if !strings.HasPrefix(path, "/v1/") || path == "/v1/{app}/look" || strings.Contains(path, "}.") { // the address of a locale has more
+			continue
+		}
+		want := []string{"OPTIONS"}
+		if methods["get"] != nil {
+			want = append(want, "HEAD")
+		}
+		for method := range methods {
+			if method != "parameters" {
+				want = append(want, strings.ToUpper(method))
+			}
+		}
+		got := s.ask("OPTIONS", strings.NewReplacer("{app}", "shop", "{locale}", "de", "{path}", "a/b", "{id}", "1").Replace(path), shopWrites, "")
+		may := strings.Split(got.Header.Get("Allow"), ", ")
+		sort.Strings(may)
+		sort.Strings(want)
+		if got.Status != 204 || strings.Join(may, " ") != strings.Join(want, " ") {
+			t.Errorf("%s: %d, %v are answered and %v described", path, got.Status, may, want)
+		}
+	}
+}
+
+// TestTheDescriptionHasTheErrors compares the error codes that openapi.json names with those that are explained.
+func TestTheDescriptionHasTheErrors(t *testing.T) {
+	open(t).describe()
+	explained, err := os.ReadFile("../../../crates/rb_explain/src/words.rt")
+	if err != nil {
+		t.Fatal(err)
+	}
+	named := map[string]bool{}
+	for _, one := range regexp.MustCompile("`([A-Z]\\w+)`").FindAllStringSubmatch(described.text, -1) {
+		named[one[1]] = true
+	}
+	for word := range named {
+		if !bytes.Contains(explained, []byte("\n"+word+"\\t")) {
+			t.Errorf("%s isn't explained", word)
+		}
+	}
+	if len(named) < 35 {
+		t.Errorf("only %d error codes are named", len(named))
+	}
+}
+
+// TestTheTestsOfInvariants looks for each test that docs/ARCHITECTURE.md names.
+func TestTheTestsOfInvariants(t *testing.T) {
+	page, err := os.ReadFile("../../../docs/ARCHITECTURE.md")
+	if err != nil {
+		t.Fatal(err)
+	}
+	var sources strings.Builder
+	for _, pattern := range []string{"*_test.go", "../*/*_test.go", "../../internal/*/*_test.go", "../../internal/*/*/*_test.go"} {
+		files, _ := filepath.Glob(pattern)
+		for _, file := range files {
+			content, _ := os.ReadFile(file)
+			sources.Write(content)
+		}
+	}
+	named := regexp.MustCompile("`(Test[A-Z]\\w+)`").FindAllSubmatch(page, -1)
+	for _, one := range named {
+		if !strings.Contains(sources.String(), "\nfunc "+string(one[1])+"(t *testing.T)") {
+			t.Errorf("there is no test %s", one[1])
+		}
+	}
+	if len(named) < 5 {
+		t.Errorf("only %d tests are named", len(named))
+	}
+}
+
+// validator fails if a description isn't one by the schema of the OpenAPI Initiative, which comes with Perl's JSON::Validator.
+const validator = `use strict; use warnings; use OpenAPI::Client; use JSON::Validator;
+my $schema = JSON::Validator->new->schema($ARGV[0])->schema;
+die join("\n", @{$schema->errors}), "\n" if @{$schema->errors};
+`
+
+// generator prints the operations of a client that Perl's OpenAPI::Client makes of a description, and what it gets.
+const generator = `my $client = OpenAPI::Client->new($ARGV[0], base_url => $ARGV[1]);
+$client->ua->on(start => sub { $_[1]->req->headers->authorization("Bearer $ARGV[2]") });
+print join(" ", grep { $client->can($_) } qw(list look put remove history release restore erase getTxt)), "\n";
+my $put = $client->put({app => "shop", locale => "de.txt"}, body => 'de{a{"A"}}');
+print $client->look({app => "shop", locale => "de", path => "a"})->res->json->{value}, "\n";
+print scalar @{$client->history({app => "shop", last => 10})->res->json->{history}}, "\n";
+print $client->history({app => "shop", last => "many"})->res->code, "\n";
+print $client->getTxt({app => "shop", locale => "de"})->res->body, "\n";
+`
+
+// TestTheDescriptionMakesAClient has Debian's libopenapi-client-perl judge the description and make a client of it.
+func TestTheDescriptionMakesAClient(t *testing.T) {
+	if exec.Command("perl", "-MOpenAPI::Client", "-e", "1").Run() != nil {
+		t.Skip("skipped: libopenapi-client-perl is not there")
+	}
+	s := open(t)
+	s.put("de", `de{a{"A"}}`)
+	spoiled := fileOf(t, strings.Replace(described.text, `"parameters":`, `"answers":1,"parameters":`, 1))
+	if text, err := exec.Command("perl", "-e", validator, spoiled).CombinedOutput(); err == nil || !strings.Contains(string(text), "Properties not allowed: answers") {
+		t.Errorf("a description with an unknown member: %v %s", err, text)
+	}
+	text, err := exec.Command("perl", "-e", validator+generator, s.URL+"/openapi.json", s.URL, shopWrites).CombinedOutput()
+	const want = "list look put remove history release restore erase getTxt\nA\n1\n400\nde{a{\"A\"}}\n"
+	if err != nil || string(text) != want {
+		t.Errorf("%v\n%s", err, text)
+	}
+}

@@ -1,0 +1,431 @@
+package http
+
+import (
+	"crypto/ecdsa"
+	"crypto/elliptic"
+	"crypto/rand"
+	"crypto/tls"
+	"crypto/x509"
+	"crypto/x509/pkix"
+	"encoding/json"
+	"encoding/pem"
+	"errors"
+	"fmt"
+	"io"
+	"math/big"
+	"net"
+	"net/http"
+	"net/http/httptest"
+	"os"
+	"path/filepath"
+	"strings"
+	"syscall"
+	"testing"
+	"time"
+
+	"luvdregan.example/resb/deploy/tests/harness"
+)
+
+// command runs a command of the gateway to its end, and fails unless it ends with a status and prints a text.
+func command(t *testing.T, status int, want string, arguments ...string) string {
+	t.Helper()
+	got, text := harness.Run(t, arguments...)
+	if got != status || !strings.Contains(text, want) {
+		t.Errorf("%q: status %d: %s, and not %d %s", arguments, got, text, status, want)
+	}
+	return text
+}
+
+// fileOf writes a file.
+func fileOf(t *testing.T, text string) string {
+	t.Helper()
+	path := filepath.Join(t.TempDir(), "file")
+	if err := os.WriteFile(path, []byte(text), 0o600); err != nil {
+		t.Fatal(err)
+	}
+	return path
+}
+
+// TestErrorsOfTheConfiguration names the line and what is wrong there.
+func TestErrorsOfTheConfiguration(t *testing.T) {
+	t.Parallel()
+	for text, want := range map[string]string{
+		"{\n \"init\": true,\n \"memry\": 1\n}":     `line 3: there is no option "memry"`,
+		"{\n \"config\": \"x\"\n}":                  `line 2: there is no option "config"`,
+		"{\n \"version\": true\n}":                  `line 2: there is no option "version"`,
+		"{\n \"init\":\n\n true,\n \"init\": true}": `line 5: "init" is there twice`,
+		"{\n \"init\": \"true\"}":                   `line 2: "init" must be true or false`,
+		"{\n\n \"each\": \"5\"}":                    `line 3: "each" must be a number`,
+		"{\n \"each\": 1.5}":                        `line 2: "each" can't be 1.5`,
+		"{\n \"each\": 99999999999999999999}":       `line 2: "each" can't be`,
+		"{\n \"patience\": 30}":                     `line 2: "patience" must be a text such as "30s"`,
+		"{\n \"patience\": \"30\"}":                 `line 2: "patience" can't be 30`,
+		"{\n \"listen\": 6422}":                     `line 2: "listen" must be a text`,
+		"{\n \"listen\": {\n}}":                     `line 2: "listen" must be a text`,
+		"{\n \"init\": true\n \"each\": 1}":         `line 3: invalid character`,
+		"{\n \"init\": true,\n}":                    `line 3: invalid character`,
+		"{\n \"init\": tru\n}":                      `line 2: invalid character`,
+		"{\n \"init\": true":                        `line 2: unexpected end`,
+		"{}\n{}":                                    `line 2: invalid character`,
+		"[]":                                        `line 1: the file must be a JSON object`,
+		"null":                                      `line 1: the file must be a JSON object`,
+		"":                                          `line 1: unexpected end`,
+		"# no comments\n{}":                         `line 1: invalid character`,
+		"{\"state\": \"x\"}":                        "-tokens",
+		"{\"state\": \"\", \"tokens\": \"x\"}":      "-state",
+		"{\"log\": \"xml\", \"tokens\": \"x\"}":     "-log",
+		"{\"origins\": \"shop.example\", \"tokens\": \"x\", \"state\": \"y\"}": "shop.example",
+		"{\"origins\": \"https://a/b\", \"tokens\": \"x\", \"state\": \"y\"}":  "https://a/b",
+		"{\"cert\": \"x\", \"tokens\": \"x\", \"state\": \"y\"}":               "key",
+		"{\"text-bytes\": 999999999999, \"tokens\": \"x\", \"state\": \"y\"}":  "8 MB",
+		"{\"file-bytes\": 999999999999, \"tokens\": \"x\", \"state\": \"y\"}":  "64 MB",
+	} {
+		command(t, 2, want, "-config", fileOf(t, text))
+	}
+	command(t, 2, "no such file", "-config", filepath.Join(t.TempDir(), "none"))
+}
+
+// TestCheckConfig ends with 0 or 2, and makes nothing. The command line wins over the file.
+func TestCheckConfig(t *testing.T) {
+	t.Parallel()
+	state, tokens, wrong := filepath.Join(t.TempDir(), "state"), fileOf(t, harness.Tokens), fileOf(t, "shop")
+	program := os.Getenv("RESB")
+	if program == "" {
+		program = os.Args[0]
+	}
+	check := func(status int, want string, more ...string) {
+		t.Helper()
+		command(t, status, want, append([]string{"-check-config", "-init", "-state", state, "-tokens", tokens, "-program", program}, more...)...)
+	}
+	check(0, "can be used")
+	check(0, "can be used", "-config", fileOf(t, `{"each": 4}`))
+	check(0, "can be used", "-config", fileOf(t, `{"listen": "nowhere", "tokens": "/none"}`), "-listen", "127.0.0.1:0")
+	check(2, "line 2", "-config", fileOf(t, "{\n\"eech\": 4}"))
+	check(2, "no such file", "-tokens", filepath.Join(state, "none"))
+	check(2, "line 1", "-tokens", wrong)
+	check(2, "no such file", "-init=false")
+	check(2, "/nonexistent/resb", "-program", "/nonexistent/resb")
+	check(2, "nowhere", "-listen", "nowhere")
+	check(2, "tls", "-cert", wrong, "-key", wrong)
+	check(2, "-each", "-each", "x")
+	if _, err := os.Stat(state); !os.IsNotExist(err) {
+		t.Error("the folder of the state was made")
+	}
+	command(t, 0, "resb-gateway ", "-version")
+}
+
+// TestTheExampleHasEveryOption compares gateway.example.json with the options that the command line has.
+func TestTheExampleHasEveryOption(t *testing.T) {
+	t.Parallel()
+	content, err := os.ReadFile(harness.Top("deploy/gateway.example.json"))
+	var all map[string]json.RawMessage
+	if err != nil || json.Unmarshal(content, &all) != nil {
+		t.Fatal(err, string(content))
+	}
+	help := command(t, 0, "-listen", "-help")
+	for _, line := range strings.Split(help, "\n") {
+		name := strings.TrimPrefix(strings.TrimSpace(line), "-")
+		if name, _, _ = strings.Cut(name, " "); !strings.HasPrefix(line, "  -") || strings.Contains(" config check-config version help ", " "+name+" ") {
+			continue
+		}
+		if all[name] == nil {
+			t.Errorf("the example lacks %s", name)
+		}
+		delete(all, name)
+	}
+	if len(all) > 0 {
+		t.Errorf("more than the options: %v", all)
+	}
+}
+
+// TestTokenCommands make, list and revoke tokens under a running gateway.
+func TestTokenCommands(t *testing.T) {
+	s := beside(t)
+	made := strings.TrimSpace(command(t, 0, "", "token", "add", "-tokens", s.Tokens, "-name", "ci", "-expires", "90d", "shop", "read"))
+	status := func(token string) int { return s.ask("GET", "/v1/shop", token, "").Status }
+	eventually(t, "the token is known", func() bool { return status(made) == 200 })
+	if text := command(t, 0, "ci\t", "token", "list", "-tokens", s.Tokens); len(made) != 48 || !strings.Contains(text, "\tshop\tread\texpires 20") || strings.Contains(text, made) {
+		t.Error(made, text)
+	}
+	command(t, 0, "1 removed", "token", "revoke", "-tokens", s.Tokens, "ci")
+	eventually(t, "the token is revoked", func() bool { return status(made) == 401 })
+	const fresh = "fresh-0123456789-0123456789"
+	if err := os.WriteFile(s.Tokens, []byte(harness.TokenLine("shop", "read", fresh)+"shop read abc\n"), 0o600); err != nil {
+		t.Fatal(err)
+	}
+	eventually(t, "the line without a fault is read", func() bool { return status(fresh) == 200 })
+	if status(shopReads) != 401 || s.measured()["resb_tokens_file_bad"] != 1 {
+		t.Error("after a wrong line")
+	}
+	for _, wrong := range []string{"revoke|ci", "add|shop|sing", "add|sh/op|read", "add|-expires|2001-01-01|shop|read", "add|-name|a b|shop|read", "add|shop read|read", "add|#shop|read"} {
+		words := strings.Split(wrong, "|")
+		command(t, 1, "", append([]string{"token", words[0], "-tokens", s.Tokens}, words[1:]...)...)
+	}
+	for _, wrong := range []string{"", "add", "list", "sing -tokens " + s.Tokens, "add -tokens " + s.Tokens + " shop"} {
+		command(t, 2, "usage:", append([]string{"token"}, strings.Fields(wrong)...)...)
+	}
+}
+
+// TestAGatewayThatFailsLeavesNoToken starts a gateway with a further token: at an address that is taken, and well.
+func TestAGatewayThatFailsLeavesNoToken(t *testing.T) {
+	t.Parallel()
+	taken, err := net.Listen("tcp", "127.0.0.1:0")
+	if err != nil {
+		t.Fatal(err)
+	}
+	defer taken.Close()
+	const added = "a-token-that-is-added-later"
+	more := fileOf(t, harness.TokenLine("post", "write", added))
+	s := prepare(t, "-add-tokens", more)
+	command(t, 1, "", append(append([]string{}, s.Args[1:]...), "-listen", taken.Addr().String())...)
+	if content, _ := os.ReadFile(s.Tokens); string(content) != harness.Tokens {
+		t.Errorf("%s", content)
+	}
+	if err := os.WriteFile(more, []byte(harness.TokenLine("post", "write", added)), 0o600); err != nil {
+		t.Fatal(err)
+	}
+	s.Restart()
+	eventually(t, "the token is stored", func() bool {
+		content, _ := os.ReadFile(s.Tokens)
+		_, err := os.Stat(more)
+		return strings.Contains(string(content), harness.TokenLine("post", "write", added)) && os.IsNotExist(err)
+	})
+	if got := s.ask("GET", "/v1/post", added, ""); got.Status != 200 {
+		t.Errorf("%d %s", got.Status, got.Body)
+	}
+}
+
+// writePair makes a certificate for 127.0.0.1 with a serial number, in the files `cert` and `key` of a folder.
+func writePair(t *testing.T, folder string, serial int64, at time.Time) {
+	t.Helper()
+	key, err := ecdsa.GenerateKey(elliptic.P256(), rand.Reader)
+	if err != nil {
+		t.Fatal(err)
+	}
+	about := x509.Certificate{SerialNumber: big.NewInt(serial), Subject: pkix.Name{CommonName: "gateway"}, NotAfter: time.Now().Add(time.Hour), DNSNames: []string{"localhost"}}
+	cert, err := x509.CreateCertificate(rand.Reader, &about, &about, &key.PublicKey, key)
+	if err != nil {
+		t.Fatal(err)
+	}
+	secret, err := x509.MarshalECPrivateKey(key)
+	if err != nil {
+		t.Fatal(err)
+	}
+	for name, block := range map[string]*pem.Block{"key": {Type: "EC PRIVATE KEY", Bytes: secret}, "cert": {Type: "CERTIFICATE", Bytes: cert}} {
+		if err := os.WriteFile(filepath.Join(folder, name), pem.EncodeToMemory(block), 0o600); err != nil {
+			t.Fatal(err)
+		}
+		_ = os.Chtimes(filepath.Join(folder, name), at, at)
+	}
+}
+
+// TestTLS speaks HTTP over TLS, and changes the certificate meanwhile, by files that are older than the ones before too.
+func TestTLS(t *testing.T) {
+	t.Parallel()
+	folder := t.TempDir()
+	writePair(t, folder, 1, time.Now())
+	s := prepare(t, "-cert", filepath.Join(folder, "cert"), "-key", filepath.Join(folder, "key"), "-header-time", "3s", "-read-time", "4s")
+	s.Health = s.Inside + "/readyz"
+	s.Restart()
+	trusting := &tls.Config{InsecureSkipVerify: true}
+	get := func() (*http.Response, error) {
+		client := &http.Client{Transport: &http.Transport{TLSClientConfig: trusting, DisableKeepAlives: true}}
+		r, _ := http.NewRequest("GET", "https://"+s.Address+"/v1/shop", nil)
+		r.Header.Set("Authorization", "Bearer "+shopReads)
+		got, err := client.Do(r)
+		if err == nil {
+			_ = got.Body.Close()
+		}
+		return got, err
+	}
+	got, err := get()
+	if err != nil || got.StatusCode != 200 || got.TLS.PeerCertificates[0].SerialNumber.Int64() != 1 || got.Header.Get("Strict-Transport-Security") == "" {
+		t.Fatalf("%v, %v", err, got)
+	}
+	if text := s.raw("GET / HTTP/1.1\r\nHost: x\r\n\r\n"); !strings.HasPrefix(text, "HTTP/1.0 400 ") {
+		t.Errorf("without TLS: %q", text)
+	}
+	slow := [][2]string{{"\x16\x03\x01\x02", ""}, {"", ""}, {"GET /v1/sh", "408"}, {"GET / HTTP/1.1\r\nHost: x\r\nA: b", "408"},
+		{begins("w PUT /v1/shop/fr.txt", "Content-Length: 20\r\n\r\nfr{"), "408"}}
+	ended := make(chan struct{})
+	go func() {
+		defer close(ended)
+		harness.Together(len(slow), func(i int) {
+			c := s.dial()
+			if i > 0 {
+				c = tls.Client(c, trusting)
+			}
+			_, _ = io.WriteString(c, slow[i][0])
+			text, err := io.ReadAll(c)
+			if statusOfText(string(text)) != slow[i][1] || strings.Count(string(text), "HTTP/1.1 ") > 1 || errors.Is(err, os.ErrDeadlineExceeded) {
+				t.Errorf("%q: %q, %v", slow[i][0], text, err)
+			}
+		})
+	}()
+	for serial, at := range map[int64]time.Time{2: time.Now().Add(time.Minute), 3: time.Now().Add(-24 * time.Hour)} {
+		writePair(t, folder, serial, at)
+		s.Signal(syscall.SIGHUP)
+		eventually(t, "the certificate is read again", func() bool {
+			got, err := get()
+			return err == nil && got.TLS.PeerCertificates[0].SerialNumber.Int64() == serial
+		})
+	}
+	old := &tls.Config{InsecureSkipVerify: true, MaxVersion: tls.VersionTLS12, CipherSuites: []uint16{tls.TLS_RSA_WITH_AES_128_CBC_SHA}}
+	if _, err := tls.Dial("tcp", s.Address, old); err == nil {
+		t.Error("a key exchange without forward secrecy is taken")
+	}
+	if err := os.WriteFile(filepath.Join(folder, "cert"), []byte("half"), 0o600); err != nil {
+		t.Fatal(err)
+	}
+	time.Sleep(1500 * time.Millisecond)
+	if got, err := get(); err != nil || got.StatusCode != 200 {
+		t.Errorf("with a wrong certificate in the file: %v", err)
+	}
+	<-ended
+}
+
+// TestHealthCheck asks servers that are ready, aren't, are slow or lead elsewhere.
+func TestHealthCheck(t *testing.T) {
+	t.Parallel()
+	serve := func(ready int) *httptest.Server {
+		to := httptest.NewUnstartedServer(http.HandlerFunc(func(w http.ResponseWriter, r *http.Request) {
+			switch r.URL.Path {
+			case "/elsewhere":
+				http.Redirect(w, r, "/readyz", http.StatusFound)
+			case "/healthz":
+			default:
+				w.WriteHeader(ready)
+			}
+		}))
+		t.Cleanup(to.Close)
+		return to
+	}
+	up, replaying, secure, gone := serve(200), serve(503), serve(200), serve(200)
+	up.Start()
+	replaying.Start()
+	secure.StartTLS()
+	gone.Start()
+	gone.Close()
+	host := func(s *httptest.Server) string { return s.Listener.Addr().String() }
+	for _, c := range []struct {
+		given  string
+		status int
+	}{{host(up), 0}, {up.URL + "/", 0}, {host(up) + "/healthz", 0}, {host(up) + "/elsewhere", 1}, {host(replaying), 1}, {host(replaying) + "/healthz", 0},
+		{secure.URL, 0}, {host(secure), 1}, {host(gone), 1}, {"not|an|address", 1}, {"", 2}, {host(up) + " " + host(up), 2}} {
+		if text := command(t, c.status, "", append([]string{"healthcheck"}, strings.Fields(c.given)...)...); (text == "") != (c.status == 0) {
+			t.Errorf("%q: %s", c.given, text)
+		}
+	}
+}
+
+// TestTheServiceManagerIsNotified has a gateway tell in NOTIFY_SOCKET that it serves once it does, and that it ends. Its log is JSON.
+func TestTheServiceManagerIsNotified(t *testing.T) {
+	t.Parallel()
+	for _, name := range []string{filepath.Join(t.TempDir(), "n"), fmt.Sprintf("@gateway-test-%d", os.Getpid())} {
+		socket, err := net.ListenUnixgram("unixgram", &net.UnixAddr{Name: strings.Replace(name, "@", "\x00", 1), Net: "unixgram"})
+		if err != nil {
+			t.Fatal(err)
+		}
+		defer socket.Close()
+		_ = socket.SetReadDeadline(time.Now().Add(generous))
+		s := prepare(t, "-log", "json")
+		s.Process.Env = append(s.Process.Env, "NOTIFY_SOCKET="+name)
+		s.Restart()
+		said := func(part string) bool {
+			buffer := make([]byte, 1000)
+			n, err := socket.Read(buffer)
+			return err != nil || strings.Contains(string(buffer[:n]), part)
+		}
+		eventually(t, "it serves", func() bool { return said("READY=1") })
+		s.leave()
+		eventually(t, "it ends", func() bool { return said("STOPPING=1") })
+		text, _, _ := strings.Cut(s.Log.Tail(1<<20), "ended: ")
+		for _, line := range strings.Split(strings.TrimSuffix(text, "\n"), "\n") {
+			var got struct{ Time, Part, Message string }
+			if err := json.Unmarshal([]byte(line), &got); err != nil || got.Message == "" || got.Part == "" {
+				t.Errorf("%v %q", err, line)
+			}
+		}
+	}
+}
+
+// TestEnds has gateways end: with an upload on its way, which is answered and stored; and with time for a proxy to notice.
+func TestEnds(t *testing.T) {
+	s := beside(t)
+	c := s.dial()
+	fmt.Fprint(c, begins("w PUT /v1/shop/de.txt", "Content-Length: 10\r\n\r\nde{a"))
+	s.awaitMetric("resb_requests_now", func(n float64) bool { return n == 1 })
+	s.Signal(syscall.SIGINT)
+	eventually(t, "it takes no more connections", func() bool {
+		more, err := net.Dial("tcp", s.Address)
+		if err == nil {
+			_ = more.Close()
+		}
+		return err != nil
+	})
+	fmt.Fprint(c, `{"A"}}`)
+	if got, _ := io.ReadAll(c); statusOfText(string(got)) != "201" {
+		t.Errorf("%q", got)
+	}
+	if status := s.Wait(); status != 0 {
+		t.Error(status)
+	}
+	s.Restart()
+	s.is("de/a", "A")
+	s = open(t, "-drain", "1m")
+	s.put("de", `de{a{"A"}}`)
+	s.Signal(syscall.SIGTERM)
+	eventually(t, "it says that it ends", func() bool { return !s.Healthy() })
+	s.is("de/a", "A")
+	s = open(t, "-drain", "10ms")
+	s.leave()
+}
+
+// TestBackups restores a copy that was made beside changes, and refuses to replace anything.
+func TestBackups(t *testing.T) {
+	s := beside(t)
+	for i := 0; i < 20; i++ {
+		s.put("de", fmt.Sprintf(`de{a{"%d"}}`, i))
+	}
+	s.put("fr", `fr{a{"F"}}`)
+	folder, again := t.TempDir(), t.TempDir()
+	file := filepath.Join(folder, "copy")
+	command(t, 0, "", "backup", "-state", s.State, "--", file)
+	s.put("de", `de{a{"later"}}`)
+	command(t, 1, "", "backup", "-state", s.State, "--", file)
+	command(t, 1, "", "restore", "-state", s.State, "--", file)
+	command(t, 0, "", "restore", "-state", filepath.Join(again, "state"), "--", file)
+	if text := command(t, 0, "shop\tde\t", "list", "-state", filepath.Join(again, "state")); strings.Count(text, "\n") != 2 {
+		t.Error(text)
+	}
+	other := &site{harness.Open(t, harness.Setup{Folder: again}), t}
+	other.is("de/a", "19")
+	other.is("fr/a", "F")
+	if got := other.get("/v1/shop"); got.Revision() != 21 || len(other.past("?last=1000")) != 21 {
+		t.Errorf("%v", got.Header)
+	}
+	s.is("de/a", "later")
+	if err := os.WriteFile(file, []byte("no copy"), 0o600); err != nil {
+		t.Fatal(err)
+	}
+	command(t, 1, "", "restore", "-state", filepath.Join(folder, "third"), "--", file)
+	command(t, 2, "usage:", "restore", "-state", folder)
+}
+
+// TestACopyToEtcd copies a store to etcd and back into a folder, with the revisions.
+func TestACopyToEtcd(t *testing.T) {
+	c := harness.NewCluster(t, t.TempDir(), 1, nil)
+	harness.StartAll(c.Members)
+	members, folder := c.From(0), t.TempDir()
+	other := filepath.Join(folder, "state")
+	s := beside(t)
+	s.put("de", `de{a{"A"}}`)
+	s.put("de", `de{a{"B"}}`)
+	s.leave()
+	command(t, 0, "", "copy", "-state", s.State, "-etcd", members, "to")
+	command(t, 0, "shop\tde\t", "list", "-etcd", members)
+	command(t, 0, "", "copy", "-state", other, "-etcd", members, "from")
+	again := &site{harness.Open(t, harness.Setup{Folder: folder}), t}
+	again.run(step{"r GET /v1/shop/de/a", "", "", 200, `"B"`, "Resb-Revision: 2"})
+	again.run(step{"w PUT /v1/shop/de.txt", "", `de{a{"C"}}`, 200, "", "Resb-Revision: 3"})
+}

@@ -1,0 +1,317 @@
+// Package http tests a gateway over HTTP, as callers see it.
+package http
+
+import (
+	"encoding/json"
+	"fmt"
+	"net"
+	"net/http"
+	"regexp"
+	"sort"
+	"strconv"
+	"strings"
+	"sync"
+	"syscall"
+	"testing"
+	"time"
+
+	"github.com/prometheus/common/expfmt"
+
+	"luvdregan.example/resb/deploy/tests/harness"
+)
+
+const (
+	shopWrites = harness.ShopWrites
+	shopReads  = harness.ShopReads
+	bankWrites = harness.BankWrites
+	bothRead   = harness.BothRead
+	appsWrite  = harness.AppsWrite
+	yes        = "{\"ok\":true}\n"
+	asTar      = "application/x-tar"
+	asZip      = "application/zip"
+	asLines    = "application/x-ndjson"
+	asPatch    = "application/merge-patch+json"
+	generous   = harness.Generous
+)
+
+var eventually = harness.Eventually
+
+// A site is a gateway that a test asks.
+type site struct {
+	*harness.Gateway
+	t *testing.T
+}
+
+// open starts a gateway with options, and waits until it is ready.
+func open(t *testing.T, options ...string) *site {
+	t.Helper()
+	return &site{harness.Open(t, harness.Setup{Options: options}), t}
+}
+
+// beside starts a gateway with options while other tests run.
+func beside(t *testing.T, options ...string) *site {
+	t.Helper()
+	t.Parallel()
+	return open(t, options...)
+}
+
+// prepare returns a gateway that isn't started.
+func prepare(t *testing.T, options ...string) *site {
+	t.Helper()
+	return &site{harness.New(t, harness.Setup{Options: options}), t}
+}
+
+// leave ends the gateway by SIGTERM, which must succeed.
+func (s *site) leave() {
+	s.t.Helper()
+	s.Signal(syscall.SIGTERM)
+	if status := s.Wait(); status != 0 {
+		s.t.Errorf("status %d", status)
+	}
+}
+
+// ask sends a request, with headers in pairs. What is answered must be described.
+func (s *site) ask(method, path, token, body string, headers ...string) harness.Answer {
+	s.t.Helper()
+	got := s.Ask(method, path, token, body, headers...)
+	s.describes(method, path, got.Status)
+	return got
+}
+
+// get reads an address of shop.
+func (s *site) get(path string, headers ...string) harness.Answer {
+	s.t.Helper()
+	return s.ask("GET", path, shopReads, "", headers...)
+}
+
+// put installs a text, which must succeed.
+func (s *site) put(locale, text string) harness.Answer {
+	s.t.Helper()
+	got := s.ask("PUT", "/v1/shop/"+locale+".txt", shopWrites, text)
+	if got.Status != 200 && got.Status != 201 {
+		s.t.Fatalf("%s: %d %s", locale, got.Status, got.Body)
+	}
+	return got
+}
+
+// is fails unless a lookup of shop finds a value.
+func (s *site) is(path, value string) {
+	s.t.Helper()
+	if got := s.get("/v1/shop/" + path); got.Status != 200 || got.Value() != value {
+		s.t.Errorf("%s: %d %.200s, and not %.200q", path, got.Status, got.Body, value)
+	}
+}
+
+// has fails unless an address of shop has a body.
+func (s *site) has(path, body string) {
+	s.t.Helper()
+	if got := s.get("/v1/shop" + path); got.Status != 200 || got.Body != body {
+		s.t.Errorf("%s: %d %.200q, and not %.200q", path, got.Status, got.Body, body)
+	}
+}
+
+// names fails unless shop has these bundles, in this order.
+func (s *site) names(names ...string) {
+	s.t.Helper()
+	text, _ := json.Marshal(map[string][]string{"names": append([]string{}, names...)})
+	s.has("", string(text)+"\n")
+}
+
+// A step is a request and what must come back.
+type step struct {
+	do      string // a token, a method and a path: w and r write and read shop, b writes bank, both reads both, a writes app.*, - is none
+	headers string // Name: value | ..
+	body    string
+	status  int
+	want    string // =body, !error code, or a part of the body; "" is anything
+	reply   string // Name: value | .. of the reply; Name is there, -Name isn't, Name~part has the part, Name>x is stored for {x}
+}
+
+var tokens = map[string]string{"w": shopWrites, "r": shopReads, "b": bankWrites, "both": bothRead, "a": appsWrite, "-": ""}
+
+// run makes steps, one after the other.
+func (s *site) run(steps ...step) {
+	s.t.Helper()
+	stored := strings.NewReplacer()
+	var pairs []string
+	for n, one := range steps {
+		words := strings.SplitN(stored.Replace(one.do), " ", 3)
+		var headers []string
+		for _, h := range strings.Split(stored.Replace(one.headers), " | ") {
+			if name, value, found := strings.Cut(h, ": "); found {
+				headers = append(headers, name, value)
+			}
+		}
+		got := s.ask(words[1], words[2], tokens[words[0]], stored.Replace(one.body), headers...)
+		what := fmt.Sprintf("%d: %s [%s] %.60q", n, one.do, one.headers, one.body)
+		if got.Status != one.status || !wanted(stored.Replace(one.want), got) {
+			s.t.Errorf("%s: %d %.300s, and not %d %.300s", what, got.Status, got.Body, one.status, one.want)
+		}
+		for _, spec := range strings.Split(stored.Replace(one.reply), " | ") {
+			if name, variable, store := strings.Cut(spec, ">"); store {
+				pairs = append(pairs, "{"+variable+"}", got.Header.Get(name))
+				stored = strings.NewReplacer(pairs...)
+				spec = name
+			}
+			if !headed(spec, got.Header) {
+				s.t.Errorf("%s: no %q in %v", what, spec, got.Header)
+			}
+		}
+	}
+}
+
+// wanted returns true if a body is as it should be.
+func wanted(want string, got harness.Answer) bool {
+	switch {
+	case strings.HasPrefix(want, "="):
+		return got.Body == want[1:]
+	case strings.HasPrefix(want, "!"):
+		return got.Error() == want[1:]
+	}
+	return strings.Contains(got.Body, want)
+}
+
+// headed returns true if a header is as it should be.
+func headed(spec string, h http.Header) bool {
+	name, value, exact := strings.Cut(spec, ": ")
+	part, has, some := strings.Cut(spec, "~")
+	switch {
+	case spec == "":
+		return true
+	case exact:
+		return strings.Join(h.Values(name), ", ") == value
+	case some:
+		return strings.Contains(strings.Join(h.Values(part), ", "), has)
+	case strings.HasPrefix(spec, "-"):
+		return h.Values(spec[1:]) == nil
+	}
+	return h.Get(spec) != ""
+}
+
+// described has what openapi.json says of each address and method, and expressions for the addresses,
+// the longest first.
+var described struct {
+	sync.Once
+	text     string
+	paths    map[string]map[string]json.RawMessage
+	patterns []*regexp.Regexp
+	of       map[*regexp.Regexp]string
+}
+
+// describe reads openapi.json.
+func (s *site) describe() {
+	d := &described
+	d.Do(func() {
+		d.text = s.Ask("GET", "/openapi.json", "", "").Body
+		var page struct {
+			Paths map[string]map[string]json.RawMessage
+		}
+		if err := json.Unmarshal([]byte(d.text), &page); err != nil {
+			s.t.Fatal(err)
+		}
+		d.paths, d.of = page.Paths, map[*regexp.Regexp]string{}
+		for path := range d.paths {
+			text := strings.NewReplacer(`\{path\}`, ".*", `\{locale\}`, "(?:[^/_][^/]*|)").Replace(regexp.QuoteMeta(path))
+			one := regexp.MustCompile("^" + regexp.MustCompile(`\\{[a-z]+\\}`).ReplaceAllString(text, "[^/]*") + "$")
+			d.patterns, d.of[one] = append(d.patterns, one), path
+		}
+		literal := func(i int) int {
+			return len(strings.NewReplacer("(?:[^/_][^/]*|)", "", "[^/]*", "", ".*", "").Replace(d.patterns[i].String()))
+		}
+		sort.SliceStable(d.patterns, func(i, j int) bool { return literal(i) > literal(j) })
+	})
+}
+
+// describes fails where openapi.json doesn't have a status that a request had.
+func (s *site) describes(method, path string, status int) {
+	s.t.Helper()
+	s.describe()
+	path, _, _ = strings.Cut(path, "?")
+	method = strings.ToLower(strings.Replace(method, "HEAD", "GET", 1))
+	for _, one := range described.patterns {
+		of := described.paths[described.of[one]][method]
+		if of == nil || !one.MatchString(path) {
+			continue
+		}
+		var at struct{ Responses map[string]json.RawMessage }
+		if err := json.Unmarshal(of, &at); err != nil || at.Responses[fmt.Sprint(status)] == nil {
+			s.t.Errorf("openapi.json has no status %d of %s %s (%s): %v", status, method, path, described.of[one], err)
+		}
+		return
+	}
+	if status < 400 && method != "options" {
+		s.t.Errorf("openapi.json has no %s %s, which is answered %d", method, path, status)
+	}
+}
+
+// raw sends bytes over a separate connection, and returns the whole response.
+func (s *site) raw(bytes string) string {
+	s.t.Helper()
+	text, err := harness.Exchange(s.Address, bytes, true)
+	if err != nil && text == "" {
+		s.t.Logf("%.60q: %v", bytes, err)
+	}
+	return text
+}
+
+// dial opens a connection.
+func (s *site) dial() net.Conn {
+	s.t.Helper()
+	c, err := net.Dial("tcp", s.Address)
+	if err != nil {
+		s.t.Fatal(err)
+	}
+	s.t.Cleanup(func() { _ = c.Close() })
+	_ = c.SetDeadline(time.Now().Add(harness.Generous))
+	return c
+}
+
+// begins returns the beginning of a request, which is written as in a step.
+func begins(do, rest string) string {
+	words := strings.SplitN(do, " ", 3)
+	if token := tokens[words[0]]; token != "" {
+		rest = "Authorization: Bearer " + token + "\r\n" + rest
+	}
+	return words[1] + " " + words[2] + " HTTP/1.1\r\nHost: x\r\n" + rest
+}
+
+// statusOfText returns the first status of some responses.
+func statusOfText(text string) string {
+	words := strings.Fields(text)
+	if len(words) < 2 {
+		return ""
+	}
+	return words[1]
+}
+
+// measured reads the metrics, which Prometheus must be able to read.
+func (s *site) measured() map[string]float64 {
+	s.t.Helper()
+	got, err := harness.Send(harness.Client, "GET", s.Inside+"/metrics", "", "")
+	if err == nil {
+		_, err = new(expfmt.TextParser).TextToMetricFamilies(strings.NewReader(got.Body))
+	}
+	if err != nil || got.Status != 200 || !strings.HasPrefix(got.Header.Get("Content-Type"), "text/plain; version=0.0.4") {
+		s.t.Fatalf("%v %d %v", err, got.Status, got.Header)
+	}
+	values := map[string]float64{}
+	for _, line := range strings.Split(got.Body, "\n") {
+		if at := strings.LastIndexByte(line, ' '); at > 0 && line[0] != '#' {
+			values[line[:at]], _ = strconv.ParseFloat(line[at+1:], 64)
+		}
+	}
+	return values
+}
+
+// awaitMetric waits until a measure is as a condition wants.
+func (s *site) awaitMetric(name string, is func(float64) bool) {
+	s.t.Helper()
+	harness.Eventually(s.t, name, func() bool { return is(s.measured()[name]) })
+}
+
+// rest waits until no request is left.
+func (s *site) rest() {
+	s.t.Helper()
+	s.awaitMetric("resb_requests_now", func(n float64) bool { return n == 0 })
+	s.awaitMetric("resb_body_bytes_now", func(n float64) bool { return n == 0 })
+}
