@@ -1,12 +1,14 @@
 ghost use Rattle.std.specs.Prelude.{◌≡◌, ◌++◌, [], IfOk, IfSome, OnOk, is_some, option_map, codes};
 ghost use Rattle.std.specs.Prelude.{true};
+ghost use Rattle.std.specs.List.{list_any};
+ghost use Rattle.std.specs.Option.{option_or};
+ghost use Rattle.std.specs.Str.{bytes_eq};
 ghost use Rattle.clap.specs.Walk.{texts};
 ghost use Rattle.clap.specs.Words.{first_of, found_of, rows_of, subcommand_rows_of};
 ghost use Rattle.rb_arguments.specs.Rows.{IsFlagIn, IsNumberIn, alone, word_in, words_in};
 ghost use Rattle.rb_arguments.specs.Limits.{AreGiven};
 ghost use Rattle.rb_arguments.specs.Asking.{AsksFor, EntersFor, enters_command};
-ghost use Rattle.rb_arguments.specs.Asking.{is_command, is_file_command, is_other_command};
-ghost use Rattle.rb_arguments.specs.Asking.{files_in, root_in, texts_in};
+ghost use Rattle.rb_arguments.specs.Asking.{file_names, gathered, is_command, other_names};
 
 use clap::ArgMatches;
 use std::alloc::{AllocError, Global};
@@ -245,7 +247,8 @@ fn push_given<'a>(
 
 /// Collects the texts of `compile --to`, in order: clap has put the first two into IN and OUT.
 fn texts_of<'a>(alloc: Global, given: &ArgMatches<'a>) -> Result<Vec<&'a str>, AllocError>
-    ensures { IfOk result (λ files. texts files.items ≡ texts_in (rows_of (found_of given.now))) }
+    ensures { IfOk result (λ files. texts files.items ≡ gathered (rows_of (found_of given.now))
+        (codes "IN") (codes "OUT") (codes "TEXT")) }
 {
     let mut texts = Vec::new(alloc);
     push_given(&mut texts, given, "IN")?;
@@ -256,7 +259,8 @@ fn texts_of<'a>(alloc: Global, given: &ArgMatches<'a>) -> Result<Vec<&'a str>, A
 
 /// Collects the files of `json --inherit`, in order: clap has put the first two into FILE and PATH.
 fn files_of<'a>(alloc: Global, given: &ArgMatches<'a>) -> Result<Vec<&'a str>, AllocError>
-    ensures { IfOk result (λ files. texts files.items ≡ files_in (rows_of (found_of given.now))) }
+    ensures { IfOk result (λ files. texts files.items ≡ gathered (rows_of (found_of given.now))
+        (codes "FILE") (codes "PATH") (codes "BUNDLE")) }
 {
     let mut files = Vec::new(alloc);
     push_given(&mut files, given, "FILE")?;
@@ -349,7 +353,9 @@ fn check_asked<'a>(alloc: Global, given: &ArgMatches<'a>) -> Result<Asked<'a>, A
 
 /// Returns the root's text of `lint`: that of `--against`, or that of `--root`.
 fn root_of<'a>(given: &ArgMatches<'a>) -> Option<&'a str>
-    ensures { option_map (λ s. s.now) result ≡ root_in (rows_of (found_of given.now)) }
+    ensures { option_map (λ s. s.now) result
+        ≡ option_or (first_of (codes "against") (rows_of (found_of given.now)))
+        (first_of (codes "root") (rows_of (found_of given.now))) }
 {
     match optional_of(given, "against") {
         Some(root) => Some(root),
@@ -494,7 +500,8 @@ fn file_command_asked<'a>(
     command: &str,
     given: &ArgMatches<'a>,
 ) -> Result<Option<Asked<'a>>, AllocError>
-    ensures variant { IfOk result (λ asked. is_some asked ≡ is_file_command command.now) }
+    ensures variant { IfOk result (λ asked. is_some asked
+        ≡ list_any (bytes_eq command.now) file_names) }
     ensures asked { IfOk result (λ asked.
         IfSome asked (AsksFor command.now (rows_of (found_of given.now)))) }
 {
@@ -516,7 +523,8 @@ fn other_command_asked<'a>(
     command: &str,
     given: &ArgMatches<'a>,
 ) -> Result<Option<Asked<'a>>, AllocError>
-    ensures variant { IfOk result (λ asked. is_some asked ≡ is_other_command command.now) }
+    ensures variant { IfOk result (λ asked. is_some asked
+        ≡ list_any (bytes_eq command.now) other_names) }
     ensures asked { IfOk result (λ asked.
         IfSome asked (AsksFor command.now (rows_of (found_of given.now)))) }
 {
