@@ -90,14 +90,14 @@ one_more first before i draft next edits d old new so h is taken made app none l
 pub refuses : (first : Drafted) (before : List Edit) (i : ℕ) (draft : Drafted) (edits : List Edit) (d old : Edit) (n : ℕ) → SoFar first before i draft edits
     → i < length edits → old ≡ get_or edits i d → n ≡ change_number draft (change_of old).0 (change_of old).1
     → IsFirstRefused first (map change_of before) n i
-refuses first before i draft edits d old n so h is number = record {
-  change = change_of old;
-  at = slice_get-get_or (map change_of before) i (change_of old) (rw (length-map, ← so.count) h)
-      ∙ ap (λ (c : Change). Some c) (next_change first before i draft edits d old so h is);
-  before = draft;
-  takes = so.takes;
-  number = number;
-}
+refuses first before i draft edits d old n so h is number = (
+  change_of old,
+  slice_get-get_or (map change_of before) i (change_of old) (rw (length-map, ← so.count) h)
+      ∙ ap (λ (c : Change). Some c) (next_change first before i draft edits d old so h is),
+  draft,
+  so.takes,
+  number,
+)
 
 -- all edits were added
 pub takes_all : (first : Drafted) (before : List Edit) (i : ℕ) (draft : Drafted) (edits : List Edit) → SoFar first before i draft edits

@@ -1,5 +1,5 @@
 -- Defines the forms of a prepared bundle in C, a rule of this project: its file, its text (rb_printer), and JSON (rb_json).
-use Rattle.std.specs.Prelude.{◌≡◌, ◌⊎◌, ℕ, true, false, List, Option, Some, None}
+use Rattle.std.specs.Prelude.{◌≡◌, ◌⊎◌, ℕ, true, false, List, Option, MatchOption}
 use Rattle.serde_json.specs.Written.{compact_text}
 use Rattle.rb_tree.specs.Resource.{Resource}
 use Rattle.rb_tree.specs.SourceTree.{SourceTree}
@@ -12,9 +12,8 @@ use Rattle.resb.specs.Copied.{CopiesBytes}
 
 -- a copy of a text of the bundle under a name; or the number of a text that would be too long, where how long it is is left open
 abbrev pub CopiesTextOf : Option (List ℕ) → SourceTree → ℕ → ℕ → ℕ → List ℕ → Type 0
-CopiesTextOf None source n count room copy = n ≡ 13
-CopiesTextOf (Some name) source n count room copy =
-    (n ≡ 44) ⊎ ((text : List ℕ) × IsBundleText text name source × CopiesBytes text n count room copy)
+CopiesTextOf name source n count room copy = MatchOption name (n ≡ 13) (λ own. (n ≡ 44)
+    ⊎ ((text : List ℕ) × IsBundleText text own source × CopiesBytes text n count room copy))
 
 -- a copy of a tree as JSON; or the number of a tree that weighs too much
 abbrev pub CopiesJson : Resource → ℕ → ℕ → ℕ → List ℕ → Type 0

@@ -1,5 +1,5 @@
 -- Defines how a request changes an engine, and the number of its reply in C, a rule of this project.
-use Rattle.std.specs.Prelude.{◌≡◌, ◌≢◌, ℕ, Bool, true, false, List, Option, IfSome}
+use Rattle.std.specs.Prelude.{◌≡◌, ◌≢◌, ℕ, Bool, List, Option, IfSome, if◌then◌else◌}
 use Rattle.rb_engine.specs.Ask.{Requests}
 use Rattle.rb_engine.specs.Answer.{Replies}
 use Rattle.rb_engine.specs.History.{Step}
@@ -12,8 +12,7 @@ use Rattle.rb_engine.specs.declared.request.Request.{Request}
 use Rattle.resb.specs.Numbers.{reply_number}
 
 abbrev pub payload_of : Bool → List ℕ → Payload
-payload_of true bytes = Text bytes
-payload_of false bytes = File bytes
+payload_of is_text bytes = if is_text then Text bytes else File bytes
 
 -- the engine's own step for a request, whose reply has this number
 abbrev pub HandlesAs : Kept → Request → ℕ → Kept → Type 0

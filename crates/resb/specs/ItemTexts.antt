@@ -9,19 +9,17 @@ use Rattle.rb_fallback.specs.Search.{Hit}
 use Rattle.rb_inherit.specs.Lookups.{IsTreeOf}
 use Rattle.rb_packages.specs.Packages.{list_of}
 use Rattle.rb_packages.specs.Shelf.{bundle_at}
-use Rattle.rb_engine.specs.Answer.{Response, Replies, Finds, Refuses}
+use Rattle.rb_engine.specs.Answer.{Response}
 use Rattle.rb_engine.specs.Kept.{Kept}
 use Rattle.rb_engine.specs.Place.{place_of}
 use Rattle.rb_engine.specs.declared.place.Place.{Place}
 use Rattle.resb.specs.Copied.{CopiesBytes}
-use Rattle.resb.specs.Numbers.{look_number}
+use Rattle.resb.specs.Looks.{IfFound}
 
 -- a copy of the item that is found
 abbrev pub CopiesItem : Response → ℕ → ℕ → ℕ → List ℕ → Type 0
-CopiesItem (Replies reply) n count room copy = Unit {0}
-CopiesItem (Refuses fault) n count room copy = n ≡ look_number fault
-CopiesItem (Finds hit valid) n count room copy =
-    CopiesBytes (compact_text (found_data hit.actual valid hit.tree)) n count room copy
+CopiesItem response n count room copy =
+    IfFound response n (λ hit valid. CopiesBytes (compact_text (found_data hit.actual valid hit.tree)) n count room copy)
 
 -- a copy of the tree of an item; or the tree's own error, that it is too large or takes too many steps: when is left open
 abbrev pub CopiesTreeOf : Bundles → ParentsOf → (name path : List ℕ) → Hit → ℕ → ℕ → ℕ → List ℕ → Type 0
@@ -30,7 +28,6 @@ CopiesTreeOf bundles parents name path hit n count room copy = (n ≡ 20) ⊎ ((
 
 -- a copy of the tree of the item that is found
 abbrev pub CopiesTree : Kept → (app locale path : List ℕ) → Response → ℕ → ℕ → ℕ → List ℕ → Type 0
-CopiesTree engine app locale path (Replies reply) n count room copy = Unit {0}
-CopiesTree engine app locale path (Refuses fault) n count room copy = n ≡ look_number fault
-CopiesTree engine app locale path (Finds hit valid) n count room copy = (p : Place) × (place_of app locale ≡ Ok p)
-    × CopiesTreeOf (bundle_at (list_of p.app engine.packages)) (parent_in engine.parents) p.name path hit n count room copy
+CopiesTree engine app locale path response n count room copy = IfFound response n (λ hit valid. (p : Place)
+    × (place_of app locale ≡ Ok p) × CopiesTreeOf (bundle_at (list_of p.app engine.packages)) (parent_in engine.parents)
+    p.name path hit n count room copy)

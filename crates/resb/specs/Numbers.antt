@@ -17,25 +17,22 @@ use Rattle.rb_engine.specs.declared.request.Reply.TheVariants.{Done, Names}
 
 -- of requests, from 11 on; 20 is no number of an error
 abbrev pub request_codes : List (List ℕ)
-request_codes =
-    codes "BadApp" ∷ codes "Reserved" ∷ codes "BadLocale" ∷ codes "BadText" ∷ codes "BadFile" ∷ codes "Exists"
-    ∷ codes "Absent" ∷ codes "Full" ∷ codes "Twice" ∷ [] ∷ codes "BadPath" ∷ codes "PathTooLong" ∷ codes "Chain"
-    ∷ codes "BadParent" ∷ codes "NoBundle" ∷ codes "Missing" ∷ codes "AliasText" ∷ codes "AliasPackage"
-    ∷ codes "TooManyAliases" ∷ []
+request_codes = codes "BadApp" ∷ codes "Reserved" ∷ codes "BadLocale" ∷ codes "BadText" ∷ codes "BadFile"
+    ∷ codes "Exists" ∷ codes "Absent" ∷ codes "Full" ∷ codes "Twice" ∷ [] ∷ codes "BadPath" ∷ codes "PathTooLong"
+    ∷ codes "Chain" ∷ codes "BadParent" ∷ codes "NoBundle" ∷ codes "Missing" ∷ codes "AliasText"
+    ∷ codes "AliasPackage" ∷ codes "TooManyAliases" ∷ []
 
 -- of texts, from 31 on
 abbrev pub text_codes : List (List ℕ)
-text_codes =
-    codes "TooLong" ∷ codes "NotUtf8" ∷ codes "BadEscape" ∷ codes "OpenQuote" ∷ codes "OpenComment"
+text_codes = codes "TooLong" ∷ codes "NotUtf8" ∷ codes "BadEscape" ∷ codes "OpenQuote" ∷ codes "OpenComment"
     ∷ codes "Unexpected" ∷ codes "UnknownType" ∷ codes "BadKey" ∷ codes "DuplicateKey" ∷ codes "BadInt"
     ∷ codes "BadHex" ∷ codes "TooDeep" ∷ codes "TrailingText" ∷ codes "TooLarge" ∷ []
 
 -- of files, from 51 on
 abbrev pub file_codes : List (List ℕ)
-file_codes =
-    codes "TooLong" ∷ codes "Header" ∷ codes "BigEndian" ∷ codes "Family" ∷ codes "FormatVersion" ∷ codes "Indexes"
-    ∷ codes "Attributes" ∷ codes "Root" ∷ codes "ItemType" ∷ codes "Offset" ∷ codes "Length" ∷ codes "NotTerminated"
-    ∷ codes "Key" ∷ codes "KeyOrder" ∷ codes "TooDeep" ∷ []
+file_codes = codes "TooLong" ∷ codes "Header" ∷ codes "BigEndian" ∷ codes "Family" ∷ codes "FormatVersion"
+    ∷ codes "Indexes" ∷ codes "Attributes" ∷ codes "Root" ∷ codes "ItemType" ∷ codes "Offset" ∷ codes "Length"
+    ∷ codes "NotTerminated" ∷ codes "Key" ∷ codes "KeyOrder" ∷ codes "TooDeep" ∷ []
 
 -- ---- the numbers
 

@@ -8,12 +8,12 @@ use Rattle.rb_locales.specs.Locale.{name}
 use Rattle.rb_packages.specs.App.{app_of}
 use Rattle.rb_packages.specs.Packages.{Files, files_of, OthersStay}
 use Rattle.rb_packages.specs.Release.{Drafted, Sizes, edited, sizes_of, put_fault, removal_fault}
+use Rattle.rb_packages.specs.Words.{draft_word}
 use Rattle.rb_packages.specs.declared.app.AppFault.{AppFault}
 use Rattle.rb_packages.specs.declared.fault.DraftFault.{DraftFault}
-use Rattle.rb_packages.specs.declared.fault.DraftFault.TheVariants as draft
 use Rattle.rb_engine.specs.Kept.{Kept}
 use Rattle.rb_engine.specs.Version.{next_version}
-use Rattle.resb.specs.Numbers.{app_number}
+use Rattle.resb.specs.Numbers.{app_number, code_number, request_codes}
 use Rattle.resb.specs.declared.edit.Edit.{Edit}
 
 -- the name of a locale, if it is one, and a new file, or none if the old one is removed
@@ -26,9 +26,7 @@ change_of edit = (name edit.locale.now, edit.bundle.file)
 -- the number of the reason why a draft doesn't take a change, or 0
 abbrev pub draft_number : Option DraftFault → ℕ
 draft_number None = 0
-draft_number (Some draft.Memory) = 1
-draft_number (Some draft.Absent) = 17
-draft_number (Some draft.Full) = 18
+draft_number (Some fault) = code_number 11 request_codes (draft_word fault)
 
 abbrev pub change_number : Drafted → Option (List ℕ) → Option (List ℕ) → ℕ
 change_number drafted None file = 13
@@ -41,12 +39,9 @@ sizes_after n (Some file) sizes = insert_entry bytes_eq sizes n (length file)
 
 -- the draft with one more change
 abbrev pub with_change : Option (List ℕ) → Option (List ℕ) → Drafted → Drafted
-with_change None file drafted = drafted
-with_change (Some n) file drafted = record {
-  app = drafted.app;
-  edits = drafted.edits ++ (n, file) ∷ [];
-  sizes = sizes_after n file drafted.sizes;
-}
+with_change None file d = d
+with_change (Some n) file d =
+    record { app = d.app; edits = d.edits ++ (n, file) ∷ []; sizes = sizes_after n file d.sizes }
 
 -- a draft takes changes, one after another, and is another then
 abbrev pub Takes : Drafted → List Change → Drafted → Type 0
@@ -69,12 +64,9 @@ pub record IsReleased (old : Kept) (app : List ℕ) (changes : List Change) (new
   pub version : new.version ≡ next_version old.version
 
 -- a draft refuses one of the changes after those before it, with this number
-pub record IsFirstRefused (first : Drafted) (changes : List Change) (n place : ℕ) : Type 0 where
-  pub change : Change
-  pub at : slice_get changes place ≡ Some change
-  pub before : Drafted
-  pub takes : Takes first (take place changes) before
-  pub number : n ≡ change_number before change.0 change.1
+abbrev pub IsFirstRefused : Drafted → List Change → (n place : ℕ) → Type 0
+IsFirstRefused first changes n place = (change : Change) × (slice_get changes place ≡ Some change)
+    × (before : Drafted) × Takes first (take place changes) before × (n ≡ change_number before change.0 change.1)
 
 -- the application's name is checked first
 abbrev pub IsUnreleased : Kept → Result (List ℕ) AppFault → List Change → ℕ → ℕ → Type 0

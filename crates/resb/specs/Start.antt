@@ -39,10 +39,13 @@ IsStarted given text engine = (entries : Entries) × AreEntries given entries
     × ((m : ParentsOf) × HasParents text m × ((n : List ℕ) → (state_of engine).start.parents n ≡ m n))
     × ((app : List ℕ) → (state_of engine).lists app ≡ [])
 
+-- the locales of all entries are names
+abbrev pub AreNamed : List Entry → Type 0
+AreNamed given = (entries : Entries) × AreEntries given entries
+
 -- the first entry whose locale isn't a name
 abbrev pub IsFirstUnnamed : List Entry → ℕ → Type 0
-IsFirstUnnamed given i = (e : Entry) × (slice_get given i ≡ Some e) × (name e.locale.now ≡ None)
-    × ((before : Entries) × AreEntries (take i given) before)
+IsFirstUnnamed es i = (e : Entry) × (slice_get es i ≡ Some e) × (name e.locale.now ≡ None) × AreNamed (take i es)
 
 abbrev pub IsEntryError : List Entry → StartError → Type 0
 IsEntryError given (Locale i) = IsFirstUnnamed given i
@@ -59,10 +62,6 @@ IsParentsError text (Text fault) = IsRefusal text fault
 IsParentsError text (Parents fault) = IsParentsFault text fault
 IsParentsError text Memory = Unit {0}
 IsParentsError text error = ⊥
-
--- the locales of all entries are names
-abbrev pub AreNamed : List Entry → Type 0
-AreNamed given = (entries : Entries) × AreEntries given entries
 
 -- an error of the entries' locales, of the parents, or of the entries' payloads: each only if the earlier ones have none
 abbrev pub IsStartError : List Entry → List ℕ → StartError → Type 0

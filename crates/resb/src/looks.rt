@@ -1,7 +1,7 @@
 ghost use Rattle.std.specs.Prelude.{◌≡◌, ◌≢◌, ◌≤◌, IfNone, IfSome, length, take, true, false};
 ghost use Rattle.rb_views.specs.Seen.{units_seen};
 ghost use Rattle.rb_handle.specs.Stored.{engine_of};
-ghost use Rattle.resb.specs.Looks.{answer_in, takes_more_in, response_number, Describes, Copies};
+ghost use Rattle.resb.specs.Looks.{answer_in, takes_more_in, Describes, Copies};
 
 use crate::found::Found;
 use crate::held::take;
@@ -22,8 +22,7 @@ pub(crate) fn keep_open(engine: &mut Arc<Engine>, app: &[u8], locale: &[u8])
 }
 
 fn look_in(engine: &Engine, app: &[u8], locale: &[u8], path: &[u8], found: &mut Found) -> u32
-    ensures answer { result ≡ response_number (answer_in engine.now app.now locale.now path.now) }
-    ensures describes { Describes (answer_in engine.now app.now locale.now path.now)
+    ensures answer { Describes (answer_in engine.now app.now locale.now path.now) result
         found.new.kind found.new.count found.new.number }
     ensures unchanged { result ≢ 0 → found.new ≡ found.old }
 {
@@ -44,10 +43,8 @@ fn look_kept_in(
     path: &[u8],
     found: &mut Found,
 ) -> Option<u32>
-    ensures answer { IfSome result (λ number. number
-        ≡ response_number (answer_in engine.now app.now locale.now path.now)) }
-    ensures describes { IfSome result (λ _. Describes
-        (answer_in engine.now app.now locale.now path.now)
+    ensures answer { IfSome result (λ number. Describes
+        (answer_in engine.now app.now locale.now path.now) number
         found.new.kind found.new.count found.new.number) }
     ensures unchanged { IfSome result (λ number. number ≢ 0 → found.new ≡ found.old) }
     ensures none { IfNone result (found.new ≡ found.old) }
@@ -71,9 +68,7 @@ fn look_keeping(
     found: &mut Found,
 ) -> u32
     ensures stays { engine.new.value ≡ engine.old.value }
-    ensures answer { result
-        ≡ response_number (answer_in engine.old.value app.now locale.now path.now) }
-    ensures describes { Describes (answer_in engine.old.value app.now locale.now path.now)
+    ensures answer { Describes (answer_in engine.old.value app.now locale.now path.now) result
         found.new.kind found.new.count found.new.number }
     ensures unchanged { result ≢ 0 → found.new ≡ found.old }
 {
@@ -95,10 +90,8 @@ pub extern "C" fn resb_look(
     found: &mut Found,
 ) -> u32
     ensures stays { engine_of handle.new ≡ engine_of handle.old }
-    ensures answer { IfSome (engine_of handle.old) (λ e. result
-        ≡ response_number (answer_in e app.now locale.now path.now)) }
-    ensures describes { IfSome (engine_of handle.old) (λ e. Describes
-        (answer_in e app.now locale.now path.now)
+    ensures answer { IfSome (engine_of handle.old) (λ e. Describes
+        (answer_in e app.now locale.now path.now) result
         found.new.kind found.new.count found.new.number) }
     ensures unchanged { result ≢ 0 → found.new ≡ found.old }
     ensures closed { IfNone (engine_of handle.old) (result ≡ 2) }
@@ -123,10 +116,8 @@ fn look_within(
         → takes_more_in engine.now steps app.now locale.now path.now ≡ false }
     ensures more { result ≡ 30
         → takes_more_in engine.now steps app.now locale.now path.now ≡ true }
-    ensures answer { result ≢ 30
-        → result ≡ response_number (answer_in engine.now app.now locale.now path.now) }
-    ensures describes { result ≢ 30 → Describes (answer_in engine.now app.now locale.now path.now)
-        found.new.kind found.new.count found.new.number }
+    ensures answer { result ≢ 30 → Describes (answer_in engine.now app.now locale.now path.now)
+        result found.new.kind found.new.count found.new.number }
     ensures unchanged { result ≢ 0 → found.new ≡ found.old }
 {
     match engine.look_within(app, locale, path, steps) {
@@ -156,10 +147,8 @@ pub extern "C" fn resb_look_within(
         (λ e. takes_more_in e steps app.now locale.now path.now ≡ false) }
     ensures more { result ≡ 30 → IfSome (engine_of handle.old)
         (λ e. takes_more_in e steps app.now locale.now path.now ≡ true) }
-    ensures answer { result ≢ 30 → IfSome (engine_of handle.old) (λ e. result
-        ≡ response_number (answer_in e app.now locale.now path.now)) }
-    ensures describes { result ≢ 30 → IfSome (engine_of handle.old) (λ e. Describes
-        (answer_in e app.now locale.now path.now)
+    ensures answer { result ≢ 30 → IfSome (engine_of handle.old) (λ e. Describes
+        (answer_in e app.now locale.now path.now) result
         found.new.kind found.new.count found.new.number) }
     ensures unchanged { result ≢ 0 → found.new ≡ found.old }
     ensures closed { IfNone (engine_of handle.old) (result ≡ 2) }

@@ -3,7 +3,7 @@ ghost use Rattle.std.specs.Prelude.{◌≡◌, ◌≢◌, ℕ, List, IfNone, IfS
 ghost use Rattle.rb_engine.specs.OpenLocale.{IsOpenLocale};
 ghost use Rattle.rb_engine.specs.Version.{is_current};
 ghost use Rattle.rb_handle.specs.Stored.{engine_of};
-ghost use Rattle.resb.specs.Looks.{answer_in, response_number, Describes};
+ghost use Rattle.resb.specs.Looks.{answer_in, Describes};
 ghost use Rattle.resb.specs.OpenLocales.{RefusesWith};
 
 use crate::found::Found;
@@ -61,10 +61,7 @@ fn look_at(engine: &Engine, opened: &OpenLocale, path: &[u8], found: &mut Found)
     ensures current { result ≢ 8 → is_current opened.now.version engine.now.version ≡ true }
     ensures answer { result ≢ 8 → (app locale : List ℕ)
         → IsOpenLocale opened.now engine.now app locale
-        → result ≡ response_number (answer_in engine.now app locale path.now) }
-    ensures describes { result ≢ 8 → (app locale : List ℕ)
-        → IsOpenLocale opened.now engine.now app locale
-        → Describes (answer_in engine.now app locale path.now)
+        → Describes (answer_in engine.now app locale path.now) result
         found.new.kind found.new.count found.new.number }
     ensures unchanged { result ≢ 0 → found.new ≡ found.old }
 {
@@ -95,10 +92,7 @@ pub extern "C" fn resb_look_at(
         (λ e. is_current opened.now.version e.version ≡ true) }
     ensures answer { result ≢ 8 → IfSome (engine_of handle.old) (λ e. (app locale : List ℕ)
         → IsOpenLocale opened.now e app locale
-        → result ≡ response_number (answer_in e app locale path.now)) }
-    ensures describes { result ≢ 8 → IfSome (engine_of handle.old) (λ e. (app locale : List ℕ)
-        → IsOpenLocale opened.now e app locale
-        → Describes (answer_in e app locale path.now)
+        → Describes (answer_in e app locale path.now) result
         found.new.kind found.new.count found.new.number) }
     ensures unchanged { result ≢ 0 → found.new ≡ found.old }
     ensures closed { IfNone (engine_of handle.old) (result ≡ 2) }

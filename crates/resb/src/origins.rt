@@ -4,7 +4,7 @@ ghost use Rattle.std.specs.Prelude.{slice_get, take, true, false};
 ghost use Rattle.rb_engine.specs.OpenLocale.{IsOpenLocale};
 ghost use Rattle.rb_engine.specs.Version.{is_current};
 ghost use Rattle.rb_handle.specs.Stored.{engine_of};
-ghost use Rattle.resb.specs.Looks.{answer_in, response_number, Describes};
+ghost use Rattle.resb.specs.Looks.{answer_in, Describes};
 ghost use Rattle.resb.specs.Origins.{ComesFrom, IsNameIn};
 
 use crate::found::Found;
@@ -74,8 +74,7 @@ fn look_in(
     found: &mut Found,
     origin: &mut Origin,
 ) -> u32
-    ensures answer { result ≡ response_number (answer_in engine.now app.now locale.now path.now) }
-    ensures describes { Describes (answer_in engine.now app.now locale.now path.now)
+    ensures answer { Describes (answer_in engine.now app.now locale.now path.now) result
         found.new.kind found.new.count found.new.number }
     ensures origin { ComesFrom (answer_in engine.now app.now locale.now path.now)
         origin.new.actual origin.new.valid }
@@ -105,10 +104,8 @@ pub extern "C" fn resb_look_origin(
     origin: &mut Origin,
 ) -> u32
     ensures stays { engine_of handle.new ≡ engine_of handle.old }
-    ensures answer { IfSome (engine_of handle.old) (λ e. result
-        ≡ response_number (answer_in e app.now locale.now path.now)) }
-    ensures describes { IfSome (engine_of handle.old) (λ e. Describes
-        (answer_in e app.now locale.now path.now)
+    ensures answer { IfSome (engine_of handle.old) (λ e. Describes
+        (answer_in e app.now locale.now path.now) result
         found.new.kind found.new.count found.new.number) }
     ensures origin { IfSome (engine_of handle.old) (λ e. ComesFrom
         (answer_in e app.now locale.now path.now) origin.new.actual origin.new.valid) }
@@ -136,10 +133,7 @@ fn look_at(
     ensures current { result ≢ 8 → is_current opened.now.version engine.now.version ≡ true }
     ensures answer { result ≢ 8 → (app locale : List ℕ)
         → IsOpenLocale opened.now engine.now app locale
-        → result ≡ response_number (answer_in engine.now app locale path.now) }
-    ensures describes { result ≢ 8 → (app locale : List ℕ)
-        → IsOpenLocale opened.now engine.now app locale
-        → Describes (answer_in engine.now app locale path.now)
+        → Describes (answer_in engine.now app locale path.now) result
         found.new.kind found.new.count found.new.number }
     ensures origin { result ≢ 8 → (app locale : List ℕ)
         → IsOpenLocale opened.now engine.now app locale
@@ -176,10 +170,7 @@ pub extern "C" fn resb_look_origin_at(
         (λ e. is_current opened.now.version e.version ≡ true) }
     ensures answer { result ≢ 8 → IfSome (engine_of handle.old) (λ e. (app locale : List ℕ)
         → IsOpenLocale opened.now e app locale
-        → result ≡ response_number (answer_in e app locale path.now)) }
-    ensures describes { result ≢ 8 → IfSome (engine_of handle.old) (λ e. (app locale : List ℕ)
-        → IsOpenLocale opened.now e app locale
-        → Describes (answer_in e app locale path.now)
+        → Describes (answer_in e app locale path.now) result
         found.new.kind found.new.count found.new.number) }
     ensures origin { result ≢ 8 → IfSome (engine_of handle.old) (λ e. (app locale : List ℕ)
         → IsOpenLocale opened.now e app locale
