@@ -10,9 +10,10 @@ use Rattle.rb_requests.specs.declared.extended_texts.ExtendedTexts.{ExtendedText
 use Rattle.rb_requests.specs.declared.texts.Texts.{Texts}
 use Rattle.rb_requests.specs.inner.Texts.{Holds, IsAt}
 use Rattle.rb_requests.specs.Asked.{data_of}
-use Rattle.rb_requests.specs.ExtendedAsked.{ReleaseChange, path_in, form_in, changes_in, extended_in, extended_of}
+use Rattle.rb_requests.specs.ExtendedAsked.{ReleaseChange, path_in, form_in, extended_of}
 use Rattle.rb_requests.specs.declared.member.Member.TheVariants as members
 use Rattle.rb_requests.specs.inner.ChangesRead.{AreOf}
+use Rattle.rb_requests.specs.inner.ExtendedForms.{changes_in, extended_in}
 use Rattle.rb_requests.specs.inner.ExtendedLines.{AreAllOf, AreHeld, form_by, path_by}
 use Rattle.rb_requests.specs.inner.ExtendedRead.{AreAt, HoldsAll}
 use Rattle.rb_requests.proofs.ChangesFound.{held_flag}

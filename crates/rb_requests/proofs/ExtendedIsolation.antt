@@ -27,17 +27,19 @@ use Rattle.rb_engine.specs.declared.request.Reply.TheVariants.{Done}
 use Rattle.rb_engine.specs.declared.request.Request.TheVariants as request
 use Rattle.rb_engine.proofs.StepLemmas.{app_is, app-place_of}
 use Rattle.rb_replies.specs.Extended.{sizes_data}
-use Rattle.rb_requests.specs.ExportReply.{ExportReply, FileReply, limited_line, sizes_reply}
+use Rattle.rb_requests.specs.ExportReply.{ExportReply, FileReply, sizes_reply}
 use Rattle.rb_requests.specs.ExtendedAsked.{ExtendedAsk, Calls, Puts, Releases, Exports, AsksTree, AsksSizes, AsksUsage, ReleaseChange, extended_of}
 use Rattle.rb_requests.specs.ExtendedIsolation.{IsSame, RepliesAlike, LeavesAlone, AreExtendedIsolated, extended_asker, asks_of, is_line_of, has_all_apps, lines_of_app, replies_to_app}
-use Rattle.rb_requests.specs.ExtendedReply.{AskReply, CalledReply, ChangeReply, ExtendedReply, ExtendedWithin, PutReply, ReleaseReply, is_stored, put_change, stored_line}
-use Rattle.rb_requests.specs.Limits.{is_over, payload_len, len_at, takes_place, used, used_with, file_refusal, incoming_refusal, change_refusal, steps_refusal, call_refusal}
+use Rattle.rb_requests.specs.ExtendedReply.{AskReply, CalledReply, ChangeReply, ExtendedReply, ExtendedWithin, ReleaseReply, is_stored, put_change, stored_line}
+use Rattle.rb_requests.specs.Limits.{is_over, payload_len, len_at, takes_place, used, file_refusal, incoming_refusal, change_refusal, steps_refusal, call_refusal}
 use Rattle.rb_requests.specs.Lines.{RepliesBy}
 use Rattle.rb_requests.specs.Refused.{Reason}
 use Rattle.rb_requests.specs.Released.{HaveEdits, IsFirstRefused, IsReleased, IsSumRefused, IsUnreleased, sum_refusal}
 use Rattle.rb_requests.specs.Steps.{Outcome, Answers, Refuses, IsRefused, IsAnswered, IsJudged, CallIsJudged, files_then}
 use Rattle.rb_requests.specs.TreeReply.{FoundReply, OutcomeReply, TreeReply}
-use Rattle.rb_requests.specs.Within.{CallReply, line_of, outcome_line, usage_reply, usage_line}
+use Rattle.rb_requests.specs.Within.{CallReply, limited_line, line_of, outcome_line, usage_reply}
+use Rattle.rb_requests.specs.inner.ExtendedTold.{PutReply}
+use Rattle.rb_requests.proofs.Counted.{usage_line, used_with}
 use Rattle.rb_requests.specs.declared.limits.Limits.{Limits}
 use Rattle.rb_requests.specs.declared.limits.Refusal.{Refusal}
 use Rattle.rb_requests.specs.declared.limits.Refusal.TheVariants.{BundleTooLong, OverQuota, TooManyApps}
@@ -348,7 +350,7 @@ sizes_alike : (limits : Limits) (k l : Kept) (read : Result (List ℕ) AppFault)
     → sizes_reply limits k read ≡ sizes_reply limits l read
 sizes_alike limits k l (Err e) h = refl
 sizes_alike limits k l (Ok a) h =
-    ap (λ (files : Files). limited_line limits (line_of (sizes_data (map (λ e. (e.0, length e.1)) files)))) (h a refl)
+    ap (λ (files : Files). limited_line limits.reply_bytes (line_of (sizes_data (map (λ e. (e.0, length e.1)) files)))) (h a refl)
 
 usage_alike : (k l : Kept) (read : Result (List ℕ) AppFault) → ((a : List ℕ) → read ≡ Ok a → SameFiles k l a) → usage_reply k read ≡ usage_reply l read
 usage_alike k l (Err e) h = refl

@@ -5,6 +5,7 @@ pub mod MembersRead
 pub mod ShortIntegers
 pub mod Judging
 pub mod CallSteps
+pub mod Counted
 pub mod Histories
 pub mod Quota
 pub mod Lent

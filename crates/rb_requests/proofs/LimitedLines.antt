@@ -21,7 +21,8 @@ use Rattle.rb_requests.proofs.Histories.{IsSame, calls_same}
 use Rattle.rb_requests.specs.Asked.{call_of, data_of}
 use Rattle.rb_requests.specs.Lines.{RepliesBy}
 use Rattle.rb_requests.specs.Isolation.{Question, Calls, AsksUsage, asker, question_in, question_of, with_turn, turns_of, is_shared, shared, asked, AreLinesIsolatedWithin}
-use Rattle.rb_requests.specs.Within.{AnswersRead, LineReplyWithin, asked_usage, usage_in, error_line, outcome_line, usage_line, usage_reply}
+use Rattle.rb_requests.specs.Within.{AnswersRead, LineReplyWithin, asked_usage, usage_in, error_line, outcome_line, usage_reply}
+use Rattle.rb_requests.proofs.Counted.{usage_line}
 use Rattle.rb_requests.specs.declared.limits.Limits.{Limits}
 
 -- ---- what a line comes to

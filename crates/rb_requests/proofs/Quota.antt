@@ -29,10 +29,11 @@ use Rattle.rb_engine.specs.declared.request.Reply.{Reply}
 use Rattle.rb_engine.specs.declared.request.Reply.TheVariants as reply
 use Rattle.rb_engine.specs.declared.request.Request.TheVariants as request
 use Rattle.rb_engine.proofs.StepLemmas.{app-place_of}
-use Rattle.rb_requests.specs.Limits.{is_over, payload_len, len_at, takes_place, used_with, file_refusal, change_refusal, call_refusal}
+use Rattle.rb_requests.specs.Limits.{is_over, payload_len, len_at, takes_place, file_refusal, change_refusal, call_refusal}
 use Rattle.rb_requests.specs.Steps.{Outcome, Starves, IsRefused, IsAnswered, CallComesTo, put_file, taken_out, files_done, files_then}
 use Rattle.rb_requests.specs.History.{Turn, Run, IsWithinQuota}
 use Rattle.rb_requests.specs.declared.limits.Limits.{Limits}
+use Rattle.rb_requests.proofs.Counted.{used_with}
 use Rattle.rb_requests.specs.declared.limits.Refusal.{Refusal}
 use Rattle.rb_requests.specs.declared.limits.Refusal.TheVariants.{BundleTooLong, OverQuota, TooManyApps}
 

@@ -23,14 +23,14 @@ use Rattle.rb_requests.specs.ExtendedAsked.{ReleaseChange, PutsAt, RemovesAt}
 use Rattle.rb_requests.specs.ExtendedReply.{ReleaseReply}
 use Rattle.rb_requests.specs.Limits.{is_over, payload_len}
 use Rattle.rb_requests.specs.Refused.{Reason, at_index, only}
-use Rattle.rb_requests.specs.Released.{draft_of, HasEdit, HaveEdits, IsUntaken, IsPutRefused, IsRefusedChange, IsRefusedAt, IsFirstRefused, IsSumRefused, IsUnreleased, IsReleased, sum_refusal}
+use Rattle.rb_requests.specs.Released.{draft_of, HasEdit, HaveEdits, IsUntaken, IsRefusedChange, IsRefusedAt, IsFirstRefused, IsSumRefused, IsUnreleased, IsReleased, sum_refusal}
 use Rattle.rb_requests.specs.Steps.{BringsAt, is_read}
 use Rattle.rb_requests.specs.declared.change_list.LineChange.{LineChange}
 use Rattle.rb_requests.specs.declared.judged.Unmade.{Unmade}
 use Rattle.rb_requests.specs.declared.judged.Unmade.TheVariants.{Refused, Memory}
 use Rattle.rb_requests.specs.declared.limits.Limits.{Limits}
 use Rattle.rb_requests.specs.inner.ChangesRead.{change_seen, changes_seen}
-use Rattle.rb_requests.specs.inner.Drafted.{Adds, Drafts, IsReasonAt}
+use Rattle.rb_requests.specs.inner.Drafted.{Adds, Drafts, IsPutRefused, IsReasonAt}
 use Rattle.rb_requests.proofs.CallSteps.{short_read}
 use Rattle.rb_requests.specs.inner.Judged.{IfRefused, IsTold, Judges, reason, reason_of}
 
@@ -179,16 +179,8 @@ refused_at u Memory i Is e h = tt
 first_refused : (limits : Limits) (app : List ℕ) (files : Files) (cs : List ReleaseChange) (i : ℕ) (c : ReleaseChange) (draft : Drafted) (u : Unmade)
     → slice_get cs i ≡ Some c → HaveEdits limits app files [] (take i cs) draft.edits → IsDraftOf files draft
     → IfRefused u (IsReasonAt limits app draft i c) → IfRefused u (IsFirstRefused limits app files cs)
-first_refused limits app files cs i c draft (Refused word detail) at have counts (why, refused, is) = record {
-  index = i;
-  change = c;
-  at = at;
-  edits = draft.edits;
-  before = have;
-  why = why;
-  refused = refused_at_as limits app files draft i c why counts refused;
-  is = is;
-}
+first_refused limits app files cs i c draft (Refused word detail) at have counts (why, refused, is) =
+    (i, c, at, draft.edits, have, why, refused_at_as limits app files draft i c why counts refused, is)
 first_refused limits app files cs i c draft Memory at have counts h = tt
 
 -- ---- what a change comes to

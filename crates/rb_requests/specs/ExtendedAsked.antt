@@ -57,53 +57,32 @@ abbrev pub all_changes : Items → Option (List ReleaseChange)
 all_changes no_items = Some []
 all_changes (item d ds) = option_and_then (λ c. option_map (λ cs. c ∷ cs) (all_changes ds)) (release_change_in d)
 
--- an array of changes
-abbrev pub changes_in : Data → Option (List ReleaseChange)
-changes_in d = option_and_then all_changes (as_array d)
-
 -- ---- requests
 
-abbrev pub put_in : Data → Option ExtendedAsk
-put_in d = option_and_then (λ a. option_and_then (λ l. option_map (Puts a l) (payload_in d))
-    (text_at (codes "locale") d)) (text_at (codes "app") d)
+-- a request with the names of an application and of a locale
+abbrev pub named : Data → (List ℕ → List ℕ → Option ExtendedAsk) → Option ExtendedAsk
+named d f = option_and_then (λ a. option_and_then (λ l. f a l) (text_at (codes "locale") d)) (text_at (codes "app") d)
 
--- a release's changes up to the first one that is too many
+-- an array of changes, up to the first one that is too many
 abbrev pub release_in : Data → Option ExtendedAsk
-release_in d = option_and_then (λ a. option_map (λ cs. Releases a (take (bundle_limit + 1) cs))
-    (option_and_then changes_in (get (codes "changes") d))) (text_at (codes "app") d)
-
-abbrev pub export_in : Data → Option ExtendedAsk
-export_in d = option_and_then (λ a. option_and_then (λ l. option_map (Exports a l)
-    (form_in (get (codes "as") d))) (text_at (codes "locale") d)) (text_at (codes "app") d)
-
-abbrev pub tree_in : Data → Option ExtendedAsk
-tree_in d = option_and_then (λ a. option_and_then (λ l. option_map (AsksTree a l)
-    (path_in (get (codes "path") d))) (text_at (codes "locale") d)) (text_at (codes "app") d)
-
-abbrev pub usage_asked : Data → Option ExtendedAsk
-usage_asked d = option_map AsksUsage (text_at (codes "app") d)
+release_in d = option_and_then (λ a. option_map (λ cs. Releases a (take (bundle_limit + 1) cs)) (option_and_then
+    (λ c. option_and_then all_changes (as_array c)) (get (codes "changes") d))) (text_at (codes "app") d)
 
 -- the names of the application's bundles, with `sizes` also the lengths of their files
 abbrev pub names_in : Data → Bool → Option ExtendedAsk
 names_in d true = option_map AsksSizes (text_at (codes "app") d)
 names_in d false = option_map Calls (list_in d)
 
-abbrev pub sized_list_in : Data → Option ExtendedAsk
-sized_list_in d = option_and_then (names_in d) (flag_in (get (codes "sizes") d))
-
 abbrev pub extended_by : List ℕ → Data → Option ExtendedAsk
 extended_by op d =
-    if bytes_eq op (codes "put") then put_in d
-    else if bytes_eq op (codes "list") then sized_list_in d
-    else if bytes_eq op (codes "usage") then usage_asked d
-    else if bytes_eq op (codes "export") then export_in d
-    else if bytes_eq op (codes "tree") then tree_in d
+    if bytes_eq op (codes "put") then named d (λ a l. option_map (Puts a l) (payload_in d))
+    else if bytes_eq op (codes "list") then option_and_then (names_in d) (flag_in (get (codes "sizes") d))
+    else if bytes_eq op (codes "usage") then option_map AsksUsage (text_at (codes "app") d)
+    else if bytes_eq op (codes "export") then named d (λ a l. option_map (Exports a l) (form_in (get (codes "as") d)))
+    else if bytes_eq op (codes "tree") then named d (λ a l. option_map (AsksTree a l) (path_in (get (codes "path") d)))
     else if bytes_eq op (codes "release") then release_in d
     else option_map Calls (call_by op d)
 
-abbrev pub extended_in : Data → Option ExtendedAsk
-extended_in d = option_and_then (λ op. extended_by op d) (text_at (codes "op") d)
-
 -- what a line asks; nothing if it is no request
 abbrev pub extended_of : List ℕ → Option ExtendedAsk
-extended_of line = option_and_then extended_in (data_of line)
+extended_of line = option_and_then (λ d. option_and_then (λ o. extended_by o d) (text_at (codes "op") d)) (data_of line)

@@ -36,9 +36,8 @@ abbrev pub ChangeReply : Limits → Kept → Change → (app locale : List ℕ) 
     → Kept → Type 0
 ChangeReply limits old change app locale payload line text new =
     ((r : Reason) × IsUnread limits app locale payload r × (text ≡ reason_line r) × (new ≡ old))
-    ⊎ ((file : List ℕ) × (outcome : Outcome) × BringsAt limits (place_of app locale) payload (Some file)
-    × IsJudged limits old (Requests (change_request change app locale payload)) (Some file) outcome new
-    × (text ≡ line outcome))
+    ⊎ ((file : List ℕ) × (o : Outcome) × BringsAt limits (place_of app locale) payload (Some file)
+    × IsJudged limits old (Requests (change_request change app locale payload)) (Some file) o new × (text ≡ line o))
 
 -- a bundle is stored under the name
 abbrev pub is_stored : {E : Type 0} → Kept → Result Place E → Bool
@@ -52,10 +51,6 @@ put_change is_there = if is_there then change.Replace else change.Install
 abbrev pub stored_line : Limits → (is_replaced : Bool) → Outcome → List ℕ
 stored_line limits is_replaced (Answers (Replies Done)) = line_of (stored_data is_replaced)
 stored_line limits is_replaced outcome = outcome_line limits outcome
-
-abbrev pub PutReply : Limits → Kept → (app locale : List ℕ) → Payload → (is_there : Bool) → List ℕ → Kept → Type 0
-PutReply limits old app locale payload is_there text new =
-    ChangeReply limits old (put_change is_there) app locale payload (stored_line limits is_there) text new
 
 -- ---- other requests
 
@@ -78,7 +73,8 @@ ReleaseReply limits old app changes text new =
 abbrev pub AskReply : Limits → Kept → ExtendedAsk → List ℕ → Kept → Type 0
 AskReply limits old (Calls call) text new = CalledReply limits old call text new
 AskReply limits old (Puts app locale payload) text new =
-    PutReply limits old app locale payload (is_stored old (place_of app locale)) text new
+    ChangeReply limits old (put_change (is_stored old (place_of app locale))) app locale payload
+    (stored_line limits (is_stored old (place_of app locale))) text new
 AskReply limits old (Releases app changes) text new = ReleaseReply limits old app changes text new
 AskReply limits old (Exports app locale is_text) text new =
     ExportReply limits old is_text (app_of app) (name locale) text × (new ≡ old)

@@ -51,10 +51,6 @@ abbrev pub takes_place : Change → Option ℕ → ℕ → Bool
 takes_place change.Install held bundles = is_none held && nat_lt bundles bundle_limit
 takes_place change.Replace held bundles = is_some held
 
--- the total length of an application's files with a file of this length under a name
-abbrev pub used_with : List ℕ → Files → ℕ → ℕ
-used_with name files len = (used files - unwrap_or (len_at name files) 0) + len
-
 -- Why limits reject a file under a name, for an application with these files, while this many applications have
 -- bundles: the file is too long, the application's files would be, or there would be too many applications. Errors of
 -- the engine aren't limits.
@@ -62,7 +58,7 @@ abbrev pub file_refusal : Limits → Change → List ℕ → Files → ℕ → L
 file_refusal limits change name files apps file =
     if not (takes_place change (len_at name files) (length files)) then None
     else if is_over limits.bundle_bytes (length file) then Some BundleTooLong
-    else if is_over limits.app_bytes (used_with name files (length file)) then Some OverQuota
+    else if is_over limits.app_bytes ((used files - unwrap_or (len_at name files) 0) + length file) then Some OverQuota
     else if (length files == 0) && is_over limits.apps (apps + 1) then Some TooManyApps
     else None
 

@@ -37,25 +37,20 @@ at_index i r = record { error = r.error; code = r.code; index = Some i; line = r
 abbrev pub reason_line : Reason → List ℕ
 reason_line r = line_of (refusal_data r.error r.code r.index r.line)
 
-abbrev pub text_reason : SourceFault → Reason
-text_reason e = record { error = codes "BadText"; code = Some (kind_word e.kind); index = None; line = Some e.line }
-
-abbrev pub file_reason : FileFault → Reason
-file_reason e = record { error = codes "BadFile"; code = Some (word_of e); index = None; line = None }
-
 -- an error of a text, as `compile` reports one, with its line; or the first one of a file, as `accept` reports it
 abbrev pub IsFirstError : Payload → Reason → Type 0
 IsFirstError payload r =
-    ((e : SourceFault) × IsFirstFault payload (BadText e) × (e.kind ≢ Memory) × (r ≡ text_reason e))
-    ⊎ ((e : FileFault) × IsFirstFault payload (BadFile e) × (r ≡ file_reason e))
+    ((e : SourceFault) × IsFirstFault payload (BadText e) × (e.kind ≢ Memory)
+    × (r ≡ record { error = codes "BadText"; code = Some (kind_word e.kind); index = None; line = Some e.line }))
+    ⊎ ((e : FileFault) × IsFirstFault payload (BadFile e)
+    × (r ≡ record { error = codes "BadFile"; code = Some (word_of e); index = None; line = None }))
 
 -- the application's name is checked first, then the locale's, and then the payload's length, before it is read
 abbrev pub IsUnreadBy : Limits → Result (List ℕ) AppFault → Option (List ℕ) → Payload → Reason → Type 0
 IsUnreadBy limits (Err e) n payload r = r ≡ only (app_word e)
 IsUnreadBy limits (Ok a) None payload r = r ≡ only (codes "BadLocale")
-IsUnreadBy limits (Ok a) (Some n) payload r =
-    MatchBool (is_over limits.bundle_bytes (payload_len payload)) (r ≡ only (codes "BundleTooLong"))
-    (IsFirstError payload r)
+IsUnreadBy limits (Ok a) (Some n) payload r = MatchBool (is_over limits.bundle_bytes (payload_len payload))
+    (r ≡ only (codes "BundleTooLong")) (IsFirstError payload r)
 
 abbrev pub IsUnread : Limits → (app locale : List ℕ) → Payload → Reason → Type 0
 IsUnread limits app locale payload r = IsUnreadBy limits (app_of app) (name locale) payload r

@@ -50,18 +50,13 @@ HaveEdits limits app files done cs es = ⊥
 abbrev pub IsUntaken : Reason → DraftFault → Type 0
 IsUntaken r fault = r ≡ only (draft_word fault)
 
--- a bundle that the draft takes is refused for its file's length
-abbrev pub IsPutRefused : Limits → Drafted → Place → (file : List ℕ) → Reason → Type 0
-IsPutRefused limits draft p file r = MatchOption (put_fault p.name draft)
-    ((is_over limits.bundle_bytes (length file) ≡ true) × (r ≡ only (codes "BundleTooLong"))) (IsUntaken r)
-
+-- a payload isn't read, a bundle that the draft takes has a file that is too long, or a removal has no name
 abbrev pub IsRefusedChange : Limits → (app : List ℕ) → Drafted → ReleaseChange → Reason → Type 0
-IsRefusedChange limits app draft (PutsAt locale payload) r =
-    IsUnread limits app locale payload r
+IsRefusedChange limits app draft (PutsAt locale payload) r = IsUnread limits app locale payload r
     ⊎ ((p : Place) × (file : List ℕ) × (place_of app locale ≡ Ok p)
-    × BringsAt limits (place_of app locale) payload (Some file) × IsPutRefused limits draft p file r)
-IsRefusedChange limits app draft (RemovesAt locale) r =
-    MatchOption (name locale) (r ≡ only (codes "BadLocale"))
+    × BringsAt limits (place_of app locale) payload (Some file) × MatchOption (put_fault p.name draft)
+    ((is_over limits.bundle_bytes (length file) ≡ true) × (r ≡ only (codes "BundleTooLong"))) (IsUntaken r))
+IsRefusedChange limits app draft (RemovesAt locale) r = MatchOption (name locale) (r ≡ only (codes "BadLocale"))
     (λ n. MatchOption (removal_fault n draft) ⊥ (IsUntaken r))
 
 -- a change above the limit is refused for that, whatever else is wrong with it
@@ -70,16 +65,10 @@ IsRefusedAt limits app draft index change r =
     MatchBool (nat_lt index bundle_limit) (IsRefusedChange limits app draft change r) (r ≡ only (codes "Full"))
 
 -- the first change that is refused, with its index, after the edits of those before it
-pub record IsFirstRefused (limits : Limits) (app : List ℕ) (files : Files) (changes : List ReleaseChange) (r : Reason)
-    : Type 0 where
-  pub index : ℕ
-  pub change : ReleaseChange
-  pub at : slice_get changes index ≡ Some change
-  pub edits : Edits
-  pub before : HaveEdits limits app files [] (take index changes) edits
-  pub why : Reason
-  pub refused : IsRefusedAt limits app (draft_of app files edits) index change why
-  pub is : r ≡ at_index index why
+abbrev pub IsFirstRefused : Limits → (app : List ℕ) → Files → List ReleaseChange → Reason → Type 0
+IsFirstRefused limits app files cs r = (index : ℕ) × (change : ReleaseChange)
+    × (slice_get cs index ≡ Some change) × (edits : Edits) × HaveEdits limits app files [] (take index cs) edits
+    × (why : Reason) × IsRefusedAt limits app (draft_of app files edits) index change why × (r ≡ at_index index why)
 
 -- the limit that refuses all changes together, which lead from files to others, while this many applications have
 -- bundles: the files would be too long, or an application more would have some
@@ -95,11 +84,9 @@ IsSumRefused limits kept app edits r = (refusal : Refusal) × (sum_refusal limit
     × (r ≡ only (refusal_word refusal))
 
 -- the application's name is checked first, then each change, and then their sum
-abbrev pub IsUnreleased : Limits → Kept → (app : List ℕ) → Result (List ℕ) AppFault → List ReleaseChange → Reason
-    → Type 0
+abbrev pub IsUnreleased : Limits → Kept → List ℕ → Result (List ℕ) AppFault → List ReleaseChange → Reason → Type 0
 IsUnreleased limits kept app (Err e) changes r = r ≡ only (app_word e)
-IsUnreleased limits kept app (Ok a) changes r =
-    IsFirstRefused limits app (files_of a kept.packages) changes r
+IsUnreleased limits kept app (Ok a) changes r = IsFirstRefused limits app (files_of a kept.packages) changes r
     ⊎ ((edits : Edits) × HaveEdits limits app (files_of a kept.packages) [] changes edits
     × IsSumRefused limits kept a edits r)
 

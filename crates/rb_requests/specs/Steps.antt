@@ -42,10 +42,8 @@ BringsAt limits (Ok p) payload incoming =
 
 -- the file of the bundle in a call's payload, if any
 abbrev pub CallBrings : Limits → Call → Option (List ℕ) → Type 0
-CallBrings limits (Requests (request.Install app locale payload)) incoming =
-    BringsAt limits (place_of app locale) payload incoming
-CallBrings limits (Requests (request.Replace app locale payload)) incoming =
-    BringsAt limits (place_of app locale) payload incoming
+CallBrings limits (Requests (request.Install a l payload)) incoming = BringsAt limits (place_of a l) payload incoming
+CallBrings limits (Requests (request.Replace a l payload)) incoming = BringsAt limits (place_of a l) payload incoming
 CallBrings limits call incoming = incoming ≡ None
 
 -- ---- the files of the caller's bundles after a call
@@ -59,11 +57,9 @@ taken_out (Ok p) files = remove_entry (bytes_eq p.name) files
 taken_out (Err e) files = files
 
 abbrev pub files_done : Call → Option (List ℕ) → Files → Files
-files_done (Requests (request.Install app locale payload)) incoming files =
-    put_file change.Install (place_of app locale) incoming files
-files_done (Requests (request.Replace app locale payload)) incoming files =
-    put_file change.Replace (place_of app locale) incoming files
-files_done (Requests (request.Remove app locale)) incoming files = taken_out (place_of app locale) files
+files_done (Requests (request.Install a l p)) incoming files = put_file change.Install (place_of a l) incoming files
+files_done (Requests (request.Replace a l p)) incoming files = put_file change.Replace (place_of a l) incoming files
+files_done (Requests (request.Remove a l)) incoming files = taken_out (place_of a l) files
 files_done call incoming files = files
 
 -- a change that is done changes the files; nothing else does

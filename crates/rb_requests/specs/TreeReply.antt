@@ -23,17 +23,15 @@ use Rattle.rb_requests.specs.declared.limits.Limits.{Limits}
 -- the code of a tree's own error, which a lookup of its path needn't have: the tree takes too many steps or is too
 -- large, or its line is above the limit on replies, if there is one; when they come is left open
 abbrev pub IsTreeError : Limits → (word : List ℕ) → Type 0
-IsTreeError limits word =
-    (word ≡ codes "TooManySteps") ⊎ ((word ≡ codes "TreeTooLarge")
+IsTreeError limits word = (word ≡ codes "TooManySteps") ⊎ ((word ≡ codes "TreeTooLarge")
     ⊎ ((is_some limits.reply_bytes ≡ true) × (word ≡ codes "ReplyTooLong")))
 
 -- the tree of an item that a lookup under a name finds, with the lookup's locales, in a line within the limit; or the
 -- code of the tree's own error
 abbrev pub FoundReply : Limits → Bundles → ParentsOf → (n path : List ℕ) → Hit → (valid text : List ℕ) → Type 0
-FoundReply limits bundles parents n path hit valid text =
-    ((tree : List ℕ) × IsTreeOf bundles parents n path (λ written. tree ≡ written) hit
-    × (text ≡ tree_line hit.actual valid tree) × (IsAbove (length text) limits.reply_bytes → ⊥))
-    ⊎ ((word : List ℕ) × IsTreeError limits word × (text ≡ error_line word))
+FoundReply limits bundles parents n path hit valid text = ((tree : List ℕ)
+    × IsTreeOf bundles parents n path (λ written. tree ≡ written) hit × (text ≡ tree_line hit.actual valid tree)
+    × (IsAbove (length text) limits.reply_bytes → ⊥)) ⊎ ((w : List ℕ) × IsTreeError limits w × (text ≡ error_line w))
 
 -- the error of a lookup is that of the tree
 abbrev pub OutcomeReply : {E : Type 0} → Limits → Kept → Result Place E → (path : List ℕ) → Outcome → List ℕ → Type 0

@@ -6,10 +6,10 @@ use Rattle.std.specs.Str.{bytes_eq}
 use Rattle.serde_json.specs.Data.{Data}
 use Rattle.serde_json.specs.Written.{compact_text}
 use Rattle.rb_packages.specs.App.{app_of}
-use Rattle.rb_packages.specs.Packages.{Files, files_of}
+use Rattle.rb_packages.specs.Packages.{files_of}
 use Rattle.rb_packages.specs.declared.app.AppFault.{AppFault}
 use Rattle.rb_engine.specs.Ask.{Call}
-use Rattle.rb_engine.specs.Answer.{Response, Replies}
+use Rattle.rb_engine.specs.Answer.{Replies}
 use Rattle.rb_engine.specs.Kept.{Kept}
 use Rattle.rb_engine.specs.Place.{app_refusal}
 use Rattle.rb_engine.specs.Answer.{refusal}
@@ -43,14 +43,12 @@ longest_read limits = if is_some limits.line_bytes then 2 ^ 64 - 1 else line_lim
 -- any limit is on
 abbrev pub is_limited : Limits → Bool
 is_limited limits =
-    (is_some limits.bundle_bytes || (is_some limits.app_bytes
-    || (is_some limits.apps || is_some limits.steps)))
+    (is_some limits.bundle_bytes || (is_some limits.app_bytes || (is_some limits.apps || is_some limits.steps)))
     || (is_some limits.line_bytes || (is_some limits.reply_bytes || limits.keep_serving))
 
 -- the application whose usage a line asks for: an object with `op` "usage" and `app`
 abbrev pub usage_in : Data → Option (List ℕ)
-usage_in d =
-    option_and_then (λ op. if bytes_eq op (codes "usage") then text_at (codes "app") d else None)
+usage_in d = option_and_then (λ op. if bytes_eq op (codes "usage") then text_at (codes "app") d else None)
     (text_at (codes "op") d)
 
 -- the question counts only if any limit is on
@@ -59,21 +57,18 @@ asked_usage limits app = if is_limited limits then app else None
 
 -- ---- replies
 
-abbrev pub is_too_long : Limits → Response → Bool
-is_too_long limits response = is_over (limit_of response limits.reply_bytes) (length (reply_line (Some response)))
+-- a line, or the error if it is longer than the limit, if there is one
+abbrev pub limited_line : Option ℕ → List ℕ → List ℕ
+limited_line most text = if is_over most (length text) then error_line (codes "ReplyTooLong") else text
 
 abbrev pub outcome_line : Limits → Outcome → List ℕ
-outcome_line limits (Answers response) =
-    if is_too_long limits response then error_line (codes "ReplyTooLong") else reply_line (Some response)
+outcome_line limits (Answers r) = limited_line (limit_of r limits.reply_bytes) (reply_line (Some r))
 outcome_line limits (Refuses refusal) = error_line (refusal_word refusal)
 
 -- an application's usage: the bytes of its files, and their number
-abbrev pub usage_line : Files → List ℕ
-usage_line files = line_of (usage_data (used files) (length files))
-
 abbrev pub usage_reply : Kept → Result (List ℕ) AppFault → List ℕ
-usage_reply kept (Err e) = reply_line (Some (Replies (refusal (app_refusal e))))
-usage_reply kept (Ok app) = usage_line (files_of app kept.packages)
+usage_reply k (Err e) = reply_line (Some (Replies (refusal (app_refusal e))))
+usage_reply k (Ok app) = line_of (usage_data (used (files_of app k.packages)) (length (files_of app k.packages)))
 
 -- a call is judged, and this is its reply
 abbrev pub CallReply : Limits → Kept → Call → List ℕ → Kept → Type 0

@@ -16,3 +16,4 @@ pub mod TreePlaced
 pub mod Judged
 pub mod Drafted
 pub mod ExtendedTold
+pub mod ExtendedForms

@@ -1,13 +1,12 @@
 //! Returns what is stored: the files of bundles, their texts, and their lengths.
-ghost use Rattle.std.specs.Prelude.{◌≡◌, [], option_map, IfErr, IfOk, OnOk};
+ghost use Rattle.std.specs.Prelude.{◌≡◌, [], Some, true, option_map, IfErr, IfOk, OnOk};
 ghost use Rattle.rb_format.specs.File.{source_tree_of};
 ghost use Rattle.rb_locales.specs.Locale.{name as name_of};
 ghost use Rattle.rb_packages.specs.App.{app_of};
 ghost use Rattle.rb_printer.specs.Whole.{IsBundleText};
 ghost use Rattle.rb_replies.specs.Extended.{file_line, text_data};
-ghost use Rattle.rb_requests.specs.ExportReply.{ExportReply, FileReply, PrintedReply};
-ghost use Rattle.rb_requests.specs.ExportReply.{limited_line, sizes_reply};
-ghost use Rattle.rb_requests.specs.Within.{line_of};
+ghost use Rattle.rb_requests.specs.ExportReply.{ExportReply, FileReply, sizes_reply};
+ghost use Rattle.rb_requests.specs.Within.{limited_line, line_of};
 ghost use Rattle.rb_requests.specs.inner.Placing.{PlacesReply};
 ghost use Rattle.rb_requests.specs.inner.Putting.{Puts, writer};
 ghost use Rattle.rb_requests.specs.inner.Streaming.{Takes};
@@ -77,7 +76,7 @@ fn place_file<S: Sink>(
     ensures { PlacesReply result reply.new
         (writer (S.written sink.old) (S.faults sink.old) (S.settled sink.old))
         (writer (S.written sink.new) (S.faults sink.new) (S.settled sink.new))
-        (λ line. line ≡ limited_line limits.now (file_line file.now)) }
+        (λ line. line ≡ limited_line limits.now.reply_bytes (file_line file.now)) }
 {
     if file_is_above(file, limits.reply_bytes) {
         tell_line_error(alloc, LineError::ReplyTooLong, reply)?;
@@ -136,7 +135,7 @@ fn place_printed<S: Sink>(
     ensures { PlacesReply result reply.new
         (writer (S.written sink.old) (S.faults sink.old) (S.settled sink.old))
         (writer (S.written sink.new) (S.faults sink.new) (S.settled sink.new))
-        (λ line. line ≡ limited_line limits.now (line_of (text_data text.now))) }
+        (λ line. line ≡ limited_line limits.now.reply_bytes (line_of (text_data text.now))) }
 {
     if text_is_above(text, limits.reply_bytes) {
         tell_line_error(alloc, LineError::ReplyTooLong, reply)?;
@@ -169,7 +168,7 @@ fn place_text<S: Sink>(
     ensures { PlacesReply result reply.new
         (writer (S.written sink.old) (S.faults sink.old) (S.settled sink.old))
         (writer (S.written sink.new) (S.faults sink.new) (S.settled sink.new))
-        (PrintedReply limits.now name.now bundle.now) }
+        (FileReply limits.now true name.now (Some bundle.now)) }
 {
     let text = match text_of(alloc, name, bundle) {
         Ok(text) => text,

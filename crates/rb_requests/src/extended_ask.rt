@@ -2,8 +2,9 @@
 ghost use Rattle.std.specs.Prelude.{◌≡◌, option_map, IfOk};
 ghost use Rattle.serde_json.specs.Data.{Data};
 ghost use Rattle.rb_requests.specs.Asked.{call_in};
-ghost use Rattle.rb_requests.specs.ExtendedAsked.{Calls, export_in, extended_in, names_in, release_in};
-ghost use Rattle.rb_requests.specs.ExtendedAsked.{put_in, sized_list_in, tree_in, usage_asked};
+ghost use Rattle.rb_requests.specs.ExtendedAsked.{Calls, names_in, release_in};
+ghost use Rattle.rb_requests.specs.inner.ExtendedForms.{export_in, put_in, sized_list_in, tree_in};
+ghost use Rattle.rb_requests.specs.inner.ExtendedForms.{extended_in, usage_asked};
 ghost use Rattle.rb_requests.specs.inner.ExtendedLines.{AreAllOf, Asks, form_by, path_by};
 ghost use Rattle.rb_requests.specs.inner.Line.{lent};
 

@@ -6,9 +6,10 @@ ghost use Rattle.rb_packages.specs.App.{app_of};
 ghost use Rattle.rb_engine.specs.ReadFaults.{IsFirstFault};
 ghost use Rattle.rb_engine.specs.Source.{payload_of};
 ghost use Rattle.rb_engine.specs.declared.request.Payload.{Payload};
-ghost use Rattle.rb_requests.specs.Refused.{IsFirstError, at_index, file_reason, only, text_reason};
+ghost use Rattle.rb_requests.specs.Refused.{IsFirstError, at_index, only};
 ghost use Rattle.rb_requests.specs.inner.Drafted.{untaken_reason};
-ghost use Rattle.rb_requests.specs.inner.Judged.{IfRefused, Judges, reason_of};
+ghost use Rattle.rb_requests.specs.inner.Judged.{IfRefused, Judges, file_reason, reason_of};
+ghost use Rattle.rb_requests.specs.inner.Judged.{text_reason};
 ghost use Rattle.rb_requests.specs.inner.Judged.{names_error as error_of_names};
 
 use crate::changes::{is_over, source_len};

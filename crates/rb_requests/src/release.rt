@@ -12,11 +12,11 @@ ghost use Rattle.rb_engine.specs.declared.request.Payload.{Payload};
 ghost use Rattle.rb_requests.specs.Asked.{decoded};
 ghost use Rattle.rb_requests.specs.ExtendedAsked.{PutsAt, ReleaseChange, RemovesAt};
 ghost use Rattle.rb_requests.specs.Limits.{is_over as over};
-ghost use Rattle.rb_requests.specs.Released.{IsPutRefused, IsReleased, IsSumRefused, IsUnreleased};
-ghost use Rattle.rb_requests.specs.Released.{sum_refusal};
+ghost use Rattle.rb_requests.specs.Released.{IsReleased, IsSumRefused, IsUnreleased, sum_refusal};
 ghost use Rattle.rb_requests.specs.declared.limits.Limits.{Limits};
 ghost use Rattle.rb_requests.specs.inner.ChangesRead.{change_seen, changes_seen};
-ghost use Rattle.rb_requests.specs.inner.Drafted.{Adds, Drafts, DraftsAll, DraftsAt, refusal_by};
+ghost use Rattle.rb_requests.specs.inner.Drafted.{Adds, Drafts, DraftsAll, DraftsAt, IsPutRefused};
+ghost use Rattle.rb_requests.specs.inner.Drafted.{refusal_by};
 ghost use Rattle.rb_requests.specs.inner.Judged.{IfRefused};
 
 use crate::ask::decode;

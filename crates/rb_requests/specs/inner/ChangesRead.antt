@@ -6,7 +6,7 @@ use Rattle.serde_json.specs.Find.{get_member}
 use Rattle.hex.specs.Hex.{decode_of}
 use Rattle.rb_engine.specs.declared.request.Payload.TheVariants as payload
 use Rattle.rb_requests.specs.Asked.{decoded}
-use Rattle.rb_requests.specs.ExtendedAsked.{ReleaseChange, PutsAt, RemovesAt, release_change_in, all_changes, changes_in}
+use Rattle.rb_requests.specs.ExtendedAsked.{ReleaseChange, PutsAt, RemovesAt, release_change_in, all_changes}
 use Rattle.rb_requests.specs.declared.member.Member.{Member}
 use Rattle.rb_requests.specs.declared.member.Member.TheVariants as members
 use Rattle.rb_requests.specs.declared.change_list.ChangePayload.{ChangePayload}
@@ -16,6 +16,7 @@ use Rattle.rb_requests.specs.declared.change_list.ChangeTexts.{ChangeTexts}
 use Rattle.rb_requests.specs.declared.change_list.Changes.{Changes}
 use Rattle.rb_requests.specs.declared.change_list.Changes.TheVariants.{All, Other}
 use Rattle.rb_requests.specs.declared.change_list.ChangesSoFar.{ChangesSoFar}
+use Rattle.rb_requests.specs.inner.ExtendedForms.{changes_in}
 use Rattle.rb_requests.specs.inner.Line.{lent, payload_by}
 use Rattle.rb_requests.specs.inner.Texts.{IsAt}
 

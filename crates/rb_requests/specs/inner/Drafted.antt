@@ -1,21 +1,27 @@
 -- For what is private. Defines the effect of judging the changes of a release, and of adding them to a draft.
-use Rattle.std.specs.Prelude.{◌≡◌, ◌≤◌, ◌+◌, ◌==◌, ◌&&◌, ◌++◌, ◌∷◌, [], ℕ, List, length, nat_lt, if◌then◌else◌}
-use Rattle.std.specs.Prelude.{Option, Some, None, Result, Ok, Err}
+use Rattle.std.specs.Prelude.{◌≡◌, ◌≤◌, ◌+◌, ◌==◌, ◌&&◌, ◌++◌, ◌∷◌, [], ℕ, true, List, length, nat_lt, codes}
+use Rattle.std.specs.Prelude.{if◌then◌else◌, MatchOption, Option, Some, None, Result, Ok, Err}
 use Rattle.rb_packages.specs.Limits.{bundle_limit}
 use Rattle.rb_packages.specs.Packages.{Files}
-use Rattle.rb_packages.specs.Release.{Drafted, IsDraftOf}
+use Rattle.rb_packages.specs.Release.{Drafted, IsDraftOf, put_fault}
 use Rattle.rb_packages.specs.Words.{draft_word}
 use Rattle.rb_packages.specs.declared.fault.DraftFault.{DraftFault}
 use Rattle.rb_packages.specs.declared.fault.DraftFault.TheVariants.{Absent, Full, Memory}
+use Rattle.rb_engine.specs.declared.place.Place.{Place}
 use Rattle.rb_requests.specs.ExtendedAsked.{ReleaseChange}
 use Rattle.rb_requests.specs.Refused.{Reason, only, at_index}
-use Rattle.rb_requests.specs.Released.{HasEdit, HaveEdits, IsRefusedChange, IsRefusedAt, IsFirstRefused}
+use Rattle.rb_requests.specs.Released.{HasEdit, HaveEdits, IsRefusedChange, IsRefusedAt, IsFirstRefused, IsUntaken}
 use Rattle.rb_requests.specs.Limits.{is_over}
 use Rattle.rb_requests.specs.inner.Judged.{IfRefused}
 use Rattle.rb_requests.specs.declared.judged.Unmade.{Unmade}
 use Rattle.rb_requests.specs.declared.limits.Limits.{Limits}
 use Rattle.rb_requests.specs.declared.limits.Refusal.{Refusal}
 use Rattle.rb_requests.specs.declared.limits.Refusal.TheVariants.{OverQuota, TooManyApps}
+
+-- a bundle that the draft takes is refused for its file's length
+abbrev pub IsPutRefused : Limits → Drafted → Place → (file : List ℕ) → Reason → Type 0
+IsPutRefused limits draft p file r = MatchOption (put_fault p.name draft)
+    ((is_over limits.bundle_bytes (length file) ≡ true) × (r ≡ only (codes "BundleTooLong"))) (IsUntaken r)
 
 -- the reason why a draft doesn't take a change, which is none if memory ran out
 abbrev pub untaken_reason : DraftFault → Option Reason

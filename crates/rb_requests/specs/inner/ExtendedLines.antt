@@ -7,7 +7,7 @@ use Rattle.serde_json.specs.Data.{Data}
 use Rattle.serde_json.specs.Find.{get}
 use Rattle.rb_engine.specs.Source.{payload_of}
 use Rattle.rb_requests.specs.ExtendedAsked.{ReleaseChange, ExtendedAsk, Calls, Puts, Releases, Exports, AsksTree, AsksSizes, AsksUsage}
-use Rattle.rb_requests.specs.ExtendedAsked.{flag_in, path_in, form_in, changes_in}
+use Rattle.rb_requests.specs.ExtendedAsked.{flag_in, path_in, form_in}
 use Rattle.rb_requests.specs.declared.change_list.Changes.{Changes}
 use Rattle.rb_requests.specs.declared.extended_ask.ExtendedLine.{ExtendedLine}
 use Rattle.rb_requests.specs.declared.extended_ask.ExtendedLine.TheVariants as lines
@@ -15,6 +15,7 @@ use Rattle.rb_requests.specs.declared.extended_texts.ExtendedTexts.{ExtendedText
 use Rattle.rb_requests.specs.declared.member.Member.{Member}
 use Rattle.rb_requests.specs.declared.member.Member.TheVariants as members
 use Rattle.rb_requests.specs.inner.ChangesRead.{AreOf, changes_seen, flag_by}
+use Rattle.rb_requests.specs.inner.ExtendedForms.{changes_in}
 use Rattle.rb_requests.specs.inner.Line.{AreTextsOf, line_view, text_in}
 
 -- ---- requests that were read

@@ -1,5 +1,9 @@
 -- For what is private. Defines the outcome of judging a payload, and the reason why a change isn't made.
 use Rattle.std.specs.Prelude.{◌≡◌, ℕ, true, List, Option, Some, None, option_map, Result, Ok, Err, codes}
+use Rattle.rb_lexer.specs.Words.{kind_word}
+use Rattle.rb_lexer.specs.declared.fault.SourceFault.{SourceFault}
+use Rattle.rb_format.specs.Words.{word_of}
+use Rattle.rb_format.specs.declared.fault.FileFault.{FileFault}
 use Rattle.rb_packages.specs.Words.{app_word}
 use Rattle.rb_packages.specs.declared.app.AppFault.{AppFault}
 use Rattle.rb_replies.specs.declared.extended.Detail.{Detail}
@@ -21,6 +25,13 @@ reason word detail = record {
   index = detail.index;
   line = detail.line;
 }
+
+-- the reason of a text's error, and of a file's
+abbrev pub text_reason : SourceFault → Reason
+text_reason e = record { error = codes "BadText"; code = Some (kind_word e.kind); index = None; line = Some e.line }
+
+abbrev pub file_reason : FileFault → Reason
+file_reason e = record { error = codes "BadFile"; code = Some (word_of e); index = None; line = None }
 
 -- the reason of a refusal, which is none if memory ran out
 abbrev pub reason_of : Unmade → Option Reason

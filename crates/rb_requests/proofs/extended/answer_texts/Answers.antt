@@ -1,5 +1,6 @@
 use Rattle.std.proofs.Common.{Option, sym, subst}
-use Rattle.rb_requests.specs.ExtendedAsked.{ExtendedAsk, extended_in}
+use Rattle.rb_requests.specs.ExtendedAsked.{ExtendedAsk}
+use Rattle.rb_requests.specs.inner.ExtendedForms.{extended_in}
 use Rattle.rb_requests.specs.ExtendedReply.{ExtendedReply}
 use Rattle.rb_requests.specs.inner.Starving.{LeavesOf}
 use Rattle.rb_requests.proofs.Extending.{asked_of, left_more}

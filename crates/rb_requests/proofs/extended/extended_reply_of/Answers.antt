@@ -1,6 +1,6 @@
 use Rattle.std.proofs.Common.{Option, option_and_then, sym, subst}
 use Rattle.serde_json.specs.Data.{Data, object}
-use Rattle.rb_requests.specs.ExtendedAsked.{extended_in}
+use Rattle.rb_requests.specs.inner.ExtendedForms.{extended_in}
 use Rattle.rb_requests.specs.ExtendedReply.{ExtendedReply}
 use Rattle.rb_requests.specs.inner.Starving.{LeavesOf}
 use Rattle.rb_requests.proofs.ExtendedFound.{all_of}
