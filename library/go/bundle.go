@@ -6,6 +6,24 @@ package resb
 
 static resb_bundle *new_bundle(void) { return calloc(1, sizeof(resb_bundle)); }
 
+typedef struct item {
+	uint32_t error;
+	size_t len;
+} item;
+
+// Writes an item as JSON, but no long one where `most` is less: even its length would take long.
+static item item_json(resb *handle, const char *app, size_t app_len, const char *locale, size_t locale_len, const char *path,
+                      size_t path_len, uint64_t steps, size_t most, char *out, size_t capacity) {
+	resb_found found;
+	item made = {resb_look_within(handle, app, app_len, locale, locale_len, path, path_len, steps, &found), 0};
+	if (made.error)
+		return made;
+	if (found.count > most)
+		return (item){RESB_NO_ROOM, found.count};
+	made.error = resb_item_json(handle, app, app_len, locale, locale_len, path, path_len, steps, out, capacity, &made.len);
+	return made;
+}
+
 // Ends the process without memory, as C.CBytes does.
 static resb_edit *new_edits(size_t count) {
 	resb_edit *edits = calloc(count + 1, sizeof(resb_edit));
@@ -19,6 +37,7 @@ import "C"
 import (
 	"errors"
 	"fmt"
+	"math"
 	"runtime"
 	"sync"
 	"unsafe"
@@ -74,21 +93,26 @@ func (b *Bundle) Discard() {
 	}
 }
 
-// writing returns what a call on the bundle writes.
+// with runs a call on the handle.
+func (b *Bundle) with(call func(handle *C.resb_bundle) C.uint32_t) error {
+	b.lock.Lock()
+	defer b.lock.Unlock()
+	if b.handle == nil {
+		return errorOf(C.RESB_NOT_OPEN)
+	}
+	return errorOf(call(b.handle))
+}
+
+// writing returns what a call on the handle writes.
 func (b *Bundle) writing(call func(handle *C.resb_bundle, out *C.char, room C.size_t, length *C.size_t) C.uint32_t) ([]byte, error) {
-	return written(func(out *C.char, room C.size_t, length *C.size_t) error {
-		b.lock.Lock()
-		defer b.lock.Unlock()
-		if b.handle == nil {
-			return errorOf(C.RESB_NOT_OPEN)
-		}
-		return errorOf(call(b.handle, out, room, length))
+	return written(4096, func(out *C.char, room C.size_t, length *C.size_t) error {
+		return b.with(func(h *C.resb_bundle) C.uint32_t { return call(h, out, room, length) })
 	})
 }
 
 // written returns what a call writes to a buffer, which grows as the call asks.
-func written(call func(out *C.char, room C.size_t, length *C.size_t) error) ([]byte, error) {
-	out := make([]byte, 1024)
+func written(capacity int, call func(out *C.char, room C.size_t, length *C.size_t) error) ([]byte, error) {
+	out := make([]byte, capacity)
 	for {
 		var length C.size_t
 		err := call((*C.char)(unsafe.Pointer(&out[0])), C.size_t(len(out)), &length)
@@ -103,6 +127,18 @@ func written(call func(out *C.char, room C.size_t, length *C.size_t) error) ([]b
 	}
 }
 
+// FileLen returns the length of the .res file of the bundle, without writing it.
+func (b *Bundle) FileLen() (int, error) {
+	var length C.size_t
+	err := b.with(func(h *C.resb_bundle) C.uint32_t {
+		return C.resb_bundle_file(h, unsafe.Pointer(&nothing[0]), 0, &length)
+	})
+	if errors.Is(err, Code(C.RESB_NO_ROOM)) { // no file is empty
+		err = nil
+	}
+	return int(length), err
+}
+
 // File returns the .res file of the bundle.
 func (b *Bundle) File() ([]byte, error) {
 	return b.writing(func(h *C.resb_bundle, out *C.char, room C.size_t, length *C.size_t) C.uint32_t {
@@ -112,7 +148,7 @@ func (b *Bundle) File() ([]byte, error) {
 
 // Text returns the bundle as a text under the name of a locale.
 func (b *Bundle) Text(locale string) (string, error) {
-	l, ln := bytes([]byte(locale))
+	l, ln := textOf(locale)
 	text, err := b.writing(func(h *C.resb_bundle, out *C.char, room C.size_t, length *C.size_t) C.uint32_t {
 		return C.resb_bundle_text(h, l, ln, out, room, length)
 	})
@@ -146,7 +182,7 @@ func (e *EditError) Unwrap() error { return e.Err }
 // Release makes changes of an application in their order: all, or none if it returns an error. It discards the bundles, also then. No
 // bundle may be in two edits.
 func (b *Bundles) Release(app string, edits []Edit) error {
-	a, an := bytes([]byte(app))
+	a, an := textOf(app)
 	copies, free, err := editsOf(edits)
 	defer free()
 	if err != nil {
@@ -198,25 +234,42 @@ func (b *Bundle) moveTo(other *C.resb_bundle) bool {
 
 // ItemJSON looks up an item within a number of steps, and returns it as the reply of `resb serve` (docs/SERVER.md).
 func (b *Bundles) ItemJSON(app, locale, path string, steps uint64) ([]byte, error) {
-	a, an := bytes([]byte(app))
-	l, ln := bytes([]byte(locale))
-	p, pn := bytes([]byte(path))
-	return written(func(out *C.char, room C.size_t, length *C.size_t) error {
-		return b.with(func(h *C.resb) C.uint32_t {
-			return C.resb_item_json(h, a, an, l, ln, p, pn, C.uint64_t(steps), out, room, length)
+	item, _, err := b.AppendItemJSON(nil, app, locale, path, steps, math.MaxInt)
+	return item, err
+}
+
+// AppendItemJSON appends to a slice what ItemJSON returns. If that has more than most bytes, it appends nothing, and returns about how many
+// there are: a long item isn't written to measure it.
+func (b *Bundles) AppendItemJSON(to []byte, app, locale, path string, steps uint64, most int) (reply []byte, needs int, err error) {
+	a, an := textOf(app)
+	l, ln := textOf(locale)
+	p, pn := textOf(path)
+	for {
+		out, room := bytes(to[len(to):cap(to)])
+		var made C.item
+		err = b.with(func(h *C.resb) C.uint32_t {
+			made = C.item_json(h, a, an, l, ln, p, pn, C.uint64_t(steps), C.size_t(most), out, room)
+			return made.error
 		})
-	})
+		switch {
+		case err == nil:
+			return to[:len(to)+int(made.len)], 0, nil
+		case made.error != C.RESB_NO_ROOM:
+			return to, 0, err
+		case made.len > C.size_t(most):
+			return to, int(made.len), nil
+		}
+		to = append(make([]byte, 0, len(to)+int(made.len)+1), to...) // one more for a line feed
+	}
 }
 
 // TreeJSON looks up an item, and returns it with everything that it inherits as one JSON value, within a number of steps.
 func (b *Bundles) TreeJSON(app, locale, path string, steps uint64) ([]byte, error) {
-	a, an := bytes([]byte(app))
-	l, ln := bytes([]byte(locale))
-	p, pn := bytes([]byte(path))
-	return written(func(out *C.char, room C.size_t, length *C.size_t) error {
-		return b.with(func(h *C.resb) C.uint32_t {
-			return C.resb_tree_json(h, a, an, l, ln, p, pn, C.uint64_t(steps), out, room, length)
-		})
+	a, an := textOf(app)
+	l, ln := textOf(locale)
+	p, pn := textOf(path)
+	return b.writing(16<<10, func(h *C.resb, out *C.char, room C.size_t, length *C.size_t) C.uint32_t {
+		return C.resb_tree_json(h, a, an, l, ln, p, pn, C.uint64_t(steps), out, room, length)
 	})
 }
 

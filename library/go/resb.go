@@ -68,6 +68,17 @@ func (c Code) Error() string {
 	return C.GoString(C.resb_error_name(C.uint32_t(c)))
 }
 
+// Short returns the name without the kind of the form in front, such as "BadInt" for "TextBadInt": `resb explain` explains it.
+func (c Code) Short() string {
+	name := c.Error()
+	for _, form := range []string{"Text", "File", "Parents", "Json"} {
+		if short := strings.TrimPrefix(name, form); short != name {
+			return short
+		}
+	}
+	return name
+}
+
 // An Error is what each function returns: a Code, and the line of an error in a text, or the locale of a bundle of ICUDATA.
 type Error struct {
 	Code   Code
@@ -105,6 +116,17 @@ func bytes(b []byte) (*C.char, C.size_t) {
 	}
 	return (*C.char)(unsafe.Pointer(&b[0])), C.size_t(len(b))
 }
+
+// textOf returns where a text begins, which is never nil, and how many bytes it has.
+func textOf(s string) (*C.char, C.size_t) {
+	if s == "" {
+		return bytes(nil)
+	}
+	return *(**C.char)(unsafe.Pointer(&s)), C.size_t(len(s)) // the first word of a string
+}
+
+// Version returns the version of the library.
+func Version() string { return C.GoString(C.resb_version()) }
 
 // Check returns nil for a valid .res file, and else its first error.
 func Check(file []byte) error {
@@ -254,10 +276,17 @@ func (b *Bundles) with(call func(handle *C.resb) C.uint32_t) error {
 	return errorOf(call(b.handle))
 }
 
+// writing returns what a call on the handle writes, at first to a buffer of some capacity.
+func (b *Bundles) writing(capacity int, call func(handle *C.resb, out *C.char, room C.size_t, length *C.size_t) C.uint32_t) ([]byte, error) {
+	return written(capacity, func(out *C.char, room C.size_t, length *C.size_t) error {
+		return b.with(func(h *C.resb) C.uint32_t { return call(h, out, room, length) })
+	})
+}
+
 // Install installs a bundle of an application: a text, or else a .res file.
 func (b *Bundles) Install(app, locale string, bundle []byte, isText bool) error {
-	a, an := bytes([]byte(app))
-	l, ln := bytes([]byte(locale))
+	a, an := textOf(app)
+	l, ln := textOf(locale)
 	p, n := bytes(bundle)
 	return b.with(func(h *C.resb) C.uint32_t {
 		return C.resb_install(h, a, an, l, ln, unsafe.Pointer(p), n, C.bool(isText))
@@ -266,8 +295,8 @@ func (b *Bundles) Install(app, locale string, bundle []byte, isText bool) error 
 
 // Replace replaces a bundle of an application.
 func (b *Bundles) Replace(app, locale string, bundle []byte, isText bool) error {
-	a, an := bytes([]byte(app))
-	l, ln := bytes([]byte(locale))
+	a, an := textOf(app)
+	l, ln := textOf(locale)
 	p, n := bytes(bundle)
 	return b.with(func(h *C.resb) C.uint32_t {
 		return C.resb_replace(h, a, an, l, ln, unsafe.Pointer(p), n, C.bool(isText))
@@ -276,34 +305,26 @@ func (b *Bundles) Replace(app, locale string, bundle []byte, isText bool) error 
 
 // Remove removes a bundle of an application.
 func (b *Bundles) Remove(app, locale string) error {
-	a, an := bytes([]byte(app))
-	l, ln := bytes([]byte(locale))
+	a, an := textOf(app)
+	l, ln := textOf(locale)
 	return b.with(func(h *C.resb) C.uint32_t { return C.resb_remove(h, a, an, l, ln) })
 }
 
 // List returns the locales of an application's bundles in the order of their installation.
 func (b *Bundles) List(app string) ([]string, error) {
-	a, an := bytes([]byte(app))
-	out := make([]byte, 256)
-	for {
-		var length C.size_t
-		err := b.with(func(h *C.resb) C.uint32_t {
-			return C.resb_list(h, a, an, (*C.char)(unsafe.Pointer(&out[0])), C.size_t(len(out)), &length)
-		})
-		if errors.Is(err, Code(C.RESB_NO_ROOM)) {
-			out = make([]byte, length)
-			continue
-		}
-		if err != nil || length == 0 {
-			return nil, err
-		}
-		return strings.Split(string(out[:length-1]), "\x00"), nil
+	a, an := textOf(app)
+	names, err := b.writing(256, func(h *C.resb, out *C.char, room C.size_t, length *C.size_t) C.uint32_t {
+		return C.resb_list(h, a, an, out, room, length)
+	})
+	if len(names) == 0 {
+		return nil, err
 	}
+	return strings.Split(string(names[:len(names)-1]), "\x00"), nil
 }
 
 // Usage returns the total length of the files that an application stores, and the number of its bundles.
 func (b *Bundles) Usage(app string) (length, bundles uint64, err error) {
-	a, an := bytes([]byte(app))
+	a, an := textOf(app)
 	err = b.with(func(h *C.resb) C.uint32_t {
 		return C.resb_usage(h, a, an, (*C.uint64_t)(&length), (*C.uint64_t)(&bundles))
 	})
@@ -318,9 +339,9 @@ func (b *Bundles) Apps() (count uint64, err error) {
 
 // Text looks up a string.
 func (b *Bundles) Text(app, locale, path string) (string, error) {
-	a, an := bytes([]byte(app))
-	l, ln := bytes([]byte(locale))
-	p, pn := bytes([]byte(path))
+	a, an := textOf(app)
+	l, ln := textOf(locale)
+	p, pn := textOf(path)
 	units := make([]uint16, 128)
 	for {
 		var length C.size_t
@@ -340,9 +361,9 @@ func (b *Bundles) Text(app, locale, path string) (string, error) {
 
 // Look looks up an item: a string, []byte, int32, []int32, Table or Array.
 func (b *Bundles) Look(app, locale, path string) (any, error) {
-	a, an := bytes([]byte(app))
-	l, ln := bytes([]byte(locale))
-	p, pn := bytes([]byte(path))
+	a, an := textOf(app)
+	l, ln := textOf(locale)
+	p, pn := textOf(path)
 	return b.value(func(h *C.resb, found *C.resb_found) C.uint32_t {
 		return C.resb_look(h, a, an, l, ln, p, pn, found)
 	})
@@ -350,9 +371,9 @@ func (b *Bundles) Look(app, locale, path string) (any, error) {
 
 // LookWithin looks up like Look, or returns the error TooManySteps if the lookup takes more than this many steps.
 func (b *Bundles) LookWithin(app, locale, path string, steps uint64) (any, error) {
-	a, an := bytes([]byte(app))
-	l, ln := bytes([]byte(locale))
-	p, pn := bytes([]byte(path))
+	a, an := textOf(app)
+	l, ln := textOf(locale)
+	p, pn := textOf(path)
 	return b.value(func(h *C.resb, found *C.resb_found) C.uint32_t {
 		return C.resb_look_within(h, a, an, l, ln, p, pn, C.uint64_t(steps), found)
 	})
@@ -401,22 +422,11 @@ func valueOf(found *C.resb_found) any {
 
 // Key returns the key of an entry of a table, in the order of the keys.
 func (b *Bundles) Key(app, locale, path string, index int) (string, error) {
-	a, an := bytes([]byte(app))
-	l, ln := bytes([]byte(locale))
-	p, pn := bytes([]byte(path))
-	out := make([]byte, 64)
-	for {
-		var length C.size_t
-		err := b.with(func(h *C.resb) C.uint32_t {
-			return C.resb_key(h, a, an, l, ln, p, pn, C.size_t(index), (*C.char)(unsafe.Pointer(&out[0])), C.size_t(len(out)), &length)
-		})
-		if errors.Is(err, Code(C.RESB_NO_ROOM)) {
-			out = make([]byte, length)
-			continue
-		}
-		if err != nil {
-			return "", err
-		}
-		return string(out[:length]), nil
-	}
+	a, an := textOf(app)
+	l, ln := textOf(locale)
+	p, pn := textOf(path)
+	key, err := b.writing(64, func(h *C.resb, out *C.char, room C.size_t, length *C.size_t) C.uint32_t {
+		return C.resb_key(h, a, an, l, ln, p, pn, C.size_t(index), out, room, length)
+	})
+	return string(key), err
 }

@@ -60,6 +60,9 @@ func TestErrors(t *testing.T) {
 	if !errors.As(err, &fault) || err.Error() != "TextBadInt, line 2" || fault.Line != 2 || !errors.Is(err, fault.Code) {
 		t.Error(err)
 	}
+	if fault.Code.Short() != "BadInt" || resb.ErrBadText.Short() != "BadText" {
+		t.Error(fault.Code.Short())
+	}
 	if err := resb.Check(nil); err == nil || err.Error() != "FileHeader" {
 		t.Error(err)
 	}
@@ -218,6 +221,73 @@ func TestForgottenShares(t *testing.T) {
 	}
 }
 
+// TestPool looks up on several goroutines while bundles change: each lookup finds a whole state.
+func TestPool(t *testing.T) {
+	pool, err := resb.OpenPool(resb.Options{}, 3)
+	if err != nil {
+		t.Fatal(err)
+	}
+	put := func(number int) {
+		edits := []resb.Edit{{"de", prepared(t, fmt.Sprintf(`x{n{"%d"}}`, number))}, {"fr", prepared(t, fmt.Sprintf(`x{n{"%d"}}`, number))}}
+		if err := pool.Change(func(b *resb.Bundles) error { return b.Release("shop", edits) }); err != nil {
+			t.Error(err)
+		}
+	}
+	put(0)
+	var group sync.WaitGroup
+	for i := 0; i < 8; i++ {
+		i := i
+		group.Add(1)
+		go func() {
+			defer group.Done()
+			for k := 0; k < 200; k++ {
+				if i == 0 && k%10 == 0 {
+					put(k)
+				}
+				pool.Look(func(b *resb.Bundles) {
+					one, err := b.Text("shop", "de", "n")
+					other, errToo := b.Text("shop", "fr", "n")
+					if err != nil || errToo != nil || one != other {
+						t.Error(one, err, other, errToo)
+					}
+				})
+			}
+		}()
+	}
+	group.Wait()
+	if err := pool.Change(func(*resb.Bundles) error { return resb.ErrFull }); err != resb.ErrFull {
+		t.Error(err)
+	}
+	if _, err := resb.OpenPool(resb.Options{Parents: []byte("x{}")}, 2); fmt.Sprint(err) != "ParentsShape" {
+		t.Error(err)
+	}
+}
+
+// TestAppendItemJSON appends replies, and none that is too long.
+func TestAppendItemJSON(t *testing.T) {
+	b := opened(t)
+	const low = `{"actual":"de","signed":-1,"type":"int","unsigned":268435455,"valid":"de"}`
+	to := []byte("[")
+	for _, capacity := range []int{0, 1000} {
+		item, needs, err := b.AppendItemJSON(append(make([]byte, 0, capacity), to...), "shop", "de", "low", 1000, 1000)
+		if string(item) != "["+low || needs != 0 || err != nil {
+			t.Errorf("%s, %d, %v", item, needs, err)
+		}
+	}
+	if item, needs, err := b.AppendItemJSON(to, "shop", "de", "low", 1000, len(low)-1); string(item) != "[" || needs != len(low) || err != nil {
+		t.Errorf("%s, %d, %v", item, needs, err)
+	}
+	if err := b.Install("shop", "fr", []byte(fmt.Sprintf(`fr{long{"%s"}}`, bytes.Repeat([]byte("a"), 5000))), true); err != nil {
+		t.Fatal(err)
+	}
+	if item, needs, err := b.AppendItemJSON(to, "shop", "fr", "long", 1000, 4999); string(item) != "[" || needs != 5000 || err != nil {
+		t.Errorf("%s, %d, %v", item, needs, err)
+	}
+	if item, _, err := b.AppendItemJSON(to, "shop", "de", "none", 1000, 1000); string(item) != "[" || !errors.Is(err, resb.ErrMissing) {
+		t.Errorf("%s, %v", item, err)
+	}
+}
+
 func Example() {
 	bundles, err := resb.Open()
 	if err != nil {
@@ -277,9 +347,15 @@ func TestBundle(t *testing.T) {
 	if err != nil || errToo != nil || !bytes.Equal(one, two) || resb.CheckForICU(one) != nil {
 		t.Error(err, errToo, one, two)
 	}
+	if length, err := bundle.FileLen(); length != len(one) || err != nil {
+		t.Error(length, err)
+	}
 	bundle.Discard()
 	again.Discard()
 	if _, err := bundle.JSON(); !errors.Is(err, resb.ErrNotOpen) {
+		t.Error(err)
+	}
+	if _, err := bundle.FileLen(); !errors.Is(err, resb.ErrNotOpen) {
 		t.Error(err)
 	}
 	var fault *resb.Error
