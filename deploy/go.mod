@@ -2,6 +2,10 @@ module luvdregan.example/resb/deploy
 
 go 1.19
 
+require luvdregan.example/resb/library/go v0.0.0
+
+replace luvdregan.example/resb/library/go => ../library/go
+
 require (
 	github.com/beorn7/perks v1.0.1
 	github.com/cespare/xxhash/v2 v2.1.2

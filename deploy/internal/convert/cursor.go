@@ -10,88 +10,104 @@ import (
 // A cursor walks through a text of JSON, from one value to the next.
 type cursor struct {
 	text []byte
-	from *json.Decoder
+	at   int         // after what was passed
 	open []container // what the value is in
 	path []string    // of the value
 }
 
 // A container is an object, whose names were read, or an array.
 type container struct {
+	end   byte
 	names map[string]bool
 	count int
 }
 
-// What ends a walk, beside an error code of JSON.
+// atEnd ends a walk, as error codes of JSON do.
 const atEnd = "end"
 
-func newCursor(text []byte) *cursor {
-	c := &cursor{text: text, from: json.NewDecoder(bytes.NewReader(text))}
-	c.from.UseNumber()
-	return c
-}
+// The characters between values.
+const (
+	blank   = " \t\r\n"
+	between = blank + ",:"
+)
 
-// begin returns where the next token begins.
-func (c *cursor) begin() int {
-	at := int(c.from.InputOffset())
-	for at < len(c.text) && strings.IndexByte(" \t\r\n,:", c.text[at]) >= 0 {
-		at++
+// skip passes what is between two values, and returns the comma or colon there.
+func (c *cursor) skip() string {
+	from := c.at
+	for c.at < len(c.text) && strings.IndexByte(between, c.text[c.at]) >= 0 {
+		c.at++
 	}
-	return at
+	return string(bytes.Trim(c.text[from:c.at], blank))
 }
 
 // next passes the next value, or the begin of one that has values in it. It returns where that begins, or why there is none.
 func (c *cursor) next() (at int, code string) {
-	for len(c.open) > 0 && !c.from.More() {
-		at = c.begin()
-		if _, err := c.from.Token(); err != nil {
+	isFirst, n := c.at == 0, len(c.open)
+	mark := c.skip()
+	for n > 0 && mark == "" && c.isAt(c.open[n-1].end) {
+		n--
+		c.at++
+		mark = c.skip()
+	}
+	c.open = c.open[:n]
+	switch {
+	case n > 0:
+		if code = c.key(&c.open[n-1], mark); code != "" {
+			return c.at, code
+		}
+	case isFirst && mark != "":
+		return c.at, "NotJson"
+	case !isFirst:
+		if c.path = nil; c.at < len(c.text) || mark != "" {
+			return c.at, "TrailingText"
+		}
+		return c.at, atEnd
+	}
+	at = c.at
+	switch {
+	case c.isAt('{'):
+		c.open = append(c.open, container{end: '}', names: map[string]bool{}})
+		c.at++
+	case c.isAt('['):
+		c.open = append(c.open, container{end: ']'})
+		c.at++
+	default:
+		value, _ := cutValue(c.text[at:])
+		if c.at += len(value); !json.Valid(value) {
 			return at, "NotJson"
 		}
-		c.open = c.open[:len(c.open)-1]
-	}
-	at = c.begin()
-	if n := len(c.open); n > 0 {
-		if at, code = c.key(n, at); code != "" {
-			return at, code
-		}
-	} else if c.from.InputOffset() > 0 { // of a whole value
-		c.path = nil
-		if at < len(c.text) {
-			return at, "TrailingText"
-		}
-		return at, atEnd
-	}
-	switch token, err := c.from.Token(); {
-	case err != nil || token == json.Delim('}') || token == json.Delim(']'):
-		return at, "NotJson"
-	case token == json.Delim('{'):
-		c.open = append(c.open, container{names: map[string]bool{}})
-	case token == json.Delim('['):
-		c.open = append(c.open, container{})
 	}
 	return at, ""
 }
 
-// key passes the name or the index of the next value, and returns where the value begins.
-func (c *cursor) key(depth, at int) (int, string) {
-	top := &c.open[depth-1]
-	key := strconv.Itoa(top.count)
-	top.count++
-	if top.names != nil {
-		token, _ := c.from.Token()
-		name, isName := token.(string)
-		if !isName {
-			return at, "NotJson"
+func (c *cursor) isAt(b byte) bool { return c.at < len(c.text) && c.text[c.at] == b }
+
+// key passes the name or the index of the next value, after what is between that and the last one.
+func (c *cursor) key(in *container, mark string) (code string) {
+	isWrong := mark == "" != (in.count == 0)
+	name := strconv.Itoa(in.count)
+	in.count++
+	if in.names != nil {
+		quoted, _ := cutValue(c.text[c.at:])
+		if isWrong || !c.isAt('"') || !json.Valid(quoted) {
+			return "NotJson"
 		}
-		key, at = name, c.begin()
+		name = string(unquoted(quoted))
+		c.at += len(quoted)
+		isWrong = c.skip() != ":"
+	} else if mark == "" && c.at == len(c.text) {
+		return "NotJson"
 	}
-	c.path = append(c.path[:depth-1], key)
-	if top.names[key] {
-		return at, "DuplicateKey"
+	c.path = append(c.path[:len(c.open)-1], name)
+	switch {
+	case in.names[name]:
+		return "DuplicateKey"
+	case isWrong:
+		return "NotJson"
+	case in.names != nil:
+		in.names[name] = true
 	}
-	if top.names != nil {
-		top.names[key] = true
-	}
-	return at, ""
+	return ""
 }
 
 // isOnTheWay returns true if the value at which the cursor is has the item at a path in it, or is it.

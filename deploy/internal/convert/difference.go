@@ -4,8 +4,6 @@ import (
 	"bytes"
 	"context"
 	"encoding/json"
-	"sort"
-	"strconv"
 	"strings"
 )
 
@@ -34,30 +32,37 @@ func Differences(ctx context.Context, old, new json.RawMessage, most int) ([]Dif
 
 // compare compares the items at a path, of which an empty one is missing.
 func (d *differ) compare(path []string, old, new json.RawMessage) error {
+	a, inA := itemsIn(old)
+	b, inB := itemsIn(new)
 	switch {
 	case bytes.Equal(old, new):
 		return nil
 	case d.ctx.Err() != nil:
 		return ErrTime
-	}
-	a, b := itemsOf(old), itemsOf(new)
-	if len(old) > 0 && len(new) > 0 && a.kind != b.kind {
+	case len(old) > 0 && len(new) > 0 && a != b:
 		if err := d.compare(path, old, nil); err != nil {
 			return err
 		}
 		return d.compare(path, nil, new)
-	}
-	keys := a.keysWith(b)
-	if len(keys) == 0 {
+	case !inA && !inB:
 		return d.add(path, old, new)
 	}
-	for _, key := range keys {
-		name := strings.TrimPrefix(key, ":") // as the bundle has it
-		if err := d.compare(append(path, name), a.items[key], b.items[key]); err != nil {
-			return err
+	return pairs(membersOf(old), membersOf(new), func(one, other member) error {
+		name := one.name
+		if one.value == nil {
+			name = other.name
 		}
+		return d.compare(append(path, strings.TrimPrefix(string(name), ":")), one.value, other.value) // as the bundle has it
+	})
+}
+
+// itemsIn returns the brace that begins an item, or 0 for one that has no items, and whether there are items in it.
+func itemsIn(value []byte) (brace byte, are bool) {
+	first := membersOf(value)()
+	if len(value) == 0 || value[0] != '{' && value[0] != '[' || isSpecial(string(first.name)) {
+		return 0, false
 	}
-	return nil
+	return value[0], first.value != nil
 }
 
 func (d *differ) add(path []string, old, new json.RawMessage) error {
@@ -69,56 +74,8 @@ func (d *differ) add(path []string, old, new json.RawMessage) error {
 	return nil
 }
 
-// An itemSet has the items in an item. Its kind is that of the brace, or 0 for an item without items in it.
-type itemSet struct {
-	kind  byte
-	items map[string]json.RawMessage
-}
-
-func itemsOf(value json.RawMessage) (c itemSet) {
-	switch {
-	case len(value) == 0:
-	case value[0] == '{':
-		c.kind = '{'
-		_ = json.Unmarshal(value, &c.items) // the library wrote it
-		for key := range c.items {
-			if isSpecial(key) {
-				return itemSet{}
-			}
-		}
-	case value[0] == '[':
-		c.kind, c.items = '[', map[string]json.RawMessage{}
-		var all []json.RawMessage
-		_ = json.Unmarshal(value, &all)
-		for i, one := range all {
-			c.items[strconv.Itoa(i)] = one
-		}
-	}
-	return c
-}
-
 // isSpecial returns true for the only name in an object that is no table (docs/JSON.md).
 func isSpecial(key string) bool { return strings.HasPrefix(key, ":") && !strings.HasPrefix(key, "::") }
-
-// keysWith returns the keys of two items of a kind in order. Shorter indexes are the lower ones.
-func (c itemSet) keysWith(other itemSet) (keys []string) {
-	for key := range c.items {
-		keys = append(keys, key)
-	}
-	for key := range other.items {
-		if _, there := c.items[key]; !there {
-			keys = append(keys, key)
-		}
-	}
-	isArray := c.kind == '[' || other.kind == '['
-	sort.Slice(keys, func(i, j int) bool {
-		if isArray && len(keys[i]) != len(keys[j]) {
-			return len(keys[i]) < len(keys[j])
-		}
-		return keys[i] < keys[j]
-	})
-	return keys
-}
 
 // Marshal returns a value as JSON without escapes that only HTML needs.
 func Marshal(value any) json.RawMessage {

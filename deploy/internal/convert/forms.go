@@ -7,7 +7,7 @@ func (r *Runner) File(kind string, body []byte) ([]byte, error) {
 	if kind == engine.File {
 		return body, nil
 	}
-	return r.library(kind, body, func(b *engine.Bundle) ([]byte, error) { return b.File(r.bounds.Output) })
+	return written(kind, body, (*engine.Bundle).File)
 }
 
 // Text returns a bundle as a text, named after its locale.
@@ -15,21 +15,25 @@ func (r *Runner) Text(locale, kind string, body []byte) ([]byte, error) {
 	if kind == engine.Text {
 		return body, nil
 	}
-	return r.library(kind, body, func(b *engine.Bundle) ([]byte, error) { return b.Text(locale, r.bounds.Output) })
+	return written(kind, body, func(b *engine.Bundle) ([]byte, error) {
+		text, err := b.Text(locale)
+		return []byte(text), err
+	})
 }
 
 // JSON returns a bundle as a line of JSON.
 func (r *Runner) JSON(kind string, body []byte) ([]byte, error) {
-	made, err := r.library(kind, body, func(b *engine.Bundle) ([]byte, error) { return b.JSON(r.bounds.Output) })
+	made, err := written(kind, body, (*engine.Bundle).JSON)
 	return append(made, '\n'), err
 }
 
-// library prepares a bundle and has the library write it.
-func (r *Runner) library(kind string, body []byte, write func(*engine.Bundle) ([]byte, error)) ([]byte, error) {
+// written prepares a bundle and has it written.
+func written(kind string, body []byte, write func(*engine.Bundle) ([]byte, error)) ([]byte, error) {
 	b, err := engine.Prepare(kind, body)
 	if err != nil {
 		return nil, err
 	}
 	defer b.Discard()
-	return write(b)
+	made, err := write(b)
+	return made, engine.FaultOf(err)
 }

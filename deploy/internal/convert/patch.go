@@ -11,6 +11,7 @@ import (
 
 	"luvdregan.example/resb/deploy/internal/engine"
 	"luvdregan.example/resb/deploy/internal/manifest"
+	resb "luvdregan.example/resb/library/go"
 )
 
 // A JSONFault is why a patch, or what it makes of a bundle, is refused, and where in the patch. Path is a JSON pointer (RFC 6901).
@@ -53,7 +54,7 @@ func CheckPatch(text []byte, hold func(bytes int64) error) error {
 		}
 		at += size
 	}
-	c := newCursor(text)
+	c := &cursor{text: text}
 	for {
 		at, code := c.next()
 		if code == "" && len(c.open) > mostDepth {
@@ -72,31 +73,45 @@ func CheckPatch(text []byte, hold func(bytes int64) error) error {
 	}
 }
 
-// merge returns a value of JSON, or nothing for none, with a patch.
-func merge(ctx context.Context, old, patch json.RawMessage) (json.RawMessage, error) {
-	switch {
-	case len(patch) == 0 || patch[0] != '{':
-		return patch, nil
-	case ctx.Err() != nil:
-		return nil, ErrTime
+// merge appends a value of JSON, or nothing for none, with a patch. Both are valid. It scans them once for each level of the patch.
+func merge(to, old, patch []byte) []byte {
+	if !bytes.HasPrefix(patch, []byte("{")) {
+		return append(to, patch...)
 	}
-	all, changes := map[string]json.RawMessage{}, map[string]json.RawMessage{}
-	_ = json.Unmarshal(old, &all) // nothing is left of what is no object
-	if err := json.Unmarshal(patch, &changes); err != nil {
-		return nil, err
+	if !bytes.HasPrefix(old, []byte("{")) {
+		old = nil
 	}
-	for name, change := range changes {
-		if string(change) == "null" {
-			delete(all, name)
-			continue
+	changes := map[string][]byte{}
+	membersOf(patch).each(func(m member) { changes[string(m.name)] = m.value })
+	to = append(to, '{')
+	begin := len(to)
+	put := func(m member) {
+		if len(to) > begin {
+			to = append(to, ',')
 		}
-		merged, err := merge(ctx, all[name], change)
-		if err != nil {
-			return nil, err
-		}
-		all[name] = merged
+		to = append(append(to, m.quoted...), ':')
 	}
-	return Marshal(all), nil
+	membersOf(old).each(func(m member) {
+		change, is := changes[string(m.name)]
+		delete(changes, string(m.name))
+		if !is {
+			put(m)
+			to = append(to, m.value...)
+		} else if string(change) != "null" {
+			put(m)
+			to = merge(to, m.value, change)
+		}
+	})
+	if len(changes) == 0 {
+		return append(to, '}')
+	}
+	membersOf(patch).each(func(m member) {
+		if change, isNew := changes[string(m.name)]; isNew && string(change) != "null" {
+			put(m)
+			to = merge(to, nil, change)
+		}
+	})
+	return append(to, '}')
 }
 
 // Patched returns a bundle with a patch of its JSON (docs/JSON.md) in the form in which it was, and whether it has the same items. The error is a
@@ -113,44 +128,56 @@ func (r *Runner) Patched(ctx context.Context, b manifest.Bundle, body, patch []b
 	if err != nil {
 		return nil, false, err
 	}
-	merged, err := merge(ctx, old, bytes.TrimSpace(patch))
-	if err == nil {
-		made, err = r.fromJSON(ctx, patch, merged, isNoFallback(file))
-	}
+	merged := merge(make([]byte, 0, len(old)+len(patch)), old, bytes.TrimSpace(patch))
+	after, err := r.prepared(ctx, patch, merged, isNoFallback(file))
 	if err != nil {
 		return nil, false, err
 	}
-	new, err := r.JSON(engine.File, made)
-	if err == nil && b.Kind == engine.Text {
-		made, err = r.Text(b.Locale, engine.File, made)
+	defer after.Discard()
+	new, err := after.JSON()
+	if err == nil && b.Kind == engine.File {
+		made, err = after.File()
+	} else if err == nil {
+		var text string
+		text, err = after.Text(b.Locale)
+		made = []byte(text)
 	}
 	if err == nil {
 		err = hold(int64(len(made) + len(new)))
 	}
-	return made, bytes.Equal(old, new), err
+	return made, bytes.Equal(bytes.TrimSpace(old), new), engine.FaultOf(err)
 }
 
-// fromJSON returns the file of what a patch made. The library names the line of an error, so each item gets one; the place in the patch is that of
-// the value on the way to the item. Only the program sets the flag.
-func (r *Runner) fromJSON(ctx context.Context, patch []byte, merged json.RawMessage, noFallback bool) ([]byte, error) {
-	var lines bytes.Buffer
-	if err := json.Indent(&lines, merged, "", ""); err != nil {
-		return nil, err
+// prepared returns the bundle that a patch made. Only the program sets the flag.
+func (r *Runner) prepared(ctx context.Context, patch, merged []byte, noFallback bool) (*resb.Bundle, error) {
+	b, err := resb.PrepareJSON(merged)
+	if err != nil {
+		return nil, placed(patch, merged, engine.FaultOf(err))
 	}
-	b, err := engine.PrepareJSON(lines.Bytes())
-	var fault *engine.Fault
-	if errors.As(err, &fault) {
-		path := pathAt(lines.Bytes(), int(fault.Line), fault.Code)
-		return nil, faultAt(patch, fault.Code, placeOf(patch, path), path)
+	if !noFallback {
+		return b, nil
 	}
+	b.Discard()
+	file, err := r.run(ctx, merged, "compile", "-q", "--json", "--no-fallback", "-", "-")
 	if err != nil {
 		return nil, err
 	}
-	defer b.Discard()
-	if noFallback {
-		return r.run(ctx, merged, "compile", "-q", "--json", "--no-fallback", "-", "-")
+	return resb.Prepare(file, false)
+}
+
+// placed returns where in a patch the error of what it made is. The library names the line of an error, so each item gets one; the place in the
+// patch is that of the value on the way to the item.
+func placed(patch, merged []byte, err error) error {
+	var fault *engine.Fault
+	var lines bytes.Buffer
+	if errors.As(err, &fault) && json.Indent(&lines, merged, "", "") == nil {
+		_, err = resb.PrepareJSON(lines.Bytes())
 	}
-	return b.File(r.bounds.Output)
+	if fault == nil || !errors.As(engine.FaultOf(err), &fault) {
+		return err
+	}
+	path := pathAt(lines.Bytes(), int(fault.Line), fault.Code)
+	return faultAt(patch, fault.Code, placeOf(patch, path), path)
 }
 
 // pathAt returns the path of the item in a line of indented JSON, or that of its table if the code is an error of the item's key.
@@ -162,7 +189,7 @@ func pathAt(text []byte, line int, code string) []string {
 			end = len(text)
 		}
 	}
-	c := newCursor(bytes.TrimRight(text[:end], ",\n"))
+	c := &cursor{text: bytes.TrimRight(text[:end], ",\n")}
 	for why := ""; why == ""; {
 		_, why = c.next()
 	}
@@ -174,7 +201,7 @@ func pathAt(text []byte, line int, code string) []string {
 
 // placeOf returns where the value at a path begins in a patch, or the last one on the way there.
 func placeOf(patch []byte, path []string) (at int) {
-	c := newCursor(patch)
+	c := &cursor{text: patch}
 	for next, why := c.next(); why == ""; next, why = c.next() {
 		if c.isOnTheWay(path) {
 			at = next

@@ -6,6 +6,7 @@ import (
 	"errors"
 	"fmt"
 	"reflect"
+	"runtime"
 	"strings"
 	"testing"
 )
@@ -18,13 +19,46 @@ func TestMerge(t *testing.T) {
 		{`{"a":"b"}`, `{"a":"c"}`, `{"a":"c"}`}, {`{"a":"b"}`, `{"b":"c"}`, `{"a":"b","b":"c"}`}, {`{"a":"b"}`, `{"a":null}`, `{}`},
 		{`{"a":"b","b":"c"}`, `{"a":null}`, `{"b":"c"}`}, {`{"a":["b"]}`, `{"a":"c"}`, `{"a":"c"}`}, {`{"a":"c"}`, `{"a":["b"]}`, `{"a":["b"]}`},
 		{`{"a":{"b":"c"}}`, `{"a":{"b":"d","c":null}}`, `{"a":{"b":"d"}}`}, {`{"a":[{"b":"c"}]}`, `{"a":[1]}`, `{"a":[1]}`}, {`["a","b"]`, `["c","d"]`, `["c","d"]`},
-		{`{"a":"b"}`, `["c"]`, `["c"]`}, {`{"a":"foo"}`, `null`, `null`}, {`{"a":"foo"}`, `"bar"`, `"bar"`}, {`{"e":null}`, `{"a":1}`, `{"a":1,"e":null}`},
+		{`{"a":"b"}`, `["c"]`, `["c"]`}, {`{"a":"foo"}`, `null`, `null`}, {`{"a":"foo"}`, `"bar"`, `"bar"`}, {`{"e":null}`, `{"a":1}`, `{"e":null,"a":1}`},
 		{`[1,2]`, `{"a":"b","c":null}`, `{"a":"b"}`}, {`{}`, `{"a":{"bb":{"ccc":null}}}`, `{"a":{"bb":{}}}`},
 	} {
-		if got, err := merge(context.Background(), json.RawMessage(c[0]), json.RawMessage(c[1])); err != nil || string(got) != c[2] {
-			t.Errorf("%s with %s: %s, %v", c[0], c[1], got, err)
+		if got := merge(nil, []byte(c[0]), []byte(c[1])); string(got) != c[2] {
+			t.Errorf("%s with %s: %s", c[0], c[1], got)
 		}
 	}
+}
+
+// TestLongPatch has patches of 200,000 keys, whose memory is counted before it is taken, however deep they are.
+func TestLongPatch(t *testing.T) {
+	var keys strings.Builder
+	for i := 0; i < 200_000; i++ {
+		fmt.Fprintf(&keys, `"k%06d":"a",`, i*7919%200_000)
+	}
+	for _, depth := range []int{1, 60} {
+		patch := []byte(strings.Repeat(`{"a":`, depth-1) + "{" + keys.String() + `"z":1}` + strings.Repeat("}", depth-1))
+		held, err := int64(0), error(nil)
+		hold := func(bytes int64) error {
+			held += bytes
+			return nil
+		}
+		took := allocated(func() { err = CheckPatch(patch, hold) })
+		if err != nil || took > held {
+			t.Errorf("depth %d: %v, %d bytes, and %d were counted", depth, err, took, held)
+		}
+		var made []byte
+		if took = allocated(func() { made = merge(nil, []byte("{}"), patch) }); len(made) != len(patch) || took > 3*held {
+			t.Errorf("depth %d: %d of %d bytes, in %d, and %d were counted", depth, len(made), len(patch), took, held)
+		}
+	}
+}
+
+// allocated returns how many bytes a function allocates.
+func allocated(do func()) int64 {
+	var before, after runtime.MemStats
+	runtime.ReadMemStats(&before)
+	do()
+	runtime.ReadMemStats(&after)
+	return int64(after.TotalAlloc - before.TotalAlloc)
 }
 
 // TestPlacesOfFaults names the code, the line, the column and the path of each.
@@ -32,7 +66,9 @@ func TestPlacesOfFaults(t *testing.T) {
 	deep := strings.Repeat(`{"a":`, 65) + "1" + strings.Repeat("}", 65)
 	for text, want := range map[string]string{
 		"{\n \"a\": ]}": "2:7: NotJson /a", "": "1:1: NotJson ", `{"a":1`: "1:7: NotJson /a", `{"a":"B","a":"C"}`: "1:14: DuplicateKey /a", "{}\n x": "2:2: TrailingText ",
-		"{\"\u00e4\":{\"b~/\":x}}": "1:13: NotJson /\u00e4/b~0~1", "{\"a\":\"\xff\"}": "1:7: NotUtf8 ", `{1:2}`: "1:2: NotJson ", `{"a":[{"b":1,"b":2}]}`: "1:18: DuplicateKey /a/0/b",
+		"{\"\u00e4\":{\"b~/\":x}}": "1:13: NotJson /\u00e4/b~0~1", "{\"a\":\"\xff\"}": "1:7: NotUtf8 ", `{1:2}`: "1:2: NotJson ", `{"a":1,}`: "1:8: NotJson /a", `[1,]`: "1:4: NotJson /1",
+		`[,1]`: "1:3: NotJson /0", `{"a" 1}`: "1:6: NotJson /a", `{"a":1 "b":2}`: "1:8: NotJson /a", `{"a":1]`: "1:7: NotJson /a", `{},`: "1:4: TrailingText ",
+		`{"a":01}`: "1:6: NotJson /a", "{\"a\":\"\t\"}": "1:6: NotJson /a", `{"a":[{"b":1,"b":2}]}`: "1:18: DuplicateKey /a/0/b",
 		deep: "1:321: TooDeep " + strings.Repeat("/a", 64), ` {"a":[1,{"b":null}]} `: "<nil>", `"text"`: "<nil>",
 	} {
 		if got := fmt.Sprint(CheckPatch([]byte(text), holdAll)); got != want {

@@ -1,48 +1,17 @@
-// Package engine has the bundles of all applications in the process, through libresb. Lookups run on any thread; a change stops them for
-// microseconds.
+// Package engine has the bundles of all applications in the process, over the library's binding for Go. Short lookups continue while a change
+// waits for long ones; it stops them for microseconds.
 package engine
 
-/*
-#cgo pkg-config: resb
-#include "slot.h"
-
-static slot *new_slot(void) { return calloc(1, sizeof(slot)); }
-static uint32_t open_slot(slot *s, const void *seed, size_t seed_len, const resb_entry *all, size_t count, const char *parents,
-                          size_t parents_len, uint64_t *place) {
-	return resb_open_with(&s->handle, seed, seed_len, all, count, parents, parents_len, place);
-}
-static uint32_t share(slot *from, slot *to) { return resb_share(&from->handle, &to->handle); }
-static void close_slot(slot *s) { resb_close(&s->handle); }
-static resb_edit *new_edits(size_t count) { return calloc(count + 1, sizeof(resb_edit)); }
-static void set_edit(resb_edit *to, char *locale, size_t len, prepared *bundle) {
-	to->locale = locale;
-	to->locale_len = len;
-	if (bundle) {
-		to->bundle = bundle->bundle;
-		bundle->bundle = (resb_bundle)RESB_DISCARDED;
-	}
-}
-static void free_edits(resb_edit *edits, size_t count) {
-	for (size_t i = 0; i < count; i++)
-		free((char *)edits[i].locale);
-	free(edits);
-}
-static uint32_t release(slot *s, const char *app, size_t len, resb_edit *edits, size_t count, size_t *place) {
-	return resb_release(&s->handle, app, len, edits, count, place);
-}
-*/
-import "C"
-
 import (
-	"crypto/rand"
 	"errors"
 	"fmt"
 	"os"
 	"runtime"
 	"sort"
 	"sync"
-	"sync/atomic"
-	"unsafe"
+
+	"luvdregan.example/resb/deploy/internal/manifest"
+	resb "luvdregan.example/resb/library/go"
 )
 
 // The kinds of bodies.
@@ -67,29 +36,11 @@ type Source struct {
 	IsText bool
 }
 
-// An Edit puts a prepared bundle, or removes the one that is there.
-type Edit struct {
-	Locale string
-	Bundle *Bundle // or nil
-}
-
-// A slot is one handle of the engine, which one call uses at a time.
-type slot struct {
-	sync.Mutex
-	of *C.slot
-	_  [48]byte // so that two slots don't share a cache line
-}
-
-// longSlots is how many trees are made at once.
-const longSlots = 2
-
 // An Engine has the bundles of all applications.
 type Engine struct {
-	options     Options
-	slots       []slot // all handles
-	long, quick []slot // parts of them: for trees, for which a change waits while lookups continue; and for lookups
-	next        uint32
-	writing     sync.Mutex
+	options Options
+	pool    *resb.Pool
+	long    sync.RWMutex // read by trees and long items, so that a change waits for them while short lookups continue
 }
 
 // Works returns how much long work may run at once: some processors are left for lookups.
@@ -102,153 +53,165 @@ func Works() int {
 
 // Open returns an engine with the bundles of ICUDATA alone.
 func Open(o Options) (*Engine, error) {
-	e := &Engine{options: o, slots: make([]slot, longSlots+4*runtime.GOMAXPROCS(0))}
-	e.long, e.quick = e.slots[:longSlots], e.slots[longSlots:]
-	for i := range e.slots {
-		e.slots[i].of = C.new_slot()
-	}
-	var seed [16]byte
-	if _, err := rand.Read(seed[:]); err != nil {
-		return nil, err
-	}
-	all := (*C.resb_entry)(C.calloc(C.size_t(len(o.ICUData)+1), C.size_t(unsafe.Sizeof(C.resb_entry{}))))
-	defer C.free(unsafe.Pointer(all))
-	entries := unsafe.Slice(all, len(o.ICUData)+1)
+	entries := make([]resb.Entry, len(o.ICUData))
 	for i, s := range o.ICUData {
-		entries[i] = C.resb_entry{locale: C.CString(s.Locale), locale_len: C.size_t(len(s.Locale)), bytes: C.CBytes(s.Body),
-			len: C.size_t(len(s.Body)), is_text: C.bool(s.IsText)}
-		defer C.free(unsafe.Pointer(entries[i].locale))
-		defer C.free(entries[i].bytes)
+		entries[i] = resb.Entry{Locale: s.Locale, Bundle: s.Body, IsText: s.IsText}
 	}
-	parents, n := textOf(string(o.Parents))
-	var place C.uint64_t
-	number := C.open_slot(e.slots[0].of, unsafe.Pointer(&seed[0]), C.size_t(len(seed)), all, C.size_t(len(o.ICUData)), parents, n, &place)
-	switch number {
-	case C.RESB_OK:
-		return e, e.share()
-	case C.RESB_BAD_LOCALE, C.RESB_BAD_TEXT, C.RESB_BAD_FILE, C.RESB_TWICE:
-		return nil, fmt.Errorf("bundle %s of ICUDATA: %s", o.ICUData[place].Locale, nameOf(number))
+	pool, err := resb.OpenPool(resb.Options{ICUData: entries, Parents: o.Parents}, Works()+4*runtime.GOMAXPROCS(0))
+	var fault *resb.Error
+	switch {
+	case errors.As(err, &fault) && fault.Locale != "":
+		return nil, fmt.Errorf("bundle %s of ICUDATA: %s", fault.Locale, fault.Code)
+	case errors.As(err, &fault):
+		return nil, fmt.Errorf("parents: line %d: %s", fault.Line, fault.Code)
 	}
-	return nil, fmt.Errorf("parents: line %d: %s", place, nameOf(number))
+	return &Engine{options: o, pool: pool}, err
 }
 
-// share makes all slots handles of the first one's engine.
-func (e *Engine) share() error {
-	for i := range e.slots[1:] {
-		if C.share(e.slots[0].of, e.slots[i+1].of) != C.RESB_OK {
-			return errMemory
-		}
+// longItem is the most bytes of a reply that is made beside lookups, for which a change waits.
+const longItem = 64 << 10
+
+// Item appends what `resb serve` replies to a lookup (docs/SERVER.md), without its line feed, or returns the code of a refusal. If the reply has
+// more than some bytes it only returns about how many.
+func (e *Engine) Item(dst []byte, app, locale, path string, most int) (reply []byte, needs int, code string) {
+	if most > longItem {
+		e.long.RLock()
+		defer e.long.RUnlock()
 	}
-	return nil
+	if int64(most) > e.options.ReplyBytes {
+		most = int(e.options.ReplyBytes)
+	}
+	var err error
+	e.pool.Look(func(b *resb.Bundles) {
+		reply, needs, err = b.AppendItemJSON(dst, app, locale, path, e.options.Steps, most)
+	})
+	if int64(needs) > e.options.ReplyBytes {
+		return dst, 0, "ReplyTooLong"
+	}
+	return reply, needs, codeOf(err)
 }
 
-var errMemory = errors.New("out of memory")
-
-// take returns a slot that nobody uses, locked, or waits for one.
-func (e *Engine) take(from []slot) *slot {
-	start := int(atomic.AddUint32(&e.next, 1) % uint32(len(from)))
-	for i := range from {
-		if s := &from[(start+i)%len(from)]; s.TryLock() {
-			return s
-		}
-	}
-	s := &from[start]
-	s.Lock()
-	return s
+// Tree returns an item with everything that it inherits as one value of JSON, or the code of a refusal.
+func (e *Engine) Tree(app, locale, path string) (tree []byte, code string) {
+	e.long.RLock()
+	defer e.long.RUnlock()
+	var err error
+	e.pool.Look(func(b *resb.Bundles) { tree, err = b.TreeJSON(app, locale, path, e.options.TreeSteps) })
+	return tree, codeOf(err)
 }
 
-// Release makes all edits of an application at once, which takes the bundles out of them. Before any lookup finds the new state it calls a
-// function. The edits are known to be possible; only memory may run out, and then the process ends, as its state is lost.
-func (e *Engine) Release(app string, edits []Edit, done func()) {
-	e.writing.Lock()
-	defer e.writing.Unlock()
-	for i := range e.slots {
-		e.slots[i].Lock()
-		defer e.slots[i].Unlock()
-	}
-	for i := range e.slots[1:] {
-		C.close_slot(e.slots[i+1].of)
-	}
-	err := release(e.slots[0].of, app, inOrder(edits))
+// codeOf returns the code of an error of the library, or "".
+func codeOf(err error) string {
 	if err == nil {
-		err = e.share()
+		return ""
 	}
-	if err != nil {
-		fmt.Fprintf(os.Stderr, "gateway: engine: a change of %s: %v\n", app, err) // the log waits in a queue
-		os.Exit(1)
-	}
-	done()
+	var of *resb.Error
+	errors.As(err, &of) // as each error of a lookup is
+	return of.Code.Error()
+}
+
+// An Edit puts a prepared bundle, or removes the one that is there.
+type Edit struct {
+	Locale string
+	Bundle *Bundle // or nil
 }
 
 // mostEdits is how many edits the library makes in one release.
 const mostEdits = 4096
 
-// inOrder returns the edits with removals first, so that there is always room for what is put.
-func inOrder(edits []Edit) []Edit {
-	all := append([]Edit{}, edits...)
+// Release makes all edits of an application at once, which takes the bundles out of them. Before any lookup finds the new state it calls a
+// function. The edits are known to be possible; only memory may run out, and then the process ends, as its state is lost.
+func (e *Engine) Release(app string, edits []Edit, done func()) {
+	all := make([]resb.Edit, len(edits))
+	for i, edit := range edits {
+		if all[i].Locale = edit.Locale; edit.Bundle != nil {
+			all[i].Bundle = edit.Bundle.Bundle
+		}
+	}
+	// removals first, so that there is always room for what is put
 	sort.SliceStable(all, func(i, j int) bool { return all[i].Bundle == nil && all[j].Bundle != nil })
-	return all
-}
-
-// release makes edits through the only handle of an engine. Nobody looks up meanwhile, so it may take several releases of the library.
-func release(on *C.slot, app string, edits []Edit) error {
-	for len(edits) > mostEdits {
-		if err := release(on, app, edits[:mostEdits]); err != nil {
-			return err
+	e.long.Lock()
+	defer e.long.Unlock()
+	err := e.pool.Change(func(b *resb.Bundles) error {
+		for len(all) > mostEdits { // nobody looks up meanwhile
+			if err := b.Release(app, all[:mostEdits]); err != nil {
+				return err
+			}
+			all = all[mostEdits:]
 		}
-		edits = edits[mostEdits:]
-	}
-	all := C.new_edits(C.size_t(len(edits)))
-	defer C.free_edits(all, C.size_t(len(edits)))
-	to := unsafe.Slice(all, len(edits)+1)
-	for i := range edits {
-		bundle := (*C.prepared)(nil)
-		if edits[i].Bundle != nil {
-			bundle = edits[i].Bundle.of
+		err := b.Release(app, all)
+		if err == nil {
+			done()
 		}
-		C.set_edit(&to[i], C.CString(edits[i].Locale), C.size_t(len(edits[i].Locale)), bundle)
-		edits[i].Bundle.Discard()
+		return err
+	})
+	if err != nil {
+		fmt.Fprintf(os.Stderr, "gateway: engine: a change of %s: %v\n", app, err) // the log waits in a queue
+		os.Exit(1)
 	}
-	a, an := textOf(app)
-	var place C.size_t
-	if number := C.release(on, a, an, all, C.size_t(len(edits)), &place); number != C.RESB_OK {
-		return fmt.Errorf("edit %d: %s", place, nameOf(number))
-	}
-	return nil
 }
 
-var nothing [1]byte
-
-// textOf returns where a text begins, which is never nil, and its length.
-func textOf(s string) (*C.char, C.size_t) {
-	if s == "" {
-		return (*C.char)(unsafe.Pointer(&nothing[0])), 0
-	}
-	return *(**C.char)(unsafe.Pointer(&s)), C.size_t(len(s))
+// A Fault is the first error of a text, a file or a text of JSON.
+type Fault struct {
+	Code string // which `resb explain` knows
+	Line uint64 // of a text, or 0
 }
 
-// bytesOf returns where bytes begin, which is never nil, and how many there are.
-func bytesOf(b []byte) (unsafe.Pointer, C.size_t) {
-	if len(b) == 0 {
-		return unsafe.Pointer(&nothing[0]), 0
+func (f *Fault) Error() string { return f.Code }
+
+// FaultOf returns the fault of an error of the library, or the error if memory ran out.
+func FaultOf(err error) error {
+	var of *resb.Error
+	if !errors.As(err, &of) || of.Code == resb.ErrMemory {
+		return err
 	}
-	return unsafe.Pointer(&b[0]), C.size_t(len(b))
+	return &Fault{of.Code.Short(), of.Line}
 }
 
-// names are those of all errors.
-var names = func() (all [100]string) {
-	for i := range all {
-		all[i] = C.GoString(C.resb_error_name(C.uint32_t(i)))
-	}
-	return all
-}()
-
-func nameOf(number C.uint32_t) string {
-	if int(number) < len(names) {
-		return names[number]
-	}
-	return C.GoString(C.resb_error_name(number))
+// A Bundle was read and checked. Discard frees it, unless a change has taken it.
+type Bundle struct {
+	*resb.Bundle
+	compiled int64
+	isText   bool
+	file     []byte // of Stored
+	digest   manifest.Digest
 }
 
-// Version returns that of the library.
-func Version() string { return C.GoString(C.resb_version()) }
+// Prepare reads and checks a body. The error is a *Fault, except if memory runs out.
+func Prepare(kind string, body []byte) (*Bundle, error) {
+	prepared, err := resb.Prepare(body, kind == Text)
+	if err != nil {
+		return nil, FaultOf(err)
+	}
+	length := len(body)
+	if kind == Text {
+		length, err = prepared.FileLen()
+	}
+	return &Bundle{Bundle: prepared, compiled: int64(length), isText: kind == Text}, err
+}
+
+// Discard frees the bundle, if there is one.
+func (b *Bundle) Discard() {
+	if b != nil {
+		b.Bundle.Discard()
+	}
+}
+
+// Compiled returns how long the compiled file is.
+func (b *Bundle) Compiled() int64 { return b.compiled }
+
+// leastStored is how long a compiled text is that is stored too. Compiling a shorter text takes no longer than reading a second body.
+const leastStored = 4 << 10
+
+// Stored returns the compiled file and its digest if it is worth being stored beside the text: checking it takes a fraction of the time.
+func (b *Bundle) Stored() ([]byte, manifest.Digest) {
+	if b == nil || !b.isText || b.compiled < leastStored {
+		return nil, ""
+	}
+	if b.file == nil {
+		if file, err := b.File(); err == nil {
+			b.file, b.digest = file, manifest.DigestOf(file)
+		}
+	}
+	return b.file, b.digest
+}

@@ -7,9 +7,9 @@ import (
 	"time"
 
 	"luvdregan.example/resb/deploy/internal/convert"
-	"luvdregan.example/resb/deploy/internal/engine"
 	"luvdregan.example/resb/deploy/internal/page"
 	"luvdregan.example/resb/deploy/internal/wire"
+	resb "luvdregan.example/resb/library/go"
 )
 
 // health has the addresses that say whether the gateway works.
@@ -92,7 +92,7 @@ func (c *Call) healthz() error {
 		Version string `json:"version"`
 		Commit  string `json:"commit"`
 		Program string `json:"program,omitempty"`
-	}{true, c.Options.Version, c.Options.Commit, "resb " + engine.Version()}), '\n'))
+	}{true, c.Options.Version, c.Options.Commit, "resb " + resb.Version()}), '\n'))
 }
 
 // state answers whether the gateway does something.

@@ -100,7 +100,7 @@ var problems = []struct {
 	{replica.ErrGone, "Timeout"}, {replica.ErrReplaying, "Replaying"}, {replica.ErrBehind, "Behind"}, {replica.ErrTooManyApps, "TooManyApps"},
 	{store.ErrNoVersion, "NoVersion"}, {store.ErrNoBody, "NoVersion"}, {store.ErrTooLong, "TooLarge"}, {store.ErrUnreached, "Unreached"},
 	{store.ErrUnsettled, "Timeout"}, {store.ErrBroken, "NotKept"}, {store.ErrConflict, "Busy"}, {store.ErrNoRoom, "NoRoom"},
-	{engine.ErrTooLong, "ReplyTooLong"}, {convert.ErrTime, "Timeout"}, {convert.ErrOutput, "ReplyTooLong"}, {convert.ErrRun, "NotOffered"},
+	{convert.ErrTime, "Timeout"}, {convert.ErrOutput, "ReplyTooLong"}, {convert.ErrRun, "NotOffered"},
 }
 
 // ProblemOf returns the problem of an error.
