@@ -99,7 +99,8 @@ func look(c *call, locale string) (err error) {
 		h.Set("Content-Language", strings.ReplaceAll(actual, "_", "-"))
 	}
 	tag := wire.TagOf(reply)
-	if b := now.Find(actual); c.Path == "" && b != nil {
+	if c.Path != "" {
+	} else if b := now.Find(actual); b != nil {
 		tag = wire.BundleTag(b.Digest, strings.Trim(tag, `"`))
 	}
 	return answer(c, tag, append(reply, '\n'))

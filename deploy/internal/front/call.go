@@ -71,6 +71,7 @@ type Call struct {
 	Status    int
 	Sent      int // bytes of the reply
 
+	began  time.Time
 	ctx    context.Context // or nil until it is needed
 	cancel context.CancelFunc
 	known  bool
@@ -98,17 +99,8 @@ func (h *Handler) Inside() http.Handler {
 }
 
 func (h *Handler) serve(w http.ResponseWriter, r *http.Request, answer func(*Call) error) {
-	began := time.Now()
-	c := &Call{Handler: h, W: w, R: r, Operation: &Other}
-	defer func() {
-		if failure := recover(); failure != nil {
-			log.Printf("panic: %v\n%s", failure, debug.Stack())
-			c.Status = http.StatusInternalServerError
-			h.Metrics.panics.Inc()
-			c.end(began)
-			panic(http.ErrAbortHandler)
-		}
-	}()
+	c := &Call{Handler: h, W: w, R: r, Operation: &Other, began: time.Now()}
+	defer c.end()
 	head := w.Header()
 	head["X-Content-Type-Options"] = noSniff
 	if h.Options.IsTLS {
@@ -117,28 +109,36 @@ func (h *Handler) serve(w http.ResponseWriter, r *http.Request, answer func(*Cal
 	if len(r.TransferEncoding) > 0 {
 		head.Set("Connection", "close") // a proxy may have seen another end of the body (RFC 9112, 6.1)
 	}
-	err := error(wire.BadLength)
-	if !wire.HasTwoLengths(r) {
-		err = answer(c)
-	}
-	if err != nil {
+	if wire.HasTwoLengths(r) {
+		c.refuse(wire.BadLength)
+	} else if err := answer(c); err != nil {
 		c.refuse(err)
 	}
-	c.end(began)
 }
 
-// end counts a request, and writes its lines.
-func (c *Call) end(began time.Time) {
-	now := time.Now()
+// end counts a request, and writes its lines. After a fault of the gateway the caller's connection is closed.
+func (c *Call) end() {
+	failure, now := recover(), time.Now()
+	if failure != nil {
+		log.Printf("panic: %v\n%s", failure, debug.Stack())
+		c.Status = http.StatusInternalServerError
+		c.Metrics.panics.Inc()
+	}
 	if c.cancel != nil {
 		c.cancel()
 	}
-	c.logAccess(began, now)
+	if c.Ticket.IsBegun() {
+		c.Ticket.End(int64(c.Sent+c.got), now)
+	}
+	c.logAccess(now)
 	c.logAudit(now)
 	if !c.known {
 		c.Operation = &Other // whatever it asked for
 	}
-	c.Metrics.count(c.Operation.Kind, c.Status, now.Sub(began))
+	c.Metrics.count(c.Operation.Kind, c.Status, now.Sub(c.began))
+	if failure != nil {
+		panic(http.ErrAbortHandler)
+	}
 }
 
 // route answers what the address names.
@@ -176,7 +176,7 @@ func (c *Call) application() error {
 	}
 	may := auth.Right(0)
 	if c.known {
-		may = c.Who.May(c.App, time.Now())
+		may = c.Who.May(c.App, c.began)
 	}
 	c.Operation = do
 	switch {
@@ -211,21 +211,18 @@ func hasEmpty(parts []string) bool {
 
 // limited does a request within the limits, once the gateway has the revision that the query names.
 func (c *Call) limited(do *Operation) error {
-	if err := c.limits.Begin(&c.Ticket, c.App, c.Who.ID(), time.Now()); err != nil {
+	err := c.limits.Begin(&c.Ticket, c.App, c.Who.ID(), c.began)
+	if err != nil {
+		c.Ticket = limits.Ticket{} // none to end
 		return err
 	}
-	defer func() { c.Ticket.End(int64(c.Sent+c.got), time.Now()) }()
-	err := c.readQuery()
-	if err == nil {
+	if err = c.readQuery(); err == nil {
 		err = c.Backend.Ready()
 	}
 	if err == nil {
 		err = do.Do(c)
 	}
-	if err != nil {
-		c.refuse(err)
-	}
-	return nil
+	return err
 }
 
 // readQuery reads the query, and waits for the revision that it names.

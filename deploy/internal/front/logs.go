@@ -49,12 +49,12 @@ func clip(text string) string {
 }
 
 // logAccess writes the line of a request. The query is left out, since callers may put what they like there.
-func (c *Call) logAccess(began, now time.Time) {
+func (c *Call) logAccess(now time.Time) {
 	if c.Options.Access == nil {
 		return
 	}
-	c.Options.Access.Write(access{began.UTC().Format(time.RFC3339Nano), wire.Caller(c.R, c.Options.Proxies), c.R.Method,
-		clip(c.R.URL.EscapedPath()), clip(c.App), c.name(), c.Status, c.Sent, float64(now.Sub(began).Microseconds()) / 1000, clip(c.R.UserAgent())})
+	c.Options.Access.Write(access{c.began.UTC().Format(time.RFC3339Nano), wire.Caller(c.R, c.Options.Proxies), c.R.Method,
+		clip(c.R.URL.EscapedPath()), clip(c.App), c.name(), c.Status, c.Sent, float64(now.Sub(c.began).Microseconds()) / 1000, clip(c.R.UserAgent())})
 }
 
 // name returns the name of the token, or "" if it is unknown.

@@ -19,10 +19,29 @@ import (
 // bounds are the upper bounds of the histograms' buckets, in seconds.
 var bounds = []float64{50e-6, 100e-6, 250e-6, 500e-6, 1e-3, 2.5e-3, 5e-3, 10e-3, 25e-3, 50e-3, 0.1, 0.25, 0.5, 1, 2.5, 10}
 
+// Requests are counted by kind and status.
+type requests [len(kindNames)][600]atomic.Int64
+
+var requestsTotal = prometheus.NewDesc("resb_requests_total", "Requests by kind and status.", []string{"kind", "status"}, nil)
+
+// Describe describes the metric.
+func (r *requests) Describe(to chan<- *prometheus.Desc) { to <- requestsTotal }
+
+// Collect gives the counts that aren't 0.
+func (r *requests) Collect(to chan<- prometheus.Metric) {
+	for kind := range r {
+		for status := range r[kind] {
+			if n := r[kind][status].Load(); n > 0 {
+				to <- prometheus.MustNewConstMetric(requestsTotal, prometheus.CounterValue, float64(n), kindNames[kind], strconv.Itoa(status))
+			}
+		}
+	}
+}
+
 // Metrics count requests by kind and status, and their times.
 type Metrics struct {
 	registry    *prometheus.Registry
-	requests    *prometheus.CounterVec
+	requests    requests
 	times       []prometheus.Observer // by kind
 	refused     prometheus.Counter
 	panics      prometheus.Counter
@@ -37,14 +56,13 @@ func newMetrics(backend *replica.Replica, of *limits.Limits, tokens *auth.Tokens
 		Help: "Times from a request's header to the end of its response."}, []string{"kind"})
 	m := &Metrics{
 		registry: prometheus.NewRegistry(),
-		requests: prometheus.NewCounterVec(counter("requests_total", "Requests by kind and status."), []string{"kind", "status"}),
 		refused:  prometheus.NewCounter(counter("connections_refused_total", "Connections past the limit.")),
 		panics:   prometheus.NewCounter(counter("panics_total", "Requests that met a fault of the gateway.")),
 	}
 	for _, name := range kindNames {
 		m.times = append(m.times, times.WithLabelValues(name))
 	}
-	m.registry.MustRegister(m.requests, times, m.refused, m.panics)
+	m.registry.MustRegister(&m.requests, times, m.refused, m.panics)
 	sum := func(of func(replica.Sum) float64) func() float64 { return func() float64 { return of(backend.Sum()) } }
 	for _, g := range []struct {
 		name, help string
@@ -112,7 +130,7 @@ func (m *Metrics) Connect(more int64) int64 { return atomic.AddInt64(&m.connecti
 func (m *Metrics) Refuse() { m.refused.Inc() }
 
 func (m *Metrics) count(of Kind, status int, took time.Duration) {
-	m.requests.WithLabelValues(kindNames[of], strconv.Itoa(status)).Inc()
+	m.requests[of][status].Add(1)
 	m.times[of].Observe(took.Seconds())
 }
 

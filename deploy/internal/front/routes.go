@@ -22,7 +22,7 @@ const (
 	KindCheck
 )
 
-var kindNames = []string{"other", "look", "looks", "list", "change", "fetch", "history", "check"}
+var kindNames = [...]string{"other", "look", "looks", "list", "change", "fetch", "history", "check"}
 
 // An Operation is what a method does at an address, and how it is described.
 type Operation struct {

@@ -30,6 +30,9 @@ func WithConn(ctx context.Context, c net.Conn) context.Context {
 
 // HasTwoLengths returns true if a request says in two ways where its body ends. Only a connection that reads the header itself knows.
 func HasTwoLengths(r *http.Request) bool {
+	if len(r.TransferEncoding) == 0 && r.ProtoAtLeast(1, 1) {
+		return false
+	}
 	conn, can := r.Context().Value(connKey{}).(interface{ HasTwoLengths() bool })
 	return can && conn.HasTwoLengths()
 }
