@@ -73,16 +73,11 @@ func CheckPatch(text []byte, hold func(bytes int64) error) error {
 	}
 }
 
-// merge appends a value of JSON, or nothing for none, with a patch. Both are valid. It scans them once for each level of the patch.
+// merge appends a value of JSON, or nothing for none, with a patch. Both are valid. It scans them once or twice for each level of the patch.
 func merge(to, old, patch []byte) []byte {
 	if !bytes.HasPrefix(patch, []byte("{")) {
 		return append(to, patch...)
 	}
-	if !bytes.HasPrefix(old, []byte("{")) {
-		old = nil
-	}
-	changes := map[string][]byte{}
-	membersOf(patch).each(func(m member) { changes[string(m.name)] = m.value })
 	to = append(to, '{')
 	begin := len(to)
 	put := func(m member) {
@@ -91,26 +86,30 @@ func merge(to, old, patch []byte) []byte {
 		}
 		to = append(append(to, m.quoted...), ':')
 	}
-	membersOf(old).each(func(m member) {
-		change, is := changes[string(m.name)]
-		delete(changes, string(m.name))
-		if !is {
-			put(m)
-			to = append(to, m.value...)
-		} else if string(change) != "null" {
-			put(m)
-			to = merge(to, m.value, change)
-		}
-	})
-	if len(changes) == 0 {
-		return append(to, '}')
+	isObject := bytes.HasPrefix(old, []byte("{")) // nothing is left of another value
+	changes := map[string][]byte{}                // that are to be made
+	if isObject {
+		membersOf(patch).each(func(m member) { changes[string(m.name)] = m.value })
+		membersOf(old).each(func(m member) {
+			change, is := changes[string(m.name)]
+			delete(changes, string(m.name))
+			if !is {
+				put(m)
+				to = append(to, m.value...)
+			} else if string(change) != "null" {
+				put(m)
+				to = merge(to, m.value, change)
+			}
+		})
 	}
-	membersOf(patch).each(func(m member) {
-		if change, isNew := changes[string(m.name)]; isNew && string(change) != "null" {
-			put(m)
-			to = merge(to, nil, change)
-		}
-	})
+	if !isObject || len(changes) > 0 {
+		membersOf(patch).each(func(m member) {
+			if _, is := changes[string(m.name)]; (is || !isObject) && string(m.value) != "null" {
+				put(m)
+				to = merge(to, nil, m.value)
+			}
+		})
+	}
 	return append(to, '}')
 }
 
