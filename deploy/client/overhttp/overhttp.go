@@ -172,11 +172,8 @@ func (c *Client) Release(ctx context.Context, entries []Entry) error {
 // address returns the address of an item, whose path has keys with slashes between them.
 func address(locale, path string) string {
 	text := "/" + url.PathEscape(locale)
-	if path == "" {
-		return text
-	}
-	for _, key := range strings.Split(path, "/") {
-		text += "/" + url.PathEscape(key)
+	if path != "" {
+		text += "/" + strings.ReplaceAll(url.PathEscape(path), "%2F", "/")
 	}
 	return text
 }
@@ -189,12 +186,10 @@ func (c *Client) ask(ctx context.Context, method, path string, body []byte, kind
 		if wait == 0 || time.Now().Add(wait).After(end) {
 			return reply, err
 		}
-		timer := time.NewTimer(wait)
 		select {
 		case <-ctx.Done():
-			timer.Stop()
 			return reply, ctx.Err()
-		case <-timer.C:
+		case <-time.After(wait):
 		}
 	}
 }

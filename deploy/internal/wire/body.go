@@ -42,8 +42,8 @@ func ReadBody(w http.ResponseWriter, r *http.Request, limit int64, takes time.Du
 	if r.ContentLength > limit {
 		return nil, TooLarge
 	}
-	p := newPace(r, takes)
-	body, err = readAll(&pacedReader{http.MaxBytesReader(w, r.Body, limit), p}, hold)
+	p := newPace(r, http.MaxBytesReader(w, r.Body, limit), takes)
+	body, err = readAll(p, hold)
 	p.stop(err == nil)
 	var long *http.MaxBytesError
 	var problem Problem
@@ -88,30 +88,38 @@ func readAll(from io.Reader, hold func(bytes int64) error) ([]byte, error) {
 
 // A pace ends the reading of a body that comes too slowly: over HTTP/1.1 by the connection's deadline, over HTTP/2 by closing the body.
 type pace struct {
-	conn     net.Conn
-	end      time.Time // of the whole request
-	interval time.Duration
-	got      int
-	timer    *time.Timer
-	late     bool
+	io.Reader
+	conn  net.Conn
+	end   time.Time // of the whole request
+	got   int
+	timer *time.Timer
+	late  bool
 }
 
-func newPace(r *http.Request, takes time.Duration) *pace {
-	p := &pace{end: time.Now().Add(takes), interval: leastInterval}
+func newPace(r *http.Request, body io.ReadCloser, takes time.Duration) *pace {
+	p := &pace{Reader: body, end: time.Now().Add(takes)}
 	if r.ProtoMajor == 1 {
 		p.conn, _ = r.Context().Value(connKey{}).(net.Conn)
 	} else {
-		body := r.Body
-		p.timer = time.AfterFunc(p.interval, func() { _ = body.Close() })
+		p.timer = time.AfterFunc(leastInterval, func() { _ = body.Close() })
 	}
 	p.next()
 	return p
 }
 
+// Read reads the next bytes.
+func (p *pace) Read(b []byte) (int, error) {
+	n, err := p.Reader.Read(b)
+	if p.got += n; p.got >= leastBytes {
+		p.next()
+	}
+	return n, err
+}
+
 // next begins an interval.
 func (p *pace) next() {
 	p.got = 0
-	at := time.Now().Add(p.interval)
+	at := time.Now().Add(leastInterval)
 	if at.After(p.end) {
 		at = p.end
 	}
@@ -134,19 +142,4 @@ func (p *pace) stop(whole bool) {
 	case p.conn != nil:
 		_ = p.conn.SetReadDeadline(p.end)
 	}
-}
-
-// A pacedReader tells a pace what it reads.
-type pacedReader struct {
-	io.Reader
-	pace *pace
-}
-
-// Read reads the next bytes.
-func (r *pacedReader) Read(b []byte) (int, error) {
-	n, err := r.Reader.Read(b)
-	if r.pace.got += n; r.pace.got >= leastBytes {
-		r.pace.next()
-	}
-	return n, err
 }

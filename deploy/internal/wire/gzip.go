@@ -23,26 +23,20 @@ var zippers = sync.Pool{New: func() any {
 	return w
 }}
 
-// quality returns the weight that headers such as Accept-Encoding give a member, by its name or by `*`, or -1.
-func quality(headers []string, name string) float64 {
-	found := -1.0
-	for _, header := range headers {
-		for _, one := range strings.Split(header, ",") {
-			member, parameters, _ := strings.Cut(one, ";")
-			member = strings.TrimSpace(member)
-			if strings.EqualFold(member, name) {
-				return names.Weight(parameters)
-			}
-			if member == "*" {
-				found = names.Weight(parameters)
-			}
+// TakesGzip returns true if the caller takes compressed replies (RFC 9110, 12.5.3).
+func TakesGzip(r *http.Request) bool {
+	weight := 0.0 // of `*`
+	for _, one := range Tags(r.Header["Accept-Encoding"]) {
+		member, parameters, _ := strings.Cut(one, ";")
+		switch member = strings.TrimSpace(member); {
+		case strings.EqualFold(member, "gzip"):
+			return names.Weight(parameters) > 0
+		case member == "*":
+			weight = names.Weight(parameters)
 		}
 	}
-	return found
+	return weight > 0
 }
-
-// TakesGzip returns true if the caller takes compressed replies.
-func TakesGzip(r *http.Request) bool { return quality(r.Header["Accept-Encoding"], "gzip") > 0 }
 
 // Zipped returns the body compressed, and changes the headers that say so; or the body itself if that isn't shorter.
 func Zipped(h http.Header, body []byte) []byte {
