@@ -1,52 +1,79 @@
 package resb
 
-import "sync"
+import (
+	"sync"
+	"sync/atomic"
+)
 
 // A Pool has several handles of one engine, so that as many goroutines look up at once. A change waits until no lookup runs.
 type Pool struct {
-	free     chan *Bundles // the handles that no lookup uses
-	changing sync.Mutex
-	open     int // how many handles there are
+	slots []slot
+	next  uint32 // where the next lookup searches first
 }
 
-// OpenPool returns a pool of a number of handles.
+// A slot has a handle, which is locked while it is used.
+type slot struct {
+	sync.Mutex
+	*Bundles
+	_ [48]byte // so that two slots don't share a cache line
+}
+
+// OpenPool returns a pool of a number of handles, which is at least 1.
 func OpenPool(options Options, handles int) (*Pool, error) {
 	first, err := OpenWith(options)
 	if err != nil {
 		return nil, err
 	}
-	p := &Pool{free: make(chan *Bundles, handles)}
-	p.share(first)
+	p := &Pool{slots: make([]slot, handles)}
+	p.slots[0].Bundles = first
+	p.share()
 	return p, nil
 }
 
-// share makes the other handles, of which there are fewer if memory runs out, until the next change.
-func (p *Pool) share(first *Bundles) {
-	for p.open = 1; p.open < cap(p.free); p.open++ {
+// share makes the other handles of the first one's engine. Without memory for one, lookups in its slot use the first, until the next change.
+func (p *Pool) share() {
+	first := p.slots[0].Bundles
+	for i := range p.slots[1:] {
 		other, err := first.Share()
 		if err != nil {
-			break
+			other = first
 		}
-		p.free <- other
+		p.slots[i+1].Bundles = other
 	}
-	p.free <- first
 }
 
-// Look runs a function with Bundles that nobody else uses meanwhile, for lookups. It waits until some are free.
+// take returns a slot that nobody uses, locked, or waits for one.
+func (p *Pool) take() *slot {
+	start := int(atomic.AddUint32(&p.next, 1) % uint32(len(p.slots)))
+	for i := range p.slots {
+		if s := &p.slots[(start+i)%len(p.slots)]; s.TryLock() {
+			return s
+		}
+	}
+	s := &p.slots[start]
+	s.Lock()
+	return s
+}
+
+// Look runs a function with Bundles for lookups, which nobody else uses meanwhile.
 func (p *Pool) Look(do func(*Bundles)) {
-	b := <-p.free
-	defer func() { p.free <- b }()
-	do(b)
+	s := p.take()
+	defer s.Unlock()
+	do(s.Bundles)
 }
 
 // Change runs a function with the only Bundles of the engine, for changes. It waits for the lookups that run, and the next ones wait for it.
 func (p *Pool) Change(do func(*Bundles) error) error {
-	p.changing.Lock()
-	defer p.changing.Unlock()
-	b := <-p.free
-	for ; p.open > 1; p.open-- {
-		(<-p.free).Close()
+	for i := range p.slots {
+		p.slots[i].Lock()
+		defer p.slots[i].Unlock()
 	}
-	defer p.share(b)
-	return do(b)
+	first := p.slots[0].Bundles
+	for i := range p.slots[1:] {
+		if other := p.slots[i+1].Bundles; other != first {
+			other.Close()
+		}
+	}
+	defer p.share()
+	return do(first)
 }

@@ -99,9 +99,10 @@ func look(c *call, locale string) (err error) {
 		h.Set("Content-Language", strings.ReplaceAll(actual, "_", "-"))
 	}
 	tag := wire.TagOf(reply)
-	if c.Path != "" {
-	} else if b := now.Find(actual); b != nil {
-		tag = wire.BundleTag(b.Digest, strings.Trim(tag, `"`))
+	if c.Path == "" {
+		if b := now.Find(actual); b != nil {
+			tag = wire.BundleTag(b.Digest, strings.Trim(tag, `"`))
+		}
 	}
 	return answer(c, tag, append(reply, '\n'))
 }
