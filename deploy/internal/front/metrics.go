@@ -31,8 +31,8 @@ func (r *requests) Describe(to chan<- *prometheus.Desc) { to <- requestsTotal }
 func (r *requests) Collect(to chan<- prometheus.Metric) {
 	for kind := range r {
 		for status := range r[kind] {
-			if n := r[kind][status].Load(); n > 0 {
-				to <- prometheus.MustNewConstMetric(requestsTotal, prometheus.CounterValue, float64(n), kindNames[kind], strconv.Itoa(status))
+			if n := float64(r[kind][status].Load()); n > 0 {
+				to <- prometheus.MustNewConstMetric(requestsTotal, prometheus.CounterValue, n, kindNames[kind], strconv.Itoa(status))
 			}
 		}
 	}

@@ -51,7 +51,7 @@ func (c *Call) refuse(err error) {
 	if h.Get("Retry-After") == "" && (p.Status == http.StatusServiceUnavailable || p.Status == http.StatusTooManyRequests) {
 		h.Set("Retry-After", "1")
 	}
-	_ = c.Write(p.Status, JSONType, append(p.Reply(), '\n'))
+	_ = c.Write(p.Status, JSONType, append(convert.Marshal(p), '\n'))
 }
 
 // Reply answers with a value as JSON that is true for the moment.

@@ -27,9 +27,6 @@ type Problem struct {
 
 func (p Problem) Error() string { return p.Code }
 
-// Reply returns the JSON of a problem.
-func (p Problem) Reply() []byte { return convert.Marshal(p) }
-
 // Codes are those of each status. Lookups and changes have others too, which are 400.
 var Codes = map[int][]string{
 	http.StatusBadRequest: {"AliasPackage", "AliasText", "BadFile", "BadLength", "BadLocale", "BadParent", "BadPatch", "BadPath", "BadQuery", "BadRelease",
