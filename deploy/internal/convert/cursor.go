@@ -72,8 +72,9 @@ func (c *cursor) next() (at int, code string) {
 		c.open = append(c.open, container{end: ']'})
 		c.at++
 	default:
-		value, _ := cutValue(c.text[at:])
-		if c.at += len(value); !json.Valid(value) {
+		if token := c.token(); json.Valid(token) {
+			c.at += len(token)
+		} else {
 			return at, "NotJson"
 		}
 	}
@@ -82,20 +83,34 @@ func (c *cursor) next() (at int, code string) {
 
 func (c *cursor) isAt(b byte) bool { return c.at < len(c.text) && c.text[c.at] == b }
 
+// token returns the string, the number or the word that comes next, if it is one.
+func (c *cursor) token() []byte {
+	rest, end := c.text[c.at:], 0
+	if c.isAt('"') {
+		end = lastOf(rest) + 1
+	} else {
+		end = bytes.IndexAny(rest, between+`{}[]"`)
+	}
+	if end < 0 || end > len(rest) {
+		return rest
+	}
+	return rest[:end]
+}
+
 // key passes the name or the index of the next value, after what is between that and the last one.
 func (c *cursor) key(in *container, mark string) (code string) {
-	isWrong := mark == "" != (in.count == 0)
-	name := strconv.Itoa(in.count)
+	name, index := "", in.count
+	isWrong := index == 0 && mark != "" || index > 0 && mark != ","
 	in.count++
 	if in.names != nil {
-		quoted, _ := cutValue(c.text[c.at:])
+		quoted := c.token()
 		if isWrong || !c.isAt('"') || !json.Valid(quoted) {
 			return "NotJson"
 		}
 		name = string(unquoted(quoted))
 		c.at += len(quoted)
 		isWrong = c.skip() != ":"
-	} else if mark == "" && c.at == len(c.text) {
+	} else if name = strconv.Itoa(index); mark == "" && (c.at == len(c.text) || c.isAt('}')) {
 		return "NotJson"
 	}
 	c.path = append(c.path[:len(c.open)-1], name)

@@ -67,7 +67,8 @@ func TestPlacesOfFaults(t *testing.T) {
 	for text, want := range map[string]string{
 		"{\n \"a\": ]}": "2:7: NotJson /a", "": "1:1: NotJson ", `{"a":1`: "1:7: NotJson /a", `{"a":"B","a":"C"}`: "1:14: DuplicateKey /a", "{}\n x": "2:2: TrailingText ",
 		"{\"\u00e4\":{\"b~/\":x}}": "1:13: NotJson /\u00e4/b~0~1", "{\"a\":\"\xff\"}": "1:7: NotUtf8 ", `{1:2}`: "1:2: NotJson ", `{"a":1,}`: "1:8: NotJson /a", `[1,]`: "1:4: NotJson /1",
-		`[,1]`: "1:3: NotJson /0", `{"a" 1}`: "1:6: NotJson /a", `{"a":1 "b":2}`: "1:8: NotJson /a", `{"a":1]`: "1:7: NotJson /a", `{},`: "1:4: TrailingText ",
+		`[,1]`: "1:3: NotJson /0", `{"a" 1}`: "1:6: NotJson /a", `{"a":1 "b":2}`: "1:8: NotJson /a", `{"a":1]`: "1:7: NotJson /a", `[1}`: "1:3: NotJson /0", `[1:2]`: "1:4: NotJson /1",
+		`[1,,2]`: "1:5: NotJson /1", `{"a":1,:"b":2}`: "1:9: NotJson /a", `{"a":""x}`: "1:8: NotJson /a", `{},`: "1:4: TrailingText ",
 		`{"a":01}`: "1:6: NotJson /a", "{\"a\":\"\t\"}": "1:6: NotJson /a", `{"a":[{"b":1,"b":2}]}`: "1:18: DuplicateKey /a/0/b",
 		deep: "1:321: TooDeep " + strings.Repeat("/a", 64), ` {"a":[1,{"b":null}]} `: "<nil>", `"text"`: "<nil>",
 	} {
