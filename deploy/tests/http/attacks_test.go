@@ -1,6 +1,8 @@
 package http
 
 import (
+	"bytes"
+	"encoding/gob"
 	"fmt"
 	"io"
 	"math/rand"
@@ -9,6 +11,7 @@ import (
 	"os"
 	"path/filepath"
 	"strings"
+	"sync"
 	"testing"
 	"time"
 
@@ -21,26 +24,20 @@ const most = 20 * time.Millisecond
 
 // An attack is a request that callers send over separate connections, again and again.
 type attack struct {
-	callers int
-	do      string // as in a step; %d is a number under 1,000. Without it the body is all that is sent
-	headers string // of lines
-	body    string
-	read    reader
+	Callers int
+	Do      string // as in a step; %d is a number under 1,000. Without it the body is all that is sent
+	Headers string // of lines
+	Body    string
+	Read    reader
 }
 
-// A reader reads a response, until the connection is closed when the attack stops.
-type reader func(c net.Conn)
+// A reader says how a response is read.
+type reader int
 
-var (
-	toTheEnd reader = func(c net.Conn) { _, _ = io.Copy(io.Discard, c) }
-	nobody   reader // waits for the end of the attack
-	slowly   reader = func(c net.Conn) {
-		for buffer := make([]byte, 1024); ; time.Sleep(50 * time.Millisecond) {
-			if _, err := c.Read(buffer); err != nil {
-				return
-			}
-		}
-	}
+const (
+	toTheEnd reader = iota
+	nobody          // nobody reads, and the connection stays open
+	slowly
 )
 
 const zipped = "Accept-Encoding: gzip\r\n"
@@ -157,12 +154,8 @@ func looks(locale, path string, lines int) string {
 // victim looks up for a time beside attacks, and returns the 99th percentile.
 func (s *site) victim(length time.Duration, attacks ...attack) time.Duration {
 	s.t.Helper()
-	stop, ended := make(chan struct{}), make(chan struct{})
-	go func() {
-		defer close(ended)
-		harness.Together(len(attacks), func(i int) { attacks[i].repeat(s.Address, stop) })
-	}()
-	time.Sleep(200 * time.Millisecond)
+	end := s.attack(attacks...)
+	defer end()
 	client := &http.Client{Transport: &http.Transport{}, Timeout: generous}
 	defer client.CloseIdleConnections()
 	var took harness.Times
@@ -170,65 +163,112 @@ func (s *site) victim(length time.Duration, attacks ...attack) time.Duration {
 	for end := time.Now().Add(length); time.Now().Before(end); time.Sleep(2 * time.Millisecond) {
 		began := time.Now()
 		got, err := harness.Send(client, "GET", s.URL+"/v1/bank/de/a", bankWrites, "")
-		if took = append(took, time.Since(began)); err != nil || got.Status != 200 || got.Value() != "B" {
+		took = append(took, time.Since(began))
+		if err != nil || got.Status != 200 || got.Value() != "B" {
 			if refused++; refused <= 3 {
-				s.t.Errorf("%v %d %s", err, got.Status, got.Body)
+				s.t.Errorf("after %v: %v %d %s", time.Since(began), err, got.Status, got.Body)
 			}
 		}
 	}
-	close(stop)
-	<-ended
 	return took.At(99)
 }
 
-// repeat has all callers send the request until the attack stops.
-func (a attack) repeat(address string, stop <-chan struct{}) {
-	harness.Together(a.callers, func(int) {
-		for {
-			select {
-			case <-stop:
-				return
-			default:
-				a.send(address, stop)
-			}
-		}
-	})
+// attackFile is the variable that names the file of attacks of a process of attackers.
+const attackFile = "ATTACKS"
+
+// attacking is what a process of attackers prints once one of them is connected.
+const attacking = "attacking"
+
+func TestMain(m *testing.M) {
+	if file := os.Getenv(attackFile); file != "" {
+		panic(attackFrom(file))
+	}
+	os.Exit(m.Run())
 }
 
-// send sends the request once. The connection is closed when the attack stops.
-func (a attack) send(address string, stop <-chan struct{}) {
+// A campaign has the attacks of a process and the address of the gateway.
+type campaign struct {
+	Address string
+	Attacks []attack
+}
+
+// attack starts a process of attackers, so that the measured caller shares no Go runtime with them.
+// The function that it returns ends them.
+func (s *site) attack(attacks ...attack) (end func()) {
+	s.t.Helper()
+	if len(attacks) == 0 {
+		return func() {}
+	}
+	var content bytes.Buffer
+	if err := gob.NewEncoder(&content).Encode(campaign{s.Address, attacks}); err != nil {
+		s.t.Fatal(err)
+	}
+	p := &harness.Process{T: s.t, Name: "attackers", Args: os.Args[:1],
+		Env: []string{attackFile + "=" + fileOf(s.t, content.String())}}
+	s.t.Cleanup(p.Kill)
+	p.Start()
+	eventually(s.t, "attackers are connected", func() bool {
+		return strings.Contains(p.Log.Tail(1000), attacking)
+	})
+	time.Sleep(200 * time.Millisecond)
+	return p.Kill
+}
+
+// attackFrom makes the attacks of a file until the process is killed.
+func attackFrom(file string) error {
+	var c campaign
+	content, err := os.Open(file)
+	if err != nil {
+		return err
+	}
+	if err := gob.NewDecoder(content).Decode(&c); err != nil {
+		return err
+	}
+	harness.Together(len(c.Attacks), func(i int) {
+		a := c.Attacks[i]
+		harness.Together(a.Callers, func(int) {
+			for {
+				a.send(c.Address)
+			}
+		})
+	})
+	return nil
+}
+
+var firstConnection sync.Once
+
+// send sends the request once over a connection, and reads the response.
+func (a *attack) send(address string) {
 	c, err := net.Dial("tcp", address)
 	if err != nil {
 		time.Sleep(10 * time.Millisecond)
 		return
 	}
-	done := make(chan struct{})
-	defer close(done)
-	go func() {
-		select {
-		case <-stop:
-		case <-done:
-		}
-		_ = c.Close()
-	}()
+	defer c.Close()
+	firstConnection.Do(func() { fmt.Println(attacking) })
 	if _, err := io.WriteString(c, a.text()); err != nil {
 		return
 	}
-	if a.read != nil {
-		a.read(c)
-		return
+	switch a.Read {
+	case toTheEnd:
+		_, _ = io.Copy(io.Discard, c)
+	case slowly:
+		for buffer := make([]byte, 1024); err == nil; time.Sleep(50 * time.Millisecond) {
+			_, err = c.Read(buffer)
+		}
+	case nobody:
+		select {}
 	}
-	<-stop
 }
 
 // text returns the bytes of the request.
-func (a attack) text() string {
-	if a.do == "" {
-		return a.body
+func (a *attack) text() string {
+	if a.Do == "" {
+		return a.Body
 	}
-	do := strings.Replace(a.do, "%d", fmt.Sprint(rand.Intn(1000)), 1)
-	if !strings.Contains(a.headers, "Content-Length") && !strings.Contains(do, " GET ") {
-		a.headers += fmt.Sprintf("Content-Length: %d\r\n", len(a.body))
+	do, headers := strings.Replace(a.Do, "%d", fmt.Sprint(rand.Intn(1000)), 1), a.Headers
+	if !strings.Contains(headers, "Content-Length") && !strings.Contains(do, " GET ") {
+		headers += fmt.Sprintf("Content-Length: %d\r\n", len(a.Body))
 	}
-	return begins(do, a.headers+"Connection: close\r\n\r\n"+a.body)
+	return begins(do, headers+"Connection: close\r\n\r\n"+a.Body)
 }

@@ -128,20 +128,14 @@ func TestLongWork(t *testing.T) {
 		return attack{32, "a GET /v1/" + app + "/_history/1/diff?with=2", "", "", toTheEnd}
 	}
 	s.run(step{"b PUT /v1/bank/de.txt", "", `de{a{"` + long[:20<<10] + `"}}`, 201, "", ""})
-	stop, ended := make(chan struct{}), make(chan struct{})
-	attacks := []attack{work("app.one"), work("app.two")}
-	go func() {
-		defer close(ended)
-		harness.Together(len(attacks), func(i int) { attacks[i].repeat(s.Address, stop) })
-	}()
+	end := s.attack(work("app.one"), work("app.two"))
 	var took harness.Times
 	for i := 0; i < 20; i++ {
 		began := time.Now()
 		s.run([]step{{"b GET /v1/bank/de.json", "", "", 200, long[:100], ""}, {"b GET /v1/bank/_history", "", "", 200, "install", ""}}...)
 		took = append(took, time.Since(began))
 	}
-	close(stop)
-	<-ended
+	end()
 	if t.Logf("median %v, most %v", took.At(50), took.At(100)); took.At(50) > 5*time.Second {
 		t.Errorf("median %v", took.At(50))
 	}
