@@ -96,38 +96,58 @@ func disturbCluster(t *testing.T) {
 	equal(t, m)
 }
 
-// disturb makes the faults that are asked for, several at a time, and returns how many of each kind.
+// A disturbance is a fault to make: `kill`, `stop` or `cut`, of a gateway, a member of etcd or a machine.
+type disturbance struct {
+	what, kind string
+	i          int
+}
+
+// disturbances returns the faults that are asked for, in an order of chance.
+func disturbances(r *rand.Rand) (all []disturbance) {
+	for what, n := range map[string]int{"kill": *kills, "stop": *stops, "cut": *cuts} {
+		for ; n > 0; n-- {
+			kinds := []string{"gateways", "gateways", "etcd members"} // members have faults one by one
+			one := disturbance{what, kinds[r.Intn(3)], r.Intn(3)}
+			if what == "cut" {
+				one.kind = "machines"
+			}
+			all = append(all, one)
+		}
+	}
+	r.Shuffle(len(all), func(i, j int) { all[i], all[j] = all[j], all[i] })
+	return all
+}
+
+// disturb makes faults, several at a time, and returns how many of each kind. It waits as long as the
+// next one would be of a process that another one disturbs, or, unless -rough is given, would leave no
+// majority of members.
 func disturb(m *harness.Machines) map[string]int {
 	r, faults, busy := rand.New(rand.NewSource(*seed)), map[string]int{}, sync.Map{}
-	left := map[string]int{"kill": *kills, "stop": *stops, "cut": *cuts}
 	var ends sync.WaitGroup
-	for left["kill"]+left["stop"]+left["cut"] > 0 {
+	for _, one := range disturbances(r) {
+		one := one
 		time.Sleep(*pause/2 + time.Duration(r.Int63n(int64(*pause))))
-		what, i := []string{"kill", "stop", "cut"}[r.Intn(3)], r.Intn(3)
-		p, kind, one := m.Gateways[i].Process, "gateways", any(i)
-		if r.Intn(2) == 0 && what != "cut" {
-			p, kind, one = m.Members[i], "etcd members", any(m.Members[i])
+		of, isMember := fmt.Sprint("gateway ", one.i), one.kind != "gateways"
+		if isMember && *rough {
+			of = fmt.Sprint("member ", one.i)
+		} else if isMember {
+			of = "members"
 		}
-		if what == "cut" {
-			kind, one = "machines", any(m.Members[i])
-		}
-		if kind != "gateways" && !*rough { // the majority of members stays
-			if one = "members"; !healthy(m) {
-				continue
+		for {
+			_, there := busy.Load(of)
+			if !there && (!isMember || *rough || healthy(m)) {
+				break
 			}
+			time.Sleep(20 * time.Millisecond)
 		}
-		if _, there := busy.Load(one); there || left[what] == 0 {
-			continue
-		}
-		busy.Store(one, true)
-		left[what]--
-		faults[what+"s of "+kind]++
+		busy.Store(of, true)
+		faults[one.what+"s of "+one.kind]++
 		length := time.Duration(float64(*longest) * r.Float64() * r.Float64())
 		ends.Add(1)
 		go func() {
 			defer ends.Done()
-			defer busy.Delete(one)
-			fault(m, what, i, p, length)
+			defer busy.Delete(of)
+			one.make(m, length)
 		}()
 	}
 	ends.Wait()
@@ -143,9 +163,13 @@ func healthy(m *harness.Machines) bool {
 	return true
 }
 
-// fault makes a fault for a time.
-func fault(m *harness.Machines, what string, i int, p *harness.Process, length time.Duration) {
-	switch what {
+// make makes the fault for a time.
+func (d disturbance) make(m *harness.Machines, length time.Duration) {
+	p := m.Gateways[d.i].Process
+	if d.kind == "etcd members" {
+		p = m.Members[d.i]
+	}
+	switch d.what {
 	case "kill":
 		p.Kill()
 		time.Sleep(length / 4)
@@ -155,9 +179,9 @@ func fault(m *harness.Machines, what string, i int, p *harness.Process, length t
 		time.Sleep(length)
 		p.Signal(syscall.SIGCONT)
 	case "cut":
-		m.Net.Cut(i, true)
+		m.Net.Cut(d.i, true)
 		time.Sleep(length)
-		m.Net.Cut(i, false)
+		m.Net.Cut(d.i, false)
 	}
 }
 
