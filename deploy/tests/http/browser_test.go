@@ -19,7 +19,8 @@ type browser struct {
 	from       *bufio.Reader
 	id         int
 	session    string
-	complaints []string // errors of scripts and of the policy
+	complaints []string          // errors of scripts and of the policy
+	names      map[string]string // of expressions of the page
 }
 
 // openBrowser starts chromium, if it is installed.
@@ -45,7 +46,11 @@ func openBrowser(t *testing.T) *browser {
 	}
 	_, _ = theirs.Close(), ours.Close()
 	late := time.AfterFunc(5*generous, func() { _ = command.Process.Kill() })
-	b := &browser{t: t, to: to, from: bufio.NewReader(from)}
+	b := &browser{t: t, to: to, from: bufio.NewReader(from), names: map[string]string{}}
+	for _, line := range sectionOf(t, "browser", "names") {
+		name, script, _ := strings.Cut(line, " ")
+		b.names[name] = script
+	}
 	t.Cleanup(func() {
 		b.session = ""
 		b.call("Browser.close", nil)
@@ -110,9 +115,12 @@ func (b *browser) ask(method string, parameters, result any) {
 	}
 }
 
-// run returns the value of an expression of the page as a text.
+// run returns the value of an expression of the page, or of the one that has a name, as a text.
 func (b *browser) run(script string) string {
 	b.t.Helper()
+	if named, isName := b.names[script]; isName {
+		script = named
+	}
 	var got struct {
 		Result           struct{ Value any }
 		ExceptionDetails json.RawMessage
@@ -132,17 +140,16 @@ func (b *browser) is(script, want string) {
 	}
 }
 
-// until waits until the values of expressions have parts: scripts and parts alternate.
-func (b *browser) until(pairs ...string) {
+// until waits until the value of an expression has a part.
+func (b *browser) until(script, part string) {
 	b.t.Helper()
-	for end := time.Now().Add(generous); len(pairs) > 0; time.Sleep(20 * time.Millisecond) {
-		got := b.run(pairs[0])
-		if strings.Contains(got, pairs[1]) {
-			pairs = pairs[2:]
-		} else if time.Now().After(end) {
+	got, end := b.run(script), time.Now().Add(generous)
+	for ; !strings.Contains(got, part); got = b.run(script) {
+		if time.Now().After(end) {
 			b.picture("failed")
-			b.t.Fatalf("%s: %.500q, and no %q in it", pairs[0], got, pairs[1])
+			b.t.Fatalf("%s: %.500q, and no %q in it", script, got, part)
 		}
+		time.Sleep(20 * time.Millisecond)
 	}
 }
 
@@ -150,7 +157,7 @@ func (b *browser) until(pairs ...string) {
 var keys = map[string]struct {
 	code int
 	text string
-}{"Tab": {9, ""}, "Enter": {13, "\r"}, "Escape": {27, ""}, " ": {32, " "}, "End": {35, ""}, "Home": {36, ""}, "a": {65, ""}}
+}{"Tab": {9, ""}, "Enter": {13, "\r"}, "Escape": {27, ""}, " ": {32, " "}, "a": {65, ""}}
 
 // The modifiers of a key.
 const (
@@ -180,15 +187,12 @@ func (b *browser) write(text string) {
 	b.call("Input.insertText", map[string]any{"text": text})
 }
 
-// focused names what has the focus by its id or text.
-const focused = `(e => e.id || e.hash || (e.ariaLabel ?? e.textContent).slice(0, 40) || e.localName)(document.activeElement)`
-
 // tab presses Tab until something has the focus, as somebody does who has no mouse.
 func (b *browser) tab(to string) {
 	b.t.Helper()
 	var passed []string
 	for i := 0; i < 80; i++ {
-		now := b.run(focused)
+		now := b.run("focused")
 		if now == to {
 			return
 		}
@@ -223,6 +227,42 @@ func (b *browser) activate(id string) {
 func (b *browser) click(selector string) {
 	b.t.Helper()
 	b.run(fmt.Sprintf("document.querySelector(%q).click(); ''", selector))
+}
+
+// play does a script of testdata/browser, where {w} and {r} are the tokens of shop.
+func (b *browser) play(s *site, section string) {
+	b.t.Helper()
+	only := func(do func(string)) func(string, string) { return func(to, _ string) { do(to) } }
+	verbs := map[string]func(to, text string){"sign": b.sign, "fill": b.fill, "enter": b.enter,
+		"is": b.is, "until": b.until, "has": s.has, "found": s.is,
+		"put":      func(locale, text string) { s.put(locale, text) },
+		"activate": only(b.activate), "click": only(b.click), "picture": only(b.picture),
+		"run":   only(func(script string) { b.run(script) }),
+		"write": only(func(text string) { b.write(unescaped(text)) }),
+		"press": func(key, with string) {
+			b.press(strings.Replace(key, "Space", " ", 1), map[string]int{"shift": withShift}[with])
+		},
+		"tab": only(func(to string) {
+			if b.names[to] != "" {
+				to = b.run(to)
+			}
+			b.tab(to)
+		}),
+		"load": only(func(file string) {
+			script, _ := os.ReadFile("testdata/" + file)
+			b.run(string(script))
+		}),
+	}
+	given := strings.NewReplacer("{w}", shopWrites, "{r}", shopReads)
+	for _, line := range sectionOf(b.t, "browser", section) {
+		verb, rest, _ := strings.Cut(given.Replace(line), " ")
+		to, text, _ := strings.Cut(rest, "⇒")
+		if verbs[verb] == nil {
+			b.t.Fatalf("no verb: %s", line)
+		}
+		verbs[verb](strings.TrimSpace(to), unescaped(strings.TrimPrefix(text, " ")))
+	}
+	b.fine()
 }
 
 // visit opens the page of a gateway that has bundles, each with its locale.

@@ -17,28 +17,8 @@ import (
 func TestConditionsOfChanges(t *testing.T) {
 	s := beside(t)
 	tag := s.put("de", `de{a{"A"}}`).Tag()
-	past, future := "Mon, 02 Jan 2006 15:04:05 GMT", time.Now().Add(time.Hour).UTC().Format(http.TimeFormat)
-	const fails = 412
-	for _, c := range []struct {
-		do, header string
-		status     int
-	}{
-		{"PUT /v1/shop/de.txt", `If-Match: "nonsense"`, fails}, {"PUT /v1/shop/de.txt", "If-Match: W/" + tag, fails}, {"PUT /v1/shop/de.txt", "If-None-Match: *", fails},
-		{"PUT /v1/shop/de.txt", "If-None-Match: W/" + tag, fails}, {"DELETE /v1/shop/de", `If-Match: "nonsense"`, fails}, {"DELETE /v1/shop/de", "If-None-Match: " + tag, fails},
-		{"PUT /v1/shop/de.txt", "If-Unmodified-Since: " + past, fails}, {"PUT /v1/shop/fr.txt", "If-Match: *", fails}, {"PUT /v1/shop/fr.txt", "If-Match: " + tag, fails},
-		{"DELETE /v1/shop/fr", "If-Match: *", fails}, {"POST /v1/shop/de.txt", "If-Match: x", fails}, {"PUT /v1/shop/fr", "Content-Type: text/plain | If-Match: *", fails},
-		{"PUT /v1/shop/de.txt", `If-Match: "nonsense", ` + tag, 200}, {"PUT /v1/shop/DE.txt", "If-Match: *", 200}, {"PUT /v1/shop/de.txt", `If-None-Match: "nonsense"`, 200},
-		{"PUT /v1/shop/de.txt", "If-Unmodified-Since: " + future, 200}, {"PUT /v1/shop/fr.txt", "If-None-Match: *", 201}, {"DELETE /v1/shop/fr", "If-Match: *", 200},
-	} {
-		body, want := `de{a{"A"}}`, ""
-		if c.status == fails {
-			body, want = `de{a{"B"}}`, "={\"error\":\"PreconditionFailed\"}\n"
-		}
-		if strings.HasPrefix(c.do, "DELETE") {
-			body = ""
-		}
-		s.run(step{"w " + c.do, c.header, body, c.status, want, ""}, step{"r GET /v1/shop/de/a", "", "", 200, `"A"`, ""})
-	}
+	future := time.Now().Add(time.Hour).UTC().Format(http.TimeFormat)
+	s.script("ConditionsOfChanges", "tag", tag, "future", future)
 }
 
 // TestTagsOfBundles change with the bytes of the bundle, in each form.
@@ -71,15 +51,8 @@ func TestABundleComesBack(t *testing.T) {
 	if file.Status != 200 || !strings.Contains(file.Body, "\xda\x27") || file.Header.Get("Content-Type") != "application/octet-stream" {
 		t.Fatalf("%d %q %v", file.Status, file.Body, file.Header)
 	}
-	const asText, asJSON = "Content-Type: text/plain; charset=utf-8", "Content-Type: application/json"
-	s.run([]step{
-		{"w PUT /v1/shop/fr.res", "", file.Body, 201, "", ""}, {"r GET /v1/shop/fr.res", "", "", 200, "=" + file.Body, ""},
-		{"r GET /v1/shop/fr.txt", "", "", 200, "\u00c4", asText}, {"r GET /v1/shop/de.json", "", "", 200, "={\"a\":\"\u00c4\"}\n", asJSON},
-		{"r GET /v1/shop/fr.json", "", "", 200, "={\"a\":\"\u00c4\"}\n", asJSON}, {"r GET /v1/shop/DE.txt", "", "", 200, "=" + text, asText + " | Last-Modified>since"},
-		{"r GET /v1/shop/de.txt", "If-Modified-Since: {since}", "", 304, "", ""}, {"r GET /v1/shop/none.txt", "", "", 404, "!Absent", ""},
-		{"r GET /v1/shop/.json", "", "", 404, "", ""}, {"r GET /v1/bank/de.txt", "", "", 403, "", ""}, {"b GET /v1/bank/de.txt", "", "", 404, "={\"error\":\"Absent\"}\n", ""},
-		{"w PUT /v1/shop/de", asFile, file.Body[:len(file.Body)-1], 400, "!BadFile", ""}, {"w PUT /v1/shop/it", asFile, file.Body, 201, "", ""},
-	}...)
+	shorter := file.Body[:len(file.Body)-1]
+	s.script("ABundleComesBack", "file", file.Body, "shorter", shorter, "text", text)
 }
 
 // TestKindsOfItems installs each kind as a text and as a compiled file, and finds them also after a start.
@@ -88,12 +61,7 @@ func TestKindsOfItems(t *testing.T) {
 	s.put("de", `de{a{"Ä"} i:int{-7} b:bin{00ff} l{"x","y"} t{k{"v"}} v:intvector{1,2}}`)
 	s.run(step{"w PUT /v1/shop/fr.res", "", s.get("/v1/shop/de.res").Body, 201, "", ""})
 	for round := 0; round < 2; round++ {
-		for path, want := range map[string]string{"/a": `"value":"Ä"`, "/i": `"signed":-7`, "/b": `"hex":"00ff"`, "/l/1": `"value":"y"`, "/l": `"len":2`,
-			"/t": `"keys":["k"]`, "/t/k": `"value":"v"`, "/v": `"values":[1,2]`, "": `"keys":["a","b","i","l","t","v"]`} {
-			for _, locale := range []string{"de", "fr"} {
-				s.run(step{"r GET /v1/shop/" + locale + path, "", "", 200, want, ""})
-			}
-		}
+		s.script("KindsOfItems")
 		s.Restart()
 	}
 }
@@ -183,15 +151,7 @@ func TestTheReasonOfARefusal(t *testing.T) {
 			t.Errorf("%s: %d %s", c.code, got.Status, got.Body)
 		}
 	}
-	for _, c := range []struct{ name, body, want string }{ // a check stores nothing
-		{"de.txt", "de{a{\"A\"}}", `{"errors":[],"warnings":[]}`},
-		{"de.txt", "de{ days{\n \"lundi\", \"mardi\" \"jeudi\" } }", `{"errors":[],"warnings":[{"line":2,"column":`},
-		{"fr.txt", "de{a{\"A\"}}", `{"errors":[],"warnings":[{"line":1,"message":"the text has the name 'de', and it is put as 'fr'"}]}`},
-		{"de.txt", "de{\n bad\u00e4{}}", `{"errors":[{"code":"BadKey","line":2,"message":"`}, {"de.res", "\x00\x20\xda", `{"errors":[{"code":"`},
-	} {
-		s.run(step{"r POST /v1/shop/_check/" + c.name, "", c.body, 200, c.want, ""})
-	}
-	s.run([]step{{"r POST /v1/shop/_check/de", "", "x", 415, "", ""}, {"r POST /v1/bank/_check/de.txt", "", "x", 403, "", ""}}...)
+	s.script("TheReasonOfARefusal") // a check stores nothing
 	s.names()
 }
 
@@ -201,9 +161,7 @@ func withTree(t *testing.T) *site {
 	s := open(t)
 	s.put("fr", `fr{menu{open{"deO"}}}`)
 	file := s.get("/v1/shop/fr.res").Body
-	s.run([]step{{"w DELETE /v1/shop/fr", "", "", 200, "", ""}, {"w PUT /v1/shop/de.res", "", file, 201, "", ""},
-		{"w PUT /v1/shop/root.txt", "", `root{menu{open{"O"} close{"C"}} title{"T"}}`, 201, "", ""}, {"w PUT /v1/shop/de_AT.txt", "", `de_AT{title{"atT"}}`, 201, "", ""},
-		{"b PUT /v1/bank/de_AT.txt", "", `de_AT{title{"bank"}}`, 201, "", ""}}...)
+	s.script("Trees bundles", "file", file)
 	return s
 }
 
@@ -226,22 +184,10 @@ func TestTrees(t *testing.T) {
 			s.run(step{at, "If-None-Match: " + given, "", 304, "=", "ETag: " + got.Tag()})
 		}
 	}
-	s.run([]step{
-		{"r GET /v1/shop/-/menu?tree", "Accept-Language: de-AT", "", 200, "={\"close\":\"C\",\"open\":\"deO\"}\n", "Vary~Accept-Language"},
-		{"r GET /v1/shop/de_AT?tree", "", "", 200, "", "ETag>tag"},
-		{"w PUT /v1/shop/root.txt", "", `root{menu{open{"O"} close{"C2"}}}`, 200, "", "Resb-Revision>now"},
-		{"r GET /v1/shop/de_AT?tree&after={now}", "If-None-Match: {tag}", "", 200, "={\"menu\":{\"close\":\"C2\",\"open\":\"deO\"},\"title\":\"atT\"}\n", ""},
-	}...)
 	vast := "vast{" // each key has the next one twice
 	for i := 'a'; i < 'q'; i++ {
 		vast += fmt.Sprintf("k%c{a:alias{\"/LOCALE/k%c\"} b:alias{\"/LOCALE/k%c\"}} ", i, i+1, i+1)
 	}
-	s.run([]step{
-		{"b PUT /v1/bank/vast.txt", "", vast + "kq{a{\"" + strings.Repeat("x", 4000) + "\"}}}", 201, "", ""},
-		{"r GET /v1/shop/de_AT/none?tree", "", "", 404, "!Missing", "-ETag"}, {"r GET /v1/shop/de_AT/menu/none?tree", "", "", 404, "!Missing", ""},
-		{"b GET /v1/bank/fr?tree", "", "", 404, "!NoBundle", ""}, {"b GET /v1/bank/vast?tree", "", "", 413, "!TreeTooLarge", "-ETag"},
-		{"b GET /v1/shop/de_AT?tree", "", "", 403, "!Forbidden", ""}, {"r GET /v1/shop/d%00e?tree", "", "", 400, "!BadLocale", ""},
-		{"r GET /v1/shop/de/a%00b?tree", "", "", 400, "!BadPath", ""}, {"r GET /v1/shop/--parents=x?tree", "", "", 400, "!BadLocale", ""},
-		{"r GET /v1/shop/de?tree&after=x", "", "", 400, "!BadRevision", ""},
-	}...)
+	vast += "kq{a{\"" + strings.Repeat("x", 4000) + "\"}}}"
+	s.script("Trees", "vast", vast)
 }

@@ -64,24 +64,9 @@ None
 
 // TestTheClientsPatch a bundle, and return the tree that it makes.
 func TestTheClientsPatch(t *testing.T) {
-	for language, script := range map[string][]string{
-		"python3": {"-c", `import sys; sys.path.insert(0, "../../../examples/clients"); from over_http import Bundles, Refused
-b = Bundles(sys.argv[2], "shop", sys.argv[3]); b.put("root", 'root{a{"A"} b{"B"}}'); b.put("de", 'de{c{"C"}}')
-tag = b.patch("de", {"a": "D", "c": None})
-print(b.tree("de"), b.tree("de", "a"), b.bundle("de")[1] == tag)
-try:
-    b.patch("de", {"a": "E"}, '"other"')
-except Refused as refused:
-    print(refused)`},
-		"node": {"--input-type=module", "-e", `const { Bundles } = await import(process.cwd() + "/../../../examples/clients/over_http.mjs");
-const [url, token] = process.argv.slice(-2);
-const b = new Bundles(url, "shop", token); await b.put("root", 'root{a{"A"} b{"B"}}'); await b.put("de", 'de{c{"C"}}');
-const tag = await b.patch("de", { a: "D", c: null }); const tree = await b.tree("de");
-console.log("{'a': '" + tree.a + "', 'b': '" + tree.b + "'}", await b.tree("de", "a"), (await b.bundle("de")).tag === tag ? "True" : "False");
-await b.patch("de", { a: "E" }, '"other"').catch((refused) => console.log(refused.message));`},
-	} {
+	for language, script := range map[string]string{"python3": "patch.py", "node": "patch.mjs"} {
 		t.Run(language, func(t *testing.T) {
-			text, err := client(t, language, append(script, "--", open(t).URL, shopWrites)...)
+			text, err := client(t, language, "testdata/"+script, open(t).URL, shopWrites)
 			if want := "{'a': 'D', 'b': 'B'} D True\n412 PreconditionFailed\n"; err != nil || text != want {
 				t.Errorf("%v\n%s", err, text)
 			}

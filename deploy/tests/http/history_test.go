@@ -58,18 +58,7 @@ func TestTheHistory(t *testing.T) {
 		t.Errorf("%+v", some)
 	}
 	first, removal := fmt.Sprint(all[3].ID), fmt.Sprint(all[0].ID)
-	s.run([]step{
-		{"w GET /v1/shop/_history/" + first + ".txt", "", "", 200, `=de{a{"A"}}`, "ETag"}, {"w GET /v1/shop/_history/" + first + ".json", "", "", 200, `{"a":"A"}`, "ETag"},
-		{"w POST /v1/shop/_history/" + first + "/restore", "", "", 201, "", "Resb-Revision: 5"}, {"r GET /v1/shop/de/a", "", "", 200, `"A"`, ""},
-		{"w POST /v1/shop/_history/" + removal + "/restore", `If-Match: "nonsense"`, "", 412, "", ""},
-		{"w POST /v1/shop/_history/" + removal + "/restore", "", "", 200, "", ""}, {"r GET /v1/shop", "", "", 200, "={\"names\":[\"fr\"]}\n", ""},
-		{"w GET /v1/shop/_history?last=1001", "", "", 400, "", ""}, {"w GET /v1/shop/_history?last=x", "", "", 400, "", ""},
-		{"w GET /v1/shop/_history/99999.txt", "", "", 404, "!NoVersion", ""}, {"w GET /v1/shop/_history/x.txt", "", "", 404, "", ""},
-		{"w GET /v1/shop/_history/" + removal + ".txt", "", "", 404, "", ""}, {"w GET /v1/bank/_history/" + first + ".txt", "", "", 403, "", ""},
-		{"w POST /v1/shop/_history/9999/restore", "", "", 404, "", ""}, {"w POST /v1/shop/_history", "", "", 405, "", ""}, {"w GET /v1/shop/_none", "", "", 404, "", ""},
-		{"w PUT /v1/shop/_history/x.txt", "", "", 405, "", ""}, {"w GET /v1/shop/_history/" + first, "", "", 404, "", ""}, {"r GET /v1/shop/_history", "", "", 403, "", ""},
-		{"b GET /v1/bank/_history/" + fmt.Sprint(all[1].ID) + ".txt", "", "", 404, "", ""},
-	}...)
+	s.script("TheHistory", "first", first, "removal", removal, "other", fmt.Sprint(all[1].ID))
 	for i := 0; i < 103; i++ {
 		s.put("it", fmt.Sprintf(`it{a{"%d"}}`, i))
 	}
@@ -90,19 +79,7 @@ func TestDifferences(t *testing.T) {
 	s.ask("DELETE", "/v1/shop/de", shopWrites, "")
 	all := s.past("")
 	first, second, removal := fmt.Sprint(all[2].ID), fmt.Sprint(all[1].ID), fmt.Sprint(all[0].ID)
-	for versions, want := range map[string]string{
-		first + " " + second: `[{"new":"B","old":"A","path":"a"}]`, second + " " + first: `[{"new":"A","old":"B","path":"a"}]`, first + " " + first: `[]`,
-		first + " " + removal: `[{"old":"A","path":"a"}]`, removal + " " + second: `[{"new":"B","path":"a"}]`, removal + " " + removal: `[]`,
-	} {
-		from, to, _ := strings.Cut(versions, " ")
-		s.run(step{"w GET /v1/shop/_history/" + from + "/diff?with=" + to, "", "", 200, fmt.Sprintf("={\"changes\":%s,\"from\":%s,\"to\":%s}\n", want, from, to), "Cache-Control: no-store"})
-	}
-	for address, want := range map[string]int{first + "/diff": 400, first + "/diff?with=": 400, first + "/diff?with=x": 400, first + "/diff?with=-1": 400,
-		first + "/diff?with=99999999": 404, "99999999/diff?with=" + first: 404, "x/diff?with=" + first: 404, first + "/diff/x": 404} {
-		s.run(step{"w GET /v1/shop/_history/" + address, "", "", want, "", ""})
-	}
-	s.run([]step{{"r GET /v1/shop/_history/" + first + "/diff?with=" + second, "", "", 403, "", ""},
-		{"w PUT /v1/shop/_history/" + first + "/diff?with=" + second, "", "x", 405, "", "Allow: GET, HEAD, OPTIONS"}}...)
+	s.script("Differences", "first", first, "second", second, "removal", removal)
 }
 
 // TestErase gives a new owner nothing of an application: no bundles, and no history.
@@ -112,9 +89,7 @@ func TestErase(t *testing.T) {
 		s.put("de", `de{a{"a-secret-`+text+`"}}`)
 		s.put(text+text, `x{a{"a-secret-`+text+`"}}`)
 	}
-	s.run([]step{{"b PUT /v1/bank/de.txt", "", `de{a{"Z"}}`, 201, "", ""}, {"r DELETE /v1/shop?erase", "", "", 403, "", ""}, {"b DELETE /v1/shop?erase", "", "", 403, "", ""},
-		{"w DELETE /v1/shop", "", "", 400, "", ""}, {"w DELETE /v1/shop?erase=false", "", "", 400, "!BadQuery", ""},
-		{"w DELETE /v1/shop?erase", "", "", 200, "=" + yes, ""}, {"r GET /v1/shop", "", "", 200, "={\"names\":[]}\n", "Resb-Revision: 7"}, {"b GET /v1/bank/de/a", "", "", 200, `"Z"`, ""}}...)
+	s.script("Erase")
 	if all := s.past(""); len(all) != 0 {
 		t.Errorf("%+v", all)
 	}
@@ -173,23 +148,8 @@ func TestPatches(t *testing.T) {
 func TestPatchesThatAreRefused(t *testing.T) {
 	s := beside(t, "-text-bytes", "2000")
 	tag := s.put("de", `de{a{"A"}}`).Tag()
-	for _, c := range []step{
-		{"shop/fr", "", `{"a":"B"}`, 404, "!Absent", ""}, {"shop/de", `If-Match: "x"`, `{"a":"B"}`, 412, "!PreconditionFailed", ""},
-		{"shop/de", "Content-Type: application/json", `{"a":"B"}`, 415, "!BadType", "Accept-Patch: " + asPatch},
-		{"shop/de", "Content-Encoding: gzip", `{"a":"B"}`, 415, "!BadType", "Accept-Patch: " + asPatch}, {"shop/de", "", strings.Repeat(" ", 2001), 413, "!TooLarge", ""},
-		{"shop/de", "", `{"a":"` + strings.Repeat("x", 1992) + `"}`, 413, "!TooLarge", ""}, {"shop/de", "", ``, 400, `"code":"NotJson","column":1`, ""},
-		{"shop/de", "", "{\n \"a\": ]}", 400, `{"code":"NotJson","column":7,"error":"BadPatch","line":2`, ""}, {"shop/de", "", `"text"`, 400, "NotTable", ""},
-		{"shop/de", "", "{\n \"m\":{\"n\":\"B\", \"bad\u00e4\":\"C\"}}", 400, `"error":"BadPatch","line":2`, ""}, {"bank/de", "", `{}`, 403, "!Forbidden", ""},
-		{"shop/de", "", `{"a":"B","a":"C"}`, 400, `{"code":"DuplicateKey","column":14,"error":"BadPatch","line":1,`, ""}, {"shop/de/a", "", `"B"`, 405, "!NotAllowed", ""},
-		{"shop/de", "", `{"a":"B","c":[true]}`, 400, `"code":"UnknownValue"`, ""}, {"shop/de", "", `{"m":{"n":{"bad` + "\u00e4" + `":"C"}}}`, 400, `"path":"/m/n`, ""},
-	} {
-		c.do, c.headers = "w PATCH /v1/"+c.do, "Content-Type: "+asPatch+" | "+c.headers
-		s.run(c)
-	}
-	s.run([]step{{"r PATCH /v1/shop/de", "Content-Type: " + asPatch, `{"a":"B"}`, 403, "", ""}, {"r GET /v1/shop/de.txt", "", "", 200, "", "ETag: " + tag},
-		{"w PATCH /v1/shop/de", "Content-Type: " + asPatch + " | If-Match: " + tag, `{"a":"B"}`, 200, "", ""},
-		{"w PATCH /v1/shop/de", "Content-Type: " + asPatch + " | If-Match: " + tag, `{"a":"C"}`, 412, "", ""},
-		{"w PATCH /v1/shop/de", "Content-Type: " + asPatch + " | Content-Encoding: Identity", `{"a":"C"}`, 200, "", ""}}...)
+	s.script("PatchesThatAreRefused", "tag", tag, "blanks", strings.Repeat(" ", 2001),
+		"long", `{"a":"`+strings.Repeat("x", 1992)+`"}`)
 	s = open(t, "-body-bytes", "300000")
 	long := `de{a{"` + strings.Repeat("x", 80000) + `"}}`
 	s.put("de", long)
@@ -257,17 +217,7 @@ func TestLogs(t *testing.T) {
 	folder := t.TempDir()
 	access, audit := filepath.Join(folder, "access"), filepath.Join(folder, "audit")
 	s := open(t, "-access-log", access, "-audit-log", audit, "-proxies", "127.0.0.0/8")
-	const patches = "Content-Type: " + asPatch
-	s.run([]step{
-		{"w PUT /v1/shop/de.txt?token=" + shopWrites, `User-Agent: a"<b> | X-Forwarded-For: 10.1.1.1, 192.0.2.7`, `de{a{"A"}}`, 201, "", ""},
-		{"w PUT /v1/shop/de.txt", "", `de{bad}`, 400, "", ""}, {"w DELETE /v1/shop/fr", "", "", 404, "", ""},
-		{"w PUT /v1/shop/de.txt", "If-None-Match: *", `de{a{"B"}}`, 412, "", ""}, {"w DELETE /v1/shop/de", `If-Match: "nonsense"`, "", 412, "", ""},
-		{"r PUT /v1/shop/de.txt", "", "de{}", 403, "", ""}, {"b PUT /v1/shop/de.txt", "", "de{}", 403, "", ""},
-		{"w PATCH /v1/shop/de", patches, `{"a":"B"}`, 200, "", ""}, {"w PATCH /v1/shop/de", patches, `{"a":`, 400, "", ""},
-		{"w PATCH /v1/shop/fr", patches, `{}`, 404, "", ""}, {"w PUT /v1/shop/de", "", "de{}", 415, "", ""},
-		{"w PUT /v1/shop/de.txt", "", "de{a{\"\xff\"}}", 400, "", ""}, {"w PUT /v1/shop/de.txt?strict", "", "fr{}", 409, "", ""},
-		{"w POST /v1/shop/_releases", "Content-Type: " + asLines, "nonsense", 400, "", ""}, {"r DELETE /v1/shop?erase", "", "", 403, "", ""},
-	}...)
+	s.script("Logs", "token", shopWrites)
 	s.get("/v1/shop/%22%0a%ff")
 	s.ask("GET", "/v1/shop/de", "nobody's token, which is long enough", "")
 	eventually(t, "all requests are logged", func() bool { return len(journal(t, access)) == 17 })

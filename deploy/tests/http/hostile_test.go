@@ -21,39 +21,16 @@ func withBundle(t *testing.T, options ...string) *site {
 
 func TestBytesThatAreNoRequests(t *testing.T) {
 	s := withBundle(t)
-	const closes, chunked, ends = "Connection: close\r\n\r\n", "Transfer-Encoding: chunked\r\n", " HTTP/1.1\r\nHost: x\r\n\r\n"
-	put := func(headers, body string) string { return begins("w PUT /v1/shop/fr.txt", headers+"\r\n"+body) }
-	for want, all := range map[string][]string{
-		"200": {begins("w POST /v1/shop/look", "Content-Length: 9\r\n"+closes+"{\"path\":\n"), begins("w GET http://other/v1/shop/de/a", closes)},
-		"201": {put(chunked+"Connection: close\r\n", "4\r\nfr{}\r\n0\r\n\r\n")},
-		"400": {"\r\n\r\n\x00\x01", "GET\r\n\r\n", "GET / HTTP/1.1\r\n\r\n" /* no host */, "GET /%zz" + ends, "GET /v1/shop\x00" + ends, "G\x00T /" + ends,
-			"GET / HTTP/1.1\r\nHost: x\r\nA\r\n\r\n", "GET / HTTP/1.1\r\nHost: x\r\nA: b\x00\r\n\r\n",
-			"\x16\x03\x01\x02\x00\x01\x00\x01\xfc\x03\x03\r\n\r\n" /* TLS */, "PRI * HTTP/2.0\r\n\r\nSM\r\n\r\n",
-			begins("w GET /v1/shop/de/"+strings.Repeat("x", 2000), closes), begins("w GET /v1/shop/de/a%0d%0aX:y", closes),
-			begins("w GET /v1/shop/../bank/de/a", closes), begins("w GET /v1/shop/%2e%2e/bank/de", closes), begins("w GET /v1/shop/..%2fbank/de", closes),
-			begins("w GET /../../etc/passwd", closes), begins("w GET /..", closes), begins("w GET /v1/shop/de%00/a", closes), begins("w GET *", closes),
-			begins("w DELETE /v1/shop/d%00e", closes), begins("w PUT /v1/shop/..", "Content-Length: 4\r\n\r\nfr{}"),
-			begins("w PUT /v1/shop/f%00r.txt", "Content-Length: 4\r\n"+closes+"fr{}"),
-			put("Content-Length: 20\r\n", "fr{a") /* cut off */, put("Content-Length: -1\r\n", "fr{}"), put("Content-Length: 4\r\nContent-Length: 5\r\n", "fr{}"),
-			put("Content-Length: 9999999999999999999999\r\n", "fr{}"), put(chunked, "4\r\nfr{}\r\n"), put(chunked, "4\r\nfr{}"),
-			put(chunked, "zz\r\nfr{}\r\n0\r\n\r\n"), put(chunked, "ffffffffffffffffff\r\nfr{}\r\n0\r\n\r\n"),
-			put("Content-Length: 4\r\n"+chunked, "4\r\nfr{}\r\n0\r\n\r\n"),
-			put("transfer-encoding: chunked\r\nCONTENT-LENGTH: 14\r\n", "4\r\nfr{}\r\n0\r\n\r\n"),
-			begins("w POST /v1/shop/look", "Content-Length: 90\r\n"+closes+"{\"path\":\n"),
-			put("Content-Length: 4\r\nContent-Range: bytes 0-3/9\r\nConnection: close\r\n", "fr{}")},
-		"403": {begins("w GET /v1/shop%00/de/a", closes)},
-		"404": {begins("w GET /%00", closes)},
-		"413": {put("Content-Length: 999999999999\r\n", "fr{}")},
-		"415": {put("Content-Length: 4\r\nContent-Encoding: gzip\r\nConnection: close\r\n", "fr{}")},
-		"417": {put("Content-Length: 4\r\nExpect: 200-ok\r\nConnection: close\r\n", "fr{}")},
-		"431": {"GET / HTTP/1.1\r\nHost: x\r\nA: " + strings.Repeat("x", 40000) + "\r\n\r\n", "GET /" + strings.Repeat("x", 40000) + ends},
-		"501": {put("Transfer-Encoding: gzip\r\n", "fr{}")},
-		"505": {"GET / HTTP/9.9\r\n\r\n"},
-	} {
-		for _, bytes := range all { // who says that no more comes may be taken for one that has gone
-			if got, _ := harness.Exchange(s.Address, bytes, want[0] != '2'); statusOfText(got) != want {
-				t.Errorf("%.90q: %.120q, and not %s", bytes, got, want)
-			}
+	long := strings.NewReplacer("{2000}", strings.Repeat("x", 2000), "{40000}", strings.Repeat("x", 40000))
+	for _, line := range sectionOf(t, "hostile", "bytes") {
+		begin, bytes, _ := strings.Cut(line, "⇒ ")
+		want, do, _ := strings.Cut(strings.TrimSpace(begin), " ")
+		if bytes = unescaped(bytes); do != "" {
+			bytes = begins(do, bytes)
+		}
+		// who says that no more comes may be taken for one that has gone
+		if got, _ := harness.Exchange(s.Address, long.Replace(bytes), want[0] != '2'); statusOfText(got) != want {
+			t.Errorf("%.90q: %.120q, and not %s", bytes, got, want)
 		}
 	}
 	s.is("de/a", "A")

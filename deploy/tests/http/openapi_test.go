@@ -85,23 +85,6 @@ func TestTheTestsOfInvariants(t *testing.T) {
 	}
 }
 
-// validator fails if a description isn't one by the schema of the OpenAPI Initiative, which comes with Perl's JSON::Validator.
-const validator = `use strict; use warnings; use OpenAPI::Client; use JSON::Validator;
-my $schema = JSON::Validator->new->schema($ARGV[0])->schema;
-die join("\n", @{$schema->errors}), "\n" if @{$schema->errors};
-`
-
-// generator prints the operations of a client that Perl's OpenAPI::Client makes of a description, and what it gets.
-const generator = `my $client = OpenAPI::Client->new($ARGV[0], base_url => $ARGV[1]);
-$client->ua->on(start => sub { $_[1]->req->headers->authorization("Bearer $ARGV[2]") });
-print join(" ", grep { $client->can($_) } qw(list look put remove history release restore erase getTxt)), "\n";
-my $put = $client->put({app => "shop", locale => "de.txt"}, body => 'de{a{"A"}}');
-print $client->look({app => "shop", locale => "de", path => "a"})->res->json->{value}, "\n";
-print scalar @{$client->history({app => "shop", last => 10})->res->json->{history}}, "\n";
-print $client->history({app => "shop", last => "many"})->res->code, "\n";
-print $client->getTxt({app => "shop", locale => "de"})->res->body, "\n";
-`
-
 // TestTheDescriptionMakesAClient has Debian's libopenapi-client-perl judge the description and make a client of it.
 func TestTheDescriptionMakesAClient(t *testing.T) {
 	if exec.Command("perl", "-MOpenAPI::Client", "-e", "1").Run() != nil {
@@ -110,10 +93,10 @@ func TestTheDescriptionMakesAClient(t *testing.T) {
 	s := open(t)
 	s.put("de", `de{a{"A"}}`)
 	spoiled := fileOf(t, strings.Replace(described.text, `"parameters":`, `"answers":1,"parameters":`, 1))
-	if text, err := exec.Command("perl", "-e", validator, spoiled).CombinedOutput(); err == nil || !strings.Contains(string(text), "Properties not allowed: answers") {
+	if text, err := exec.Command("perl", "testdata/client.pl", spoiled).CombinedOutput(); err == nil || !strings.Contains(string(text), "Properties not allowed: answers") {
 		t.Errorf("a description with an unknown member: %v %s", err, text)
 	}
-	text, err := exec.Command("perl", "-e", validator+generator, s.URL+"/openapi.json", s.URL, shopWrites).CombinedOutput()
+	text, err := exec.Command("perl", "testdata/client.pl", s.URL+"/openapi.json", s.URL, shopWrites).CombinedOutput()
 	const want = "list look put remove history release restore erase getTxt\nA\n1\n400\nde{a{\"A\"}}\n"
 	if err != nil || string(text) != want {
 		t.Errorf("%v\n%s", err, text)

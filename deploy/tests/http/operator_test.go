@@ -49,38 +49,9 @@ func fileOf(t *testing.T, text string) string {
 // TestErrorsOfTheConfiguration names the line and what is wrong there.
 func TestErrorsOfTheConfiguration(t *testing.T) {
 	t.Parallel()
-	for text, want := range map[string]string{
-		"{\n \"init\": true,\n \"memry\": 1\n}":     `line 3: there is no option "memry"`,
-		"{\n \"config\": \"x\"\n}":                  `line 2: there is no option "config"`,
-		"{\n \"version\": true\n}":                  `line 2: there is no option "version"`,
-		"{\n \"init\":\n\n true,\n \"init\": true}": `line 5: "init" is there twice`,
-		"{\n \"init\": \"true\"}":                   `line 2: "init" must be true or false`,
-		"{\n\n \"each\": \"5\"}":                    `line 3: "each" must be a number`,
-		"{\n \"each\": 1.5}":                        `line 2: "each" can't be 1.5`,
-		"{\n \"each\": 99999999999999999999}":       `line 2: "each" can't be`,
-		"{\n \"patience\": 30}":                     `line 2: "patience" must be a text such as "30s"`,
-		"{\n \"patience\": \"30\"}":                 `line 2: "patience" can't be 30`,
-		"{\n \"listen\": 6422}":                     `line 2: "listen" must be a text`,
-		"{\n \"listen\": {\n}}":                     `line 2: "listen" must be a text`,
-		"{\n \"init\": true\n \"each\": 1}":         `line 3: invalid character`,
-		"{\n \"init\": true,\n}":                    `line 3: invalid character`,
-		"{\n \"init\": tru\n}":                      `line 2: invalid character`,
-		"{\n \"init\": true":                        `line 2: unexpected end`,
-		"{}\n{}":                                    `line 2: invalid character`,
-		"[]":                                        `line 1: the file must be a JSON object`,
-		"null":                                      `line 1: the file must be a JSON object`,
-		"":                                          `line 1: unexpected end`,
-		"# no comments\n{}":                         `line 1: invalid character`,
-		"{\"state\": \"x\"}":                        "-tokens",
-		"{\"state\": \"\", \"tokens\": \"x\"}":      "-state",
-		"{\"log\": \"xml\", \"tokens\": \"x\"}":     "-log",
-		"{\"origins\": \"shop.example\", \"tokens\": \"x\", \"state\": \"y\"}": "shop.example",
-		"{\"origins\": \"https://a/b\", \"tokens\": \"x\", \"state\": \"y\"}":  "https://a/b",
-		"{\"cert\": \"x\", \"tokens\": \"x\", \"state\": \"y\"}":               "key",
-		"{\"text-bytes\": 999999999999, \"tokens\": \"x\", \"state\": \"y\"}":  "8 MB",
-		"{\"file-bytes\": 999999999999, \"tokens\": \"x\", \"state\": \"y\"}":  "64 MB",
-	} {
-		command(t, 2, want, "-config", fileOf(t, text))
+	for _, line := range sectionOf(t, "config", "errors") {
+		text, want, _ := strings.Cut(line, "⇒ ")
+		command(t, 2, want, "-config", fileOf(t, unescaped(strings.TrimSuffix(text, " "))))
 	}
 	command(t, 2, "no such file", "-config", filepath.Join(t.TempDir(), "none"))
 }

@@ -103,7 +103,6 @@ func TestReleasesThatCantBeRead(t *testing.T) {
 	_ = w.WriteHeader(&tar.Header{Name: "de.txt", Linkname: "/etc/passwd", Typeflag: tar.TypeSymlink})
 	_ = w.Close()
 	good := namedText{"de.txt", "de{}"}
-	many := strings.Repeat("{\"locale\":\"it\",\"remove\":true}\n", 2)
 	text := `de{a{"Alpha"} b{"` + strings.Repeat("x", 10000) + `"}}`
 	zipped := func(method uint16) []byte {
 		var out bytes.Buffer
@@ -118,25 +117,18 @@ func TestReleasesThatCantBeRead(t *testing.T) {
 		return string(archive)
 	}
 	for _, c := range []struct{ kind, body, want string }{
-		{asTar, "nonsense", "BadRelease"}, {asZip, "nonsense", "BadRelease"}, {asLines, "nonsense", "line 1"}, {asTar, tarOf(t, good)[:900], "BadRelease"},
-		{asZip, zipOf(t, good)[:40], "BadRelease"}, {asTar, link.String(), "no regular file"}, {asTar, tarOf(t, good, namedText{"README.md", "x"}), "README.md"},
-		{asTar, tarOf(t, good, namedText{"x/DE.txt", "de{}"}), "another entry"}, {asZip, zipOf(t, namedText{"de.txt", strings.Repeat("x", 200000)}), "too long"},
-		{asZip, zipOf(t, good, namedText{"de.json", "{}"}), "de.json"}, {asLines, many, "line 2"}, {asLines, `{"locale":"de"}`, "needs locale"},
-		{asLines, `{"locale":"de","text":"","remove":true}`, "needs locale"}, {asLines, `{"locale":"de","file":"x"}`, "hexadecimal"}, {asLines, `{"locale":"de","txt":""}`, "txt"},
-		{asLines, `{"locale":"de","text":"de{}","file":"00"}`, "needs locale"}, {asLines, `{"locale":"de","file":"00","remove":true}`, "BadRelease"},
-		{asLines, `{"locale":"de","text":"de{}","text":"de{a{\"A\"}}"}`, "twice"}, {asLines, `{"locale":"de","text":"de{}","Text":"de{}"}`, "unknown"},
-		{asLines, `{"locale":"de","locale":"fr","remove":true}`, "twice"}, {asLines, `["de"]`, "no object"}, {asLines, `{"locale":"de","text":1}`, "text: "},
-		{asLines, `{"locale":"de","remove":true`, "line 1"}, {asLines, `{"locale":"de","text":"de{}"} {}`, "more than one"}, {asTar, tarOf(t, namedText{"d!e.txt", "de{}"}), ""},
-		{asZip, strings.Replace(string(zipped(zip.Store)), "Alpha", "Alphb", 1), "BadRelease"}, {asZip, shorter(zipped(zip.Deflate)), "BadRelease"},
-		{asZip, shorter(zipped(zip.Store)), "BadRelease"},
+		{asTar, tarOf(t, good)[:900], "BadRelease"}, {asZip, zipOf(t, good)[:40], "BadRelease"},
+		{asTar, link.String(), "no regular file"}, {asTar, tarOf(t, namedText{"d!e.txt", "de{}"}), ""},
+		{asTar, tarOf(t, good, namedText{"README.md", "x"}), "README.md"},
+		{asTar, tarOf(t, good, namedText{"x/DE.txt", "de{}"}), "another entry"},
+		{asZip, zipOf(t, namedText{"de.txt", strings.Repeat("x", 200000)}), "too long"},
+		{asZip, zipOf(t, good, namedText{"de.json", "{}"}), "de.json"},
+		{asZip, strings.Replace(string(zipped(zip.Store)), "Alpha", "Alphb", 1), "BadRelease"},
+		{asZip, shorter(zipped(zip.Deflate)), "BadRelease"}, {asZip, shorter(zipped(zip.Store)), "BadRelease"},
 	} {
-		s.run(step{"w POST /v1/shop/_releases", "Content-Type: " + c.kind, c.body, 400, c.want, "-Resb-Revision"})
+		s.script("ReleasesThatCantBeRead", "kind", c.kind, "body", c.body, "want", c.want)
 	}
-	for _, c := range []step{{"", "text/plain", "x", 415, "!BadType", ""}, {"", asTar, strings.Repeat("x", 100001), 413, "!TooLarge", ""},
-		{"", asLines, "", 200, `"changes":0`, ""}, {"", asLines, "\n" + many[:30], 200, `"changes":1`, ""}} {
-		c.do, c.headers = "w POST /v1/shop/_releases", "Content-Type: "+c.headers
-		s.run(c)
-	}
+	s.script("ReleasesOfLines", "long", strings.Repeat("x", 100001))
 	s.names()
 	s.rest()
 }

@@ -6,6 +6,7 @@ import (
 	"fmt"
 	"net"
 	"net/http"
+	"os"
 	"regexp"
 	"sort"
 	"strconv"
@@ -129,11 +130,83 @@ type step struct {
 
 var tokens = map[string]string{"w": shopWrites, "r": shopReads, "b": bankWrites, "both": bothRead, "a": appsWrite, "-": ""}
 
+// script makes the steps of a section of testdata/steps, where {name} stands for the text after name.
+func (s *site) script(section string, pairs ...string) {
+	s.t.Helper()
+	var steps []step
+	begun, isOver := 0, false // those from begun on share the next lines, up to a status and headers
+	for _, line := range sectionOf(s.t, "steps", section) {
+		kind, rest, _ := strings.Cut(line, " ")
+		status, _ := strconv.Atoi(kind)
+		if status == 0 && !strings.Contains(">+<", kind) {
+			if isOver {
+				begun, isOver = len(steps), false
+			}
+			steps = append(steps, step{do: line})
+			continue
+		}
+		isOver = isOver || status > 0
+		for i := begun; i < len(steps); i++ {
+			steps[i].add(kind, status, rest)
+		}
+	}
+	for i := 0; i < len(pairs); i += 2 {
+		pairs[i] = "{" + pairs[i] + "}"
+	}
+	s.perform(pairs, steps)
+}
+
+// sectionOf returns the lines of a section of a file in testdata, without those that begin with #.
+func sectionOf(t *testing.T, file, section string) (lines []string) {
+	t.Helper()
+	content, err := os.ReadFile("testdata/" + file)
+	_, text, found := strings.Cut(string(content), "\n-- "+section+" --\n")
+	if !found {
+		t.Fatalf("%s has no section %s: %v", file, section, err)
+	}
+	text, _, _ = strings.Cut(text, "\n-- ")
+	for _, line := range strings.Split(text, "\n") {
+		if line != "" && line[0] != '#' {
+			lines = append(lines, line)
+		}
+	}
+	return lines
+}
+
+// add adds what a line of testdata/steps says.
+func (one *step) add(kind string, status int, text string) {
+	switch kind {
+	case ">":
+		one.headers += " | " + text
+	case "<":
+		one.reply += " | " + text
+	case "+":
+		one.body = unescaped(text)
+	default:
+		plain := strings.TrimLeft(text, "=!")
+		one.status, one.want = status, text[:len(text)-len(plain)]+unescaped(plain)
+	}
+}
+
+// unescaped returns a text of testdata as it is meant: a string of Go after $, or with `\n` and `\r`.
+func unescaped(text string) string {
+	if quoted, isQuoted := harness.Cut(text, "$"); isQuoted {
+		text, _ = strconv.Unquote(quoted)
+		return text
+	}
+	return strings.NewReplacer(`\n`, "\n", `\r`, "\r").Replace(text)
+}
+
 // run makes steps, one after the other.
 func (s *site) run(steps ...step) {
 	s.t.Helper()
-	stored := strings.NewReplacer()
-	var pairs []string
+	s.perform(nil, steps)
+}
+
+// perform makes steps with texts for names, which is what it stores of replies too.
+func (s *site) perform(pairs []string, steps []step) {
+	s.t.Helper()
+	stored := strings.NewReplacer(pairs...)
 	for n, one := range steps {
 		words := strings.SplitN(stored.Replace(one.do), " ", 3)
 		var headers []string

@@ -1,0 +1,26 @@
+// What scripts of testdata/browser use. Requests of the page wait whose method and address have the part `hold`, until `letGo` is called.
+{
+	const ask = fetch;
+	const text = document.getElementById('text');
+	let held = [];
+	window.hold = '';
+	window.fetch = async (address, given) => {
+		if (window.hold && (given.method + ' ' + address).includes(window.hold)) await new Promise(wake => held.push(wake));
+		return ask(address, given);
+	};
+	window.letGo = () => { window.hold = ''; held.forEach(wake => wake()); held = []; };
+	window.waiting = () => String(held.length);
+	window.type = (typed) => { if (!text.readOnly) { text.value = typed; text.dispatchEvent(new Event('input')); } };
+	window.open_ = (locale) => { document.getElementById('locale').value = locale; document.getElementById('who').requestSubmit(); };
+	window.drop = (name, content) => {
+		const given = new DataTransfer();
+		given.items.add(new File([content], name));
+		text.dispatchEvent(new DragEvent('drop', { dataTransfer: given, bubbles: true, cancelable: true }));
+	};
+	window.directed = (part) => {
+		const cell = [...document.querySelectorAll('#both td')].find(c => c.textContent.includes(part));
+		return getComputedStyle(cell).direction + cell.lang;
+	};
+	window.show = (view, form) => { location.hash = view; document.getElementById(form)?.requestSubmit(); };
+}
+''

@@ -1,0 +1,10 @@
+const { Bundles } = await import(process.cwd() + '/../../../examples/clients/over_http.mjs');
+const [url, token] = process.argv.slice(2);
+const b = new Bundles(url, 'shop', token);
+await b.put('root', 'root{a{"A"} b{"B"}}');
+await b.put('de', 'de{c{"C"}}');
+const tag = await b.patch('de', { a: 'D', c: null });
+const tree = await b.tree('de');
+const isTag = (await b.bundle('de')).tag === tag;
+console.log(`{'a': '${tree.a}', 'b': '${tree.b}'}`, await b.tree('de', 'a'), isTag ? 'True' : 'False');
+await b.patch('de', { a: 'E' }, '"other"').catch((refused) => console.log(refused.message));
