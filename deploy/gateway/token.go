@@ -98,7 +98,7 @@ func listTokens(file string, out io.Writer) error {
 		if name == "" {
 			name = "-"
 		}
-		fmt.Fprintf(out, "%s\t%s\t%s\t%s\t%s\n", name, one.Hash[:8], one.App, right, until)
+		fmt.Fprintf(out, "%s\t%s\t%s\t%s\t%s\n", name, one.Hash()[:8], one.App, right, until)
 	}
 	if len(wrong) > 0 {
 		return fmt.Errorf("%s: %w", file, wrong[0])

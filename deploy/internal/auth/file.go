@@ -47,16 +47,15 @@ func join(content, more []byte) []byte {
 	return append(content[:len(content):len(content)], more...)
 }
 
-// Line returns the line of a token. It expires never if the time is zero.
-func Line(app, right, token, name string, expires time.Time) (string, error) {
+// lineOf returns the line of a token. It expires never if the time is zero.
+func lineOf(token, app, right, name string, expires time.Time) (string, error) {
 	if len(token) < LeastToken {
 		return "", fmt.Errorf("a token has at least %d characters", LeastToken)
 	}
 	if len(strings.Fields(app)) != 1 || strings.HasPrefix(app, "#") {
 		return "", fmt.Errorf("%q is no application's name", app)
 	}
-	sum := sha256.Sum256([]byte(token))
-	text := app + " " + right + " " + hex.EncodeToString(sum[:])
+	text := fmt.Sprintf("%s %s %x", app, right, sha256.Sum256([]byte(token)))
 	if name != "" {
 		text += " name=" + name
 	}
@@ -74,14 +73,14 @@ func Create(path, app, right, name string, expires time.Time) (token string, err
 		return "", err
 	}
 	token = hex.EncodeToString(random)
-	line, err := Line(app, right, token, name, expires)
+	line, err := lineOf(token, app, right, name, expires)
 	if err != nil {
 		return "", err
 	}
 	return token, edit(path, func(content []byte) ([]byte, error) {
-		holders, _ := parse(content)
-		for _, h := range holders {
-			if name != "" && h.name == name {
+		grants, _ := parse(content)
+		for _, g := range grants {
+			if name != "" && g.Name == name {
 				return nil, fmt.Errorf("another token has the name %s", name)
 			}
 		}
@@ -97,64 +96,47 @@ func (t *Tokens) Add(path string) error {
 	}
 	t.mu.Lock()
 	defer t.mu.Unlock()
-	holders, wrong := parse(join(t.taken, content))
+	grants, wrong := parse(join(t.taken, content))
 	if len(wrong) > 0 {
 		return fmt.Errorf("%s: %w", path, wrong[0])
 	}
 	t.added = content
-	t.holders.Store(holders)
+	t.holders.Store(holdersOf(grants))
 	return nil
 }
 
 // Keep adds to the file what Add added.
 func (t *Tokens) Keep() error {
 	t.mu.Lock()
-	added := t.added
-	t.mu.Unlock()
-	if len(added) == 0 {
+	defer t.mu.Unlock()
+	if len(t.added) == 0 {
 		return nil
 	}
-	err := edit(t.path, func(content []byte) ([]byte, error) { return join(content, added), nil })
-	if err != nil {
-		return err
+	err := edit(t.path, func(content []byte) ([]byte, error) { return join(content, t.added), nil })
+	if err == nil {
+		t.added = nil
+		t.reload(true)
 	}
-	t.mu.Lock()
-	t.added = nil
-	t.mu.Unlock()
-	t.Reload(true)
-	return nil
-}
-
-// A Listed token is a line of a file.
-type Listed struct {
-	Name, Hash, App string
-	Right           Right
-	Expires         time.Time
+	return err
 }
 
 // List returns the lines of a file that aren't wrong, and the errors of the others.
-func List(path string) (all []Listed, wrong []error, err error) {
+func List(path string) (all []Grant, wrong []error, err error) {
 	content, err := readFile(path)
-	for n, text := range strings.Split(string(content), "\n") {
-		g, err := parseLine(text)
-		if err != nil {
-			wrong = append(wrong, fmt.Errorf("line %d: %w", n+1, err))
-		} else if g != nil {
-			all = append(all, Listed{g.name, g.hash(), g.app, g.right, g.expires})
-		}
-	}
+	all, wrong = parse(content)
 	return all, wrong, err
 }
 
-// Revoke removes all lines of the token with a name, or whose hash begins with these 8 or more digits, and returns how many.
+// Revoke removes all lines of the token with a name, or whose hash begins with these 8 or more digits,
+// and returns how many.
 func Revoke(path, token string) (removed int, err error) {
 	hash := strings.ToLower(token)
 	err = edit(path, func(content []byte) ([]byte, error) {
-		lines := bytes.SplitAfter(content, []byte("\n"))
-		revoked := map[digest]bool{}
-		for _, line := range lines {
+		lines, revoked := bytes.SplitAfter(content, []byte("\n")), map[digest]bool{}
+		for _, line := range lines { // also one that has another name in another line
 			g, _ := parseLine(string(line))
-			if g != nil && token != "" && (g.name == token || len(hash) >= 8 && strings.HasPrefix(g.hash(), hash)) {
+			isIts := g != nil && len(hash) >= 8 && strings.HasPrefix(g.Hash(), hash)
+			if g != nil && token != "" && (g.Name == token || isIts) {
 				revoked[g.digest] = true
 			}
 		}
@@ -199,10 +181,10 @@ func edit(path string, change func(content []byte) ([]byte, error)) error {
 	if err != nil {
 		return err
 	}
-	if err := replace(path, made); err != nil {
-		return err
+	if err = replace(path, made); err == nil {
+		err = folder.Sync()
 	}
-	return folder.Sync()
+	return err
 }
 
 // replace writes a file beside its place, and renames it.
@@ -220,11 +202,11 @@ func replace(path string, content []byte) error {
 			return err
 		}
 	}
-	if _, err := f.Write(content); err != nil {
-		return err
+	if _, err = f.Write(content); err == nil {
+		err = f.Sync()
 	}
-	if err := f.Sync(); err != nil {
-		return err
+	if err == nil {
+		err = os.Rename(f.Name(), path)
 	}
-	return os.Rename(f.Name(), path)
+	return err
 }

@@ -1,6 +1,7 @@
 package auth
 
 import (
+	"crypto/sha256"
 	"encoding/hex"
 	"errors"
 	"fmt"
@@ -9,61 +10,59 @@ import (
 	"time"
 )
 
-// A grant is a line of the file: `APP read HASH` or `APP write HASH`, then perhaps `name=NAME` and `expires=TIME`. The hash is the
-// SHA-256 of the token in hexadecimal. `shop.*` in the place of APP stands for all applications whose names begin with `shop.`. One
-// token may have several lines.
-type grant struct {
-	app     string
-	right   Right
-	digest  digest
-	name    string
-	expires time.Time // or zero
+// A Grant is a line of the file: `APP read HASH` or `APP write HASH`, then perhaps `name=NAME` and
+// `expires=TIME`. The hash is the SHA-256 of the token in hexadecimal. `shop.*` in the place of APP
+// stands for all applications whose names begin with `shop.`. One token may have several lines.
+type Grant struct {
+	App, Name string
+	Right     Right
+	Expires   time.Time // or zero
+	digest    digest
 }
 
-func (g *grant) holds(now time.Time) bool { return g.expires.IsZero() || now.Before(g.expires) }
+func (g *Grant) holds(now time.Time) bool { return g.Expires.IsZero() || now.Before(g.Expires) }
 
 // covers returns true if the line is about an application.
-func (g *grant) covers(app string) bool {
-	begin := strings.TrimSuffix(g.app, "*")
-	return app == g.app || begin != g.app && strings.HasPrefix(app, begin) && isApp(app)
+func (g *Grant) covers(app string) bool {
+	begin := strings.TrimSuffix(g.App, "*")
+	return app == g.App || begin != g.App && strings.HasPrefix(app, begin) && isApp(app)
 }
 
-// hash returns the digest in hexadecimal.
-func (g *grant) hash() string { return hex.EncodeToString(g.digest[:]) }
+// Hash returns the digest in hexadecimal.
+func (g *Grant) Hash() string { return hex.EncodeToString(g.digest[:]) }
 
 var appName = regexp.MustCompile(`^[A-Za-z0-9_.-]{1,64}$`)
 
-// isApp returns true if a text is the name of an application. A name of full stops alone can't be used in an address.
+// isApp returns true if a text is the name of an application. A name of full stops alone can't be used
+// in an address.
 func isApp(name string) bool {
 	return appName.MatchString(name) && name != "." && name != ".." && name != "ICUDATA"
 }
 
 // parse reads the content of a file, without the lines that are wrong.
-func parse(content []byte) (holders map[digest]Holder, wrong []error) {
-	holders = map[digest]Holder{}
+func parse(content []byte) (grants []Grant, wrong []error) {
+	names := map[digest]string{}
 	for n, text := range strings.Split(string(content), "\n") {
 		g, err := parseLine(text)
 		if g != nil {
-			h := holders[g.digest]
-			if h.name != "" && g.name != "" && h.name != g.name {
-				err = fmt.Errorf("the token has the name %s in another line", h.name)
+			if g.Name != "" && names[g.digest] == "" {
+				names[g.digest] = g.Name
+			}
+			if known := names[g.digest]; g.Name != "" && g.Name != known {
+				err = fmt.Errorf("the token has the name %s in another line", known)
 			} else {
-				if g.name != "" {
-					h.name = g.name
-				}
-				h.digest, h.grants = g.digest, append(h.grants, *g)
-				holders[g.digest] = h
+				grants = append(grants, *g)
 			}
 		}
 		if err != nil {
 			wrong = append(wrong, fmt.Errorf("line %d: %w", n+1, err))
 		}
 	}
-	return holders, wrong
+	return grants, wrong
 }
 
 // parseLine reads a line. The grant is nil if the line is wrong, empty, or a comment, which begins with #.
-func parseLine(text string) (*grant, error) {
+func parseLine(text string) (*Grant, error) {
 	words := strings.Fields(text)
 	if len(words) == 0 || strings.HasPrefix(words[0], "#") {
 		return nil, nil
@@ -71,14 +70,15 @@ func parseLine(text string) (*grant, error) {
 	if len(words) < 3 {
 		return nil, errors.New("not APP read|write HASH")
 	}
-	g := &grant{app: words[0], right: rights[words[1]]}
-	n, err := hex.Decode(g.digest[:], []byte(words[2])[:min(len(words[2]), 2*len(g.digest))])
+	g := &Grant{App: words[0], Right: rights[words[1]]}
+	hash, err := hex.DecodeString(words[2])
+	copy(g.digest[:], hash)
 	switch {
-	case !isApp(strings.TrimSuffix(g.app, "*")):
+	case !isApp(strings.TrimSuffix(g.App, "*")):
 		return nil, fmt.Errorf("%.80q is no application's name", words[0])
-	case g.right == 0:
+	case g.Right == 0:
 		return nil, fmt.Errorf("%.80q is neither read nor write", words[1])
-	case err != nil || n != len(g.digest) || len(words[2]) != 2*n:
+	case err != nil || len(hash) != sha256.Size:
 		return nil, errors.New("the hash is not 64 hexadecimal digits")
 	}
 	for _, word := range words[3:] {
@@ -89,23 +89,16 @@ func parseLine(text string) (*grant, error) {
 	return g, nil
 }
 
-func min(a, b int) int {
-	if a < b {
-		return a
-	}
-	return b
-}
-
 // set reads what may follow the hash.
-func (g *grant) set(word string) (err error) {
+func (g *Grant) set(word string) (err error) {
 	key, value, _ := strings.Cut(word, "=")
 	switch {
 	case key == "expires":
-		g.expires, err = ParseTime(value)
+		g.Expires, err = ParseTime(value)
 	case key == "name" && !isApp(value):
 		err = fmt.Errorf("%.80q is no name", value)
 	case key == "name":
-		g.name = value
+		g.Name = value
 	default:
 		err = fmt.Errorf("%.80q is neither name=NAME nor expires=TIME", word)
 	}

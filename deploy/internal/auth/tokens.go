@@ -38,7 +38,21 @@ type digest [sha256.Size]byte
 type Holder struct {
 	digest digest
 	name   string // in the file, or ""
-	grants []grant
+	grants []Grant
+}
+
+// holdersOf returns who has the tokens of some lines.
+func holdersOf(grants []Grant) map[digest]Holder {
+	all := map[digest]Holder{}
+	for _, g := range grants {
+		h := all[g.digest]
+		if g.Name != "" {
+			h.name = g.Name
+		}
+		h.digest, h.grants = g.digest, append(h.grants, g)
+		all[g.digest] = h
+	}
+	return all
 }
 
 // Name names the holder in logs and in the history: by its name, or by the first digits of the token's digest.
@@ -55,8 +69,8 @@ func (h *Holder) ID() string { return string(h.digest[:]) }
 // May returns what the holder may do now for an application; 0 is nothing.
 func (h Holder) May(app string, now time.Time) (most Right) {
 	for i := range h.grants {
-		if g := &h.grants[i]; g.right > most && g.covers(app) && g.holds(now) {
-			most = g.right
+		if g := &h.grants[i]; g.Right > most && g.covers(app) && g.holds(now) {
+			most = g.Right
 		}
 	}
 	return most
@@ -93,15 +107,16 @@ func Open(path string) (*Tokens, error) {
 	if err != nil {
 		return nil, err
 	}
-	holders, wrong := parse(content)
+	grants, wrong := parse(content)
 	if len(wrong) > 0 {
 		return nil, fmt.Errorf("%s: %w", path, wrong[0])
 	}
 	if othersMayWrite(path) {
-		return nil, fmt.Errorf("%s: all users of the machine may change it, so anybody could make a token; chmod o-w it", path)
+		const why = "all users of the machine may change it, so anybody could make a token; chmod o-w it"
+		return nil, fmt.Errorf("%s: %s", path, why)
 	}
 	t.taken, t.last = content, content
-	t.holders.Store(holders)
+	t.holders.Store(holdersOf(grants))
 	return t, nil
 }
 
@@ -111,6 +126,10 @@ func Open(path string) (*Tokens, error) {
 func (t *Tokens) Reload(atOnce bool) {
 	t.mu.Lock()
 	defer t.mu.Unlock()
+	t.reload(atOnce)
+}
+
+func (t *Tokens) reload(atOnce bool) {
 	state := stateOf(t.path)
 	if !atOnce && state != "" && state == t.state {
 		return
@@ -134,7 +153,7 @@ func (t *Tokens) Reload(atOnce bool) {
 
 // take makes the lines of the file the tokens, without those that are wrong.
 func (t *Tokens) take(content []byte) {
-	holders, wrong := parse(join(content, t.added))
+	grants, wrong := parse(join(content, t.added))
 	if othersMayWrite(t.path) {
 		wrong = append(wrong, errors.New("all users of the machine may change the file"))
 	}
@@ -143,6 +162,7 @@ func (t *Tokens) take(content []byte) {
 	}
 	t.isBad.Store(len(wrong) > 0)
 	t.taken = content
+	holders := holdersOf(grants)
 	t.holders.Store(holders)
 	log.Printf("tokens: read again: %d", len(holders))
 }

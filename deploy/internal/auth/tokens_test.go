@@ -183,7 +183,7 @@ func TestShortTokensAreRefused(t *testing.T) {
 	if may(tokens, short+"x", "shop") != Write {
 		t.Error("it isn't too short")
 	}
-	if _, err := Line("shop", "read", short, "", time.Time{}); err == nil {
+	if _, err := lineOf(short, "shop", "read", "", time.Time{}); err == nil {
 		t.Error("a line was made")
 	}
 }
