@@ -9,6 +9,7 @@ import (
 	"net"
 	"os"
 	"os/exec"
+	"strings"
 	"time"
 
 	"luvdregan.example/resb/deploy/internal/auth"
@@ -88,31 +89,27 @@ func setOption(of *flag.Flag, value any, sets bool) error {
 
 // textsOf returns a JSON value as the command line would have it, or what the option wants instead.
 func textsOf(of flag.Value, value any) (texts []string, wants string) {
-	list, isList := value.([]any)
-	_, isNumber := value.(json.Number)
-	_, isText := value.(string)
-	_, isBool := value.(bool)
-	fits := false
+	kinds, wants := "json.Number", "a number"
 	switch of := of.(type) {
 	case *listValue:
-		fits, wants = isList, "a list of texts"
+		kinds, wants = "[]interface {}", "a list of texts"
 	case *bytesValue:
-		fits, wants = isNumber || isText, "a number of bytes, or a text such as \"4G\""
+		kinds, wants = "json.Number string", "a number of bytes, or a text such as \"4G\""
 	case flag.Getter:
 		switch of.Get().(type) {
 		case bool:
-			fits, wants = isBool, "true or false"
+			kinds, wants = "bool", "true or false"
 		case string:
-			fits, wants = isText, "a text"
+			kinds, wants = "string", "a text"
 		case time.Duration:
-			fits, wants = isText, "a text such as \"30s\""
-		default:
-			fits, wants = isNumber, "a number"
+			kinds, wants = "string", "a text such as \"30s\""
 		}
 	}
+	list, isList := value.([]any)
 	if !isList {
 		list = []any{value}
 	}
+	fits := strings.Contains(kinds, fmt.Sprintf("%T", value))
 	for _, one := range list {
 		_, isText := one.(string)
 		texts, fits = append(texts, fmt.Sprint(one)), fits && (isText || !isList)

@@ -121,7 +121,9 @@ func run(s settings) error {
 		if err != nil {
 			return err
 		}
-		defer g.openInside(inner).Close()
+		inside := g.server(g.Handler.Inside()) // the metrics, and whether the gateway is ready
+		go func() { _ = inside.Serve(inner) }()
+		defer inside.Close()
 	}
 	return g.listenOn(outer, pair)
 }
@@ -281,11 +283,4 @@ func (g *gateway) listenOn(outer net.Listener, p *serve.Pair) error {
 		return fmt.Errorf("requests were on their way for %v; they are cut off", g.leave)
 	}
 	return nil
-}
-
-// openInside answers the metrics, and whether the gateway is ready, at a separate address.
-func (g *gateway) openInside(l net.Listener) *http.Server {
-	server := g.server(g.Handler.Inside())
-	go func() { _ = server.Serve(l) }()
-	return server
 }

@@ -129,28 +129,27 @@ var errorLog *Journal
 func StartLog(form string) {
 	errorLog, _ = OpenJournal("-") // it opens no file
 	log.SetFlags(log.LstdFlags | log.Lmicroseconds)
-	log.SetOutput(textLog{errorLog})
 	if form == "json" {
 		log.SetFlags(0)
-		log.SetOutput(jsonLog{errorLog})
 	}
+	log.SetOutput(logWriter{errorLog, form == "json"})
 }
 
 // FlushLog waits for what is still to be written.
 func FlushLog() { errorLog.Flush() }
 
-// A textLog writes messages of the log as they are.
-type textLog struct{ to *Journal }
-
-func (l textLog) Write(message []byte) (int, error) {
-	l.to.queue(append([]byte{}, message...))
-	return len(message), nil
+// A logWriter writes messages of the log as they are, or each as an object. Those of the gateway begin
+// with the part that they are about and a colon.
+type logWriter struct {
+	to     *Journal
+	asJSON bool
 }
 
-// A jsonLog writes each message of the log as an object. Those of the gateway begin with the part that they are about and a colon.
-type jsonLog struct{ to *Journal }
-
-func (l jsonLog) Write(message []byte) (int, error) {
+func (l logWriter) Write(message []byte) (int, error) {
+	if !l.asJSON {
+		l.to.queue(append([]byte{}, message...))
+		return len(message), nil
+	}
 	text := strings.ToValidUTF8(string(bytes.TrimRight(message, "\n")), "\uFFFD")
 	part, rest, found := strings.Cut(text, ": ")
 	if !found || strings.ContainsAny(part, " /\"") {
