@@ -9,6 +9,8 @@ import (
 	"syscall"
 	"testing"
 	"time"
+
+	"luvdregan.example/resb/deploy/tests/harness"
 )
 
 const (
@@ -31,17 +33,13 @@ func file(t *testing.T, lines ...string) string {
 
 func write(t *testing.T, path string, lines ...string) {
 	t.Helper()
-	if err := os.WriteFile(path, []byte(strings.Join(lines, "\n")), 0o640); err != nil {
-		t.Fatal(err)
-	}
+	harness.Must(t, os.WriteFile(path, []byte(strings.Join(lines, "\n")), 0o640))
 }
 
 func open(t *testing.T, path string) *Tokens {
 	t.Helper()
 	tokens, err := Open(path)
-	if err != nil {
-		t.Fatal(err)
-	}
+	harness.Must(t, err)
 	return tokens
 }
 
@@ -57,9 +55,7 @@ func may(tokens *Tokens, token, app string) Right {
 func TestPrefixesAndNames(t *testing.T) {
 	tokens := open(t, file(t, "# all", "shop.* write "+hashOf(one)+" name=ci", "bank read "+hashOf(one), "shop.a read "+hashOf(two)))
 	for app, want := range map[string]Right{"shop.a": Write, "shop.": Write, "shop": 0, "shopx": 0, "bank": Read, "bank.a": 0, "shop.a/b": 0, "*": 0, "": 0} {
-		if got := may(tokens, one, app); got != want {
-			t.Errorf("%q: %v", app, got)
-		}
+		harness.Equal(t, may(tokens, one, app), want, app)
 	}
 	if h, _ := tokens.Find(one); h.Name() != "ci" {
 		t.Error(h.Name())
@@ -73,9 +69,7 @@ func TestExpiry(t *testing.T) {
 	past, future := time.Now().Add(-time.Hour).UTC().Format(time.RFC3339), time.Now().Add(time.Hour).UTC().Format(time.RFC3339)
 	tokens := open(t, file(t, "shop write "+hashOf(one)+" expires="+past, "shop read "+hashOf(one)+" expires="+future,
 		"shop read "+hashOf(two)+" name=old expires="+past, "bank read "+hashOf(two)+" expires=2001-01-31"))
-	if got := may(tokens, one, "shop"); got != Read {
-		t.Errorf("%v: the right to write has expired", got)
-	}
+	harness.Equal(t, may(tokens, one, "shop"), Read, "the right to write has expired")
 	if _, ok := tokens.Find(two); ok {
 		t.Error("all rights have expired")
 	}
@@ -107,41 +101,30 @@ func TestATypingErrorKeepsNothingAlive(t *testing.T) {
 		t.Error("the earlier tokens stay")
 	}
 	tokens.Reload(true)
-	if tokens.Bad() != 1 {
-		t.Error("the line is still wrong")
-	}
+	harness.ErrorIf(t, tokens.Bad() != 1, "the line is still wrong")
 	write(t, path, "shop write "+hashOf(one))
 	tokens.Reload(true)
-	if may(tokens, one, "shop") != Write || tokens.Bad() != 0 {
-		t.Error("the file was mended")
-	}
-	if err := os.Remove(path); err != nil {
-		t.Fatal(err)
-	}
+	harness.ErrorIf(t, may(tokens, one, "shop") != Write || tokens.Bad() != 0,
+		"the file was mended")
+	harness.Must(t, os.Remove(path))
 	tokens.Reload(true)
-	if may(tokens, one, "shop") != Write || tokens.Bad() != 1 {
-		t.Error("a file that can't be read changes nothing")
-	}
+	harness.ErrorIf(t, may(tokens, one, "shop") != Write || tokens.Bad() != 1,
+		"a file that can't be read changes nothing")
 }
 
 // TestAnEmptyFileRevokesAll, also one that was missing for a moment.
 func TestAnEmptyFileRevokesAll(t *testing.T) {
 	path := file(t, "shop write "+hashOf(one))
 	tokens := open(t, path)
-	if err := os.Remove(path); err != nil {
-		t.Fatal(err)
-	}
+	harness.Must(t, os.Remove(path))
 	tokens.Reload(false)
-	if may(tokens, one, "shop") != Write {
-		t.Error("a missing file took tokens away")
-	}
+	harness.ErrorIf(t, may(tokens, one, "shop") != Write, "a missing file took tokens away")
 	write(t, path)
 	for i := 0; i < 4; i++ {
 		tokens.Reload(i == 3)
 	}
-	if may(tokens, one, "shop") != 0 || tokens.Bad() != 0 {
-		t.Error("the token is still valid", tokens.Bad())
-	}
+	harness.ErrorIf(t, may(tokens, one, "shop") != 0 || tokens.Bad() != 0,
+		"the token is still valid %v", tokens.Bad())
 }
 
 // TestAFIFODoesntHang, at the start or later; nor does a device without an end.
@@ -149,9 +132,7 @@ func TestAFIFODoesntHang(t *testing.T) {
 	path := file(t, "shop write "+hashOf(one))
 	tokens := open(t, path)
 	_ = os.Remove(path)
-	if err := syscall.Mkfifo(path, 0o600); err != nil {
-		t.Fatal(err)
-	}
+	harness.Must(t, syscall.Mkfifo(path, 0o600))
 	ended := make(chan error, 1)
 	go func() {
 		tokens.Reload(true)
@@ -160,15 +141,11 @@ func TestAFIFODoesntHang(t *testing.T) {
 	}()
 	select {
 	case err := <-ended:
-		if err == nil || !strings.Contains(err.Error(), "regular") {
-			t.Error(err)
-		}
+		harness.ErrorIf(t, err == nil || !strings.Contains(err.Error(), "regular"), "%v", err)
 	case <-time.After(5 * time.Minute):
 		t.Fatal("it hangs")
 	}
-	if may(tokens, one, "shop") != Write {
-		t.Error("the tokens are gone")
-	}
+	harness.ErrorIf(t, may(tokens, one, "shop") != Write, "the tokens are gone")
 	if _, err := Open("/dev/zero"); err == nil {
 		t.Error("a device was read")
 	}
@@ -180,9 +157,7 @@ func TestShortTokensAreRefused(t *testing.T) {
 	if _, ok := tokens.Find(short); ok {
 		t.Error("it is known")
 	}
-	if may(tokens, short+"x", "shop") != Write {
-		t.Error("it isn't too short")
-	}
+	harness.ErrorIf(t, may(tokens, short+"x", "shop") != Write, "it isn't too short")
 	if _, err := lineOf(short, "shop", "read", "", time.Time{}); err == nil {
 		t.Error("a line was made")
 	}
@@ -192,16 +167,11 @@ func TestShortTokensAreRefused(t *testing.T) {
 func TestAddedTokens(t *testing.T) {
 	path := file(t, "shop read "+hashOf(one)) // without a line feed at its end
 	tokens := open(t, path)
-	if err := tokens.Add(file(t, "shop write "+hashOf(two)+"\n")); err != nil {
-		t.Fatal(err)
-	}
+	harness.Must(t, tokens.Add(file(t, "shop write "+hashOf(two)+"\n")))
 	tokens.Reload(true)
-	if may(tokens, two, "shop") != Write || may(open(t, path), two, "shop") != 0 {
-		t.Error("before it is kept")
-	}
-	if err := tokens.Keep(); err != nil {
-		t.Fatal(err)
-	}
+	harness.ErrorIf(t, may(tokens, two, "shop") != Write || may(open(t, path), two, "shop") != 0,
+		"before it is kept")
+	harness.Must(t, tokens.Keep())
 	if may(tokens, two, "shop") != Write || may(open(t, path), two, "shop") != Write || may(open(t, path), one, "shop") != Read {
 		t.Error("after it was kept")
 	}
@@ -231,7 +201,5 @@ func TestRevoke(t *testing.T) {
 		t.Error(err)
 	}
 	content, err := os.ReadFile(path)
-	if err != nil || string(content) != "# first\n\nwrong\n" {
-		t.Errorf("%q %v", content, err)
-	}
+	harness.ErrorIf(t, err != nil || string(content) != "# first\n\nwrong\n", "%q %v", content, err)
 }

@@ -6,6 +6,8 @@ import (
 	"fmt"
 	"testing"
 	"time"
+
+	"luvdregan.example/resb/deploy/tests/harness"
 )
 
 func begin(t *testing.T, l *Limits, app, holder string, want error) *Ticket {
@@ -25,9 +27,7 @@ func TestAHolderOfManyApplications(t *testing.T) {
 	}
 	begin(t, l, "app50", "prefix", ErrTooMany)
 	other := begin(t, l, "bank", "other", nil)
-	if err := other.Hold(1 << 18); err != nil {
-		t.Error(err)
-	}
+	harness.Equal(t, other.Hold(1<<18), nil)
 	held := int64(0)
 	for i := 0; ; i++ {
 		one := &Ticket{of: l, accounts: [2]*account{l.account(key{false, fmt.Sprint("app", i)}), l.account(key{true, "prefix"})}}
@@ -36,9 +36,7 @@ func TestAHolderOfManyApplications(t *testing.T) {
 		}
 		held += 1 << 14
 	}
-	if held != (1<<20-1<<18)/2 {
-		t.Errorf("%d bytes are held", held)
-	}
+	harness.ErrorIf(t, held != (1<<20-1<<18)/2, "%d bytes are held", held)
 	other.End(0, time.Now())
 	if requests, bytes := l.Now(); requests != 50 || bytes != held {
 		t.Error(requests, bytes)
@@ -62,18 +60,14 @@ func TestRates(t *testing.T) {
 	later := now.Add(time.Minute)
 	begin(t, l, "bank", "me", nil).End(1<<30, later) // counts for nobody else
 	ticket := &Ticket{}
-	if err := l.Begin(ticket, "shop", "ci", later); err != nil {
-		t.Fatal(err)
-	}
+	harness.Must(t, l.Begin(ticket, "shop", "ci", later))
 	ticket.End(60, later)
 	err := l.Begin(&Ticket{}, "shop", "ci", later)
 	var rate *OverRate
-	if !errors.As(err, &rate) || rate.Wait != (secondsADay-70)*time.Second {
-		t.Error("over the bytes of the day: ", err)
-	}
-	if err := l.Begin(&Ticket{}, "shop", "ci", now.Add(secondsADay*time.Second)); err != nil {
-		t.Error("the next day: ", err)
-	}
+	harness.ErrorIf(t, !errors.As(err, &rate) || rate.Wait != (secondsADay-70)*time.Second,
+		"over the bytes of the day: %v", err)
+	harness.Equal(t, l.Begin(&Ticket{}, "shop", "ci", now.Add(secondsADay*time.Second)), nil,
+		"the next day")
 }
 
 // TestWork has one long work of an application and of a holder at a time.
@@ -81,9 +75,7 @@ func TestWork(t *testing.T) {
 	l := New(Options{Each: 9, All: 99, Bytes: 9, Works: 2})
 	one, same, other := begin(t, l, "a", "x", nil), begin(t, l, "b", "x", nil), begin(t, l, "c", "y", nil)
 	end, err := one.Work(context.Background())
-	if err != nil {
-		t.Fatal(err)
-	}
+	harness.Must(t, err)
 	soon, cancel := context.WithTimeout(context.Background(), time.Millisecond)
 	defer cancel()
 	if _, err := same.Work(soon); err != ErrGone {

@@ -8,19 +8,17 @@ import (
 	"syscall"
 	"testing"
 	"time"
+
+	"luvdregan.example/resb/deploy/tests/harness"
 )
 
 // TestAJournalThatNobodyReads drops lines, and never waits.
 func TestAJournalThatNobodyReads(t *testing.T) {
 	from, to, err := os.Pipe()
-	if err != nil {
-		t.Fatal(err)
-	}
+	harness.Must(t, err)
 	defer from.Close()
 	j, err := OpenJournal("-")
-	if err != nil {
-		t.Fatal(err)
-	}
+	harness.Must(t, err)
 	j.mu.Lock()
 	j.to = to
 	j.mu.Unlock()
@@ -38,22 +36,14 @@ func TestAJournalThatNobodyReads(t *testing.T) {
 // TestJournalFiles refuses a FIFO, and writes to a new file after the earlier one was renamed.
 func TestJournalFiles(t *testing.T) {
 	path := filepath.Join(t.TempDir(), "log")
-	if err := syscall.Mkfifo(path+".fifo", 0o600); err != nil {
-		t.Fatal(err)
-	}
+	harness.Must(t, syscall.Mkfifo(path+".fifo", 0o600))
 	if _, err := OpenJournal(path + ".fifo"); err == nil {
 		t.Error("a FIFO is taken")
 	}
 	j, err := OpenJournal(path)
-	if err != nil {
-		t.Fatal(err)
-	}
-	if err := os.Rename(path, path+".1"); err != nil {
-		t.Fatal(err)
-	}
-	if err := j.Again(); err != nil {
-		t.Fatal(err)
-	}
+	harness.Must(t, err)
+	harness.Must(t, os.Rename(path, path+".1"))
+	harness.Must(t, j.Again())
 	j.Write("new")
 	j.Flush()
 	if content, err := os.ReadFile(path); string(content) != "\"new\"\n" {
@@ -78,9 +68,7 @@ func TestTwoLengths(t *testing.T) {
 				break
 			}
 		}
-		if got := c.next.content && c.next.encoding; got != want {
-			t.Errorf("%q: %v", text, got)
-		}
+		harness.Equal(t, c.next.content && c.next.encoding, want, text)
 	}
 }
 

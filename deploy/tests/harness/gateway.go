@@ -98,9 +98,7 @@ func New(t testing.TB, s Setup) *Gateway {
 	g := &Gateway{Address: fmt.Sprint(s.Host, ":", ports[0]), Inside: fmt.Sprint("http://", s.Host, ":", ports[1]),
 		State: filepath.Join(s.Folder, "state"), Tokens: filepath.Join(s.Folder, "tokens")}
 	g.URL = "http://" + g.Address
-	if err := os.WriteFile(g.Tokens, []byte(Tokens), 0o600); err != nil {
-		t.Fatal(err)
-	}
+	Must(t, os.WriteFile(g.Tokens, []byte(Tokens), 0o600))
 	// no folder but the state's can be written, as in a container with a read-only root
 	g.Process = &Process{T: t, Name: "gateway at " + g.Address, Health: g.URL + "/readyz", Env: []string{"TMPDIR=/proc/none"}}
 	if s.Network != "" {

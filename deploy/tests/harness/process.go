@@ -10,6 +10,7 @@ import (
 	"net/http"
 	"os"
 	"os/exec"
+	"reflect"
 	"runtime"
 	"sort"
 	"strconv"
@@ -265,6 +266,28 @@ func Eventually(t testing.TB, what string, is func() bool) {
 			t.Fatalf("after %v this isn't so: %s", Generous, what)
 		}
 	}
+}
+
+// Must ends the test if there is an error.
+func Must(t testing.TB, err error) {
+	t.Helper()
+	if err != nil {
+		t.Fatal(err)
+	}
+}
+
+// ErrorIf fails the test with a message if something is so.
+func ErrorIf(t testing.TB, is bool, format string, about ...any) {
+	t.Helper()
+	if is {
+		t.Errorf(format, about...)
+	}
+}
+
+// Equal fails the test if a value isn't as it should be.
+func Equal(t testing.TB, got, want any, about ...any) {
+	t.Helper()
+	ErrorIf(t, !reflect.DeepEqual(got, want), "%.300v, and not %.300v %.300v", got, want, about)
 }
 
 // Times are how long things took.

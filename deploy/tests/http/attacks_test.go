@@ -117,9 +117,7 @@ func TestOthers(t *testing.T) {
 			if t.Logf("%s: %s", uses, c.name); p99 > most && os.Getenv("JUDGE_TIMES") != "" {
 				t.Errorf("p99 %v, more than %v", p99, most)
 			}
-			if u.Memory > 2<<30 || u.Threads > 300 || disk > 1<<10 {
-				t.Error(uses)
-			}
+			errorIf(t, u.Memory > 2<<30 || u.Threads > 300 || disk > 1<<10, "%v", uses)
 			its.rest() // a change is made although its caller has gone
 			eventually(t, "connections and files are closed", func() bool { return s.Usage().Files < 400 })
 		})
@@ -200,9 +198,7 @@ func (s *site) attack(attacks ...attack) (end func()) {
 		return func() {}
 	}
 	var content bytes.Buffer
-	if err := gob.NewEncoder(&content).Encode(campaign{s.Address, attacks}); err != nil {
-		s.t.Fatal(err)
-	}
+	must(s.t, gob.NewEncoder(&content).Encode(campaign{s.Address, attacks}))
 	p := &harness.Process{T: s.t, Name: "attackers", Args: os.Args[:1],
 		Env: []string{attackFile + "=" + fileOf(s.t, content.String())}}
 	s.t.Cleanup(p.Kill)

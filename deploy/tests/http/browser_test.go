@@ -33,17 +33,11 @@ func openBrowser(t *testing.T) *browser {
 	command := exec.Command(path, "--headless", "--no-sandbox", "--disable-gpu", "--disable-dev-shm-usage", "--no-first-run",
 		"--user-data-dir="+t.TempDir(), "--remote-debugging-pipe", "--window-size=1100,1300", "about:blank")
 	theirs, to, err := os.Pipe()
-	if err != nil {
-		t.Fatal(err)
-	}
+	must(t, err)
 	from, ours, err := os.Pipe()
-	if err != nil {
-		t.Fatal(err)
-	}
+	must(t, err)
 	command.ExtraFiles = []*os.File{theirs, ours}
-	if err := command.Start(); err != nil {
-		t.Fatal(err)
-	}
+	must(t, command.Start())
 	_, _ = theirs.Close(), ours.Close()
 	late := time.AfterFunc(5*generous, func() { _ = command.Process.Kill() })
 	b := &browser{t: t, to: to, from: bufio.NewReader(from), names: map[string]string{}}
@@ -100,9 +94,7 @@ func (b *browser) call(method string, parameters any) json.RawMessage {
 			b.complaints = append(b.complaints, string(text))
 		}
 		if got.ID == b.id {
-			if got.Error != nil {
-				b.t.Errorf("%s: %s", method, got.Error)
-			}
+			errorIf(b.t, got.Error != nil, "%s: %s", method, got.Error)
 			return got.Result
 		}
 	}
@@ -126,18 +118,14 @@ func (b *browser) run(script string) string {
 		ExceptionDetails json.RawMessage
 	}
 	b.ask("Runtime.evaluate", map[string]any{"expression": script, "awaitPromise": true, "returnByValue": true}, &got)
-	if got.ExceptionDetails != nil {
-		b.t.Errorf("%s: %s", script, got.ExceptionDetails)
-	}
+	errorIf(b.t, got.ExceptionDetails != nil, "%s: %s", script, got.ExceptionDetails)
 	return fmt.Sprint(got.Result.Value)
 }
 
 // is fails unless an expression has a value.
 func (b *browser) is(script, want string) {
 	b.t.Helper()
-	if got := b.run(script); got != want {
-		b.t.Errorf("%s: %.500q, and not %q", script, got, want)
-	}
+	equal(b.t, b.run(script), want, script)
 }
 
 // until waits until the value of an expression has a part.
@@ -289,9 +277,7 @@ func (b *browser) picture(name string) {
 	if err == nil {
 		err = os.WriteFile(folder+"/"+name+".png", image, 0o600)
 	}
-	if err != nil {
-		b.t.Error(err)
-	}
+	errorIf(b.t, err != nil, "%v", err)
 }
 
 // fine fails if a script failed or the policy was broken.

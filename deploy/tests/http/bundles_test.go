@@ -35,9 +35,8 @@ func TestTagsOfBundles(t *testing.T) {
 			}
 			seen[got.Tag()] = path + " of " + value
 			s.run(step{"r GET " + path, "If-None-Match: " + got.Tag(), "", 304, "", ""}, step{"w PUT /v1/shop/de.txt", "If-Match: " + got.Tag(), text, 200, "", ""})
-			if path == "/v1/shop/de.txt" && (got.Tag() != put.Tag() || got.Body != text) {
-				t.Errorf("%q, and %q when it was put; %s", got.Tag(), put.Tag(), got.Body)
-			}
+			errorIf(t, path == "/v1/shop/de.txt" && (got.Tag() != put.Tag() || got.Body != text),
+				"%q, and %q when it was put; %s", got.Tag(), put.Tag(), got.Body)
 		}
 	}
 }
@@ -101,13 +100,9 @@ func TestCompression(t *testing.T) {
 	s.put("de", text)
 	unpacked := func(a harness.Answer) string {
 		from, err := gzip.NewReader(strings.NewReader(a.Body))
-		if err != nil {
-			t.Fatal(err)
-		}
+		must(t, err)
 		content, err := io.ReadAll(from)
-		if err != nil {
-			t.Fatal(err)
-		}
+		must(t, err)
 		return string(content)
 	}
 	for _, path := range []string{"/v1/shop/de.txt", "/v1/shop/de/a", "/openapi.json"} {
@@ -115,9 +110,8 @@ func TestCompression(t *testing.T) {
 		if packed.Header.Get("Content-Encoding") != "gzip" || unpacked(packed) != plain.Body || len(packed.Body) > len(plain.Body)/2 || plain.Header.Get("Content-Encoding") != "" {
 			t.Errorf("%s: %v, %v", path, packed.Header, plain.Header)
 		}
-		if packed.Tag() == plain.Tag() || !headed("Vary~Accept-Encoding", plain.Header) {
-			t.Errorf("%s: one tag for both, or no Vary: %v", path, plain.Header)
-		}
+		errorIf(t, packed.Tag() == plain.Tag() || !headed("Vary~Accept-Encoding", plain.Header),
+			"%s: one tag for both, or no Vary: %v", path, plain.Header)
 		for _, tag := range []string{packed.Tag(), plain.Tag()} {
 			s.run(step{"r GET " + path, "Accept-Encoding: gzip | If-None-Match: " + tag, "", 304, "", "ETag: " + tag})
 		}

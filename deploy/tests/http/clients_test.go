@@ -78,9 +78,7 @@ func TestTheClientsPatch(t *testing.T) {
 // JSON: they say so at once.
 func TestTheClientsGiveUp(t *testing.T) {
 	folder := t.TempDir()
-	if err := os.WriteFile(folder+"/de.txt", []byte("de{}"), 0o600); err != nil {
-		t.Fatal(err)
-	}
+	must(t, os.WriteFile(folder+"/de.txt", []byte("de{}"), 0o600))
 	for status, body := range map[int]string{429: "{\"error\":\"OverRate\"}\n", 502: "<html></html>"} {
 		to := httptest.NewServer(http.HandlerFunc(func(w http.ResponseWriter, r *http.Request) {
 			w.Header().Set("Retry-After", "40000")
@@ -92,9 +90,8 @@ func TestTheClientsGiveUp(t *testing.T) {
 			{"python3", "resb-put", folder, to.URL + "/v1/shop"}} {
 			t.Run(arguments[1], func(t *testing.T) {
 				text, err := client(t, arguments[0], append([]string{clients + arguments[1]}, arguments[2:]...)...)
-				if err == nil || !strings.Contains(text, strconv.Itoa(status)) {
-					t.Errorf("%v\n%s", err, text)
-				}
+				errorIf(t, err == nil || !strings.Contains(text, strconv.Itoa(status)),
+					"%v\n%s", err, text)
 			})
 		}
 	}

@@ -25,9 +25,7 @@ func TestReadyOnceAllIsRead(t *testing.T) {
 	}
 	first := start()
 	time.Sleep(12 * time.Second)
-	if first.Healthy() {
-		t.Error("ready without its store")
-	}
+	errorIf(t, first.Healthy(), "ready without its store")
 	harness.StartAll(c.Members)
 	first.Await(generous)
 	for i := 0; i < 80; i++ {
@@ -60,9 +58,7 @@ func TestQuotas(t *testing.T) {
 		}
 	}
 	zip := zipOf(t, namedText{"ma.txt", comment(20)}, namedText{"mb.txt", comment(21)})
-	if len(zip) > 5000 {
-		t.Errorf("a zip of %d bytes", len(zip))
-	}
+	errorIf(t, len(zip) > 5000, "a zip of %d bytes", len(zip))
 	s.run([]step{{"w POST /v1/shop/_releases", "Content-Type: " + asZip, zip, 507, "!OverQuota", ""},
 		{"w DELETE /v1/shop/la", "", "", 200, "", ""}, {"w PUT /v1/shop/na.txt", "", comment(30), 201, "", ""},
 		{"w PUT /v1/shop/de.txt", "", `de{a{"` + harness.Noise(19000) + `"}}`, 507, "!OverQuota", ""}, // 2 bytes each once it is compiled
@@ -111,9 +107,7 @@ func TestLimitsOfAToken(t *testing.T) {
 		last = s.ask("PUT", fmt.Sprintf("/v1/app.%d/de.txt", i), appsWrite, `de{a{"`+harness.Noise(30000)+`"}}`).Status
 	}
 	s.run(step{"b PUT /v1/bank/de.txt", "", `de{a{"` + harness.Noise(30000) + `"}}`, 201, "", ""})
-	if last != 507 {
-		t.Error("one token has the memory of all")
-	}
+	errorIf(t, last != 507, "one token has the memory of all")
 }
 
 // TestLongWork has two applications ask for differences of long versions all the time: another one's
@@ -147,9 +141,7 @@ func TestALogThatNobodyReads(t *testing.T) {
 	t.Parallel()
 	s := prepare(t, "-access-log", "-", "-audit-log", "-")
 	read, write, err := os.Pipe()
-	if err != nil {
-		t.Fatal(err)
-	}
+	must(t, err)
 	defer read.Close()
 	s.Output = write
 	s.Start()
@@ -161,9 +153,7 @@ func TestALogThatNobodyReads(t *testing.T) {
 	}
 	s.put("de", `de{a{"B"}}`)
 	s.is("de/a", "B")
-	if s.measured()["resb_log_lines_dropped_total"] == 0 {
-		t.Error("no line was lost")
-	}
+	errorIf(t, s.measured()["resb_log_lines_dropped_total"] == 0, "no line was lost")
 }
 
 // TestSmallFindings has what fits in a request: If-Match of a GET, `erase=false`, tokens that all may
@@ -174,9 +164,7 @@ func TestSmallFindings(t *testing.T) {
 	s.run([]step{{"r GET /v1/shop/de.txt", `If-Match: "x"`, "", 412, "!PreconditionFailed", ""}, {"r GET /v1/shop/de.txt", "If-Match: " + tag, "", 200, "", ""},
 		{"r GET /v1/shop/de/a", `If-Match: "x"`, "", 412, "", ""}, {"w DELETE /v1/shop?erase=false", "", "", 400, "!BadQuery", ""}, {"r GET /v1/shop/de/a", "", "", 200, `"A"`, ""}}...)
 	readable := prepare(t)
-	if err := os.Chmod(readable.Tokens, 0o666); err != nil {
-		t.Fatal(err)
-	}
+	must(t, os.Chmod(readable.Tokens, 0o666))
 	command(t, 1, "", readable.Args[1:]...)
 	command(t, 1, "", harness.New(t, harness.Setup{Folder: filepath.Dir(s.State)}).Args[1:]...)
 	s.is("de/a", "A")
@@ -269,9 +257,7 @@ func TestAFullDisk(t *testing.T) {
 func TestAReadOnlyDisk(t *testing.T) {
 	image, folder := filepath.Join(t.TempDir(), "image"), t.TempDir()
 	run := func(name string, arguments ...string) bool { return exec.Command(name, arguments...).Run() == nil }
-	if err := os.WriteFile(image, make([]byte, 48<<20), 0o600); err != nil {
-		t.Fatal(err)
-	}
+	must(t, os.WriteFile(image, make([]byte, 48<<20), 0o600))
 	if os.Getuid() != 0 || !run("mkfs.ext4", "-q", image) || !run("mount", "-o", "loop", image, folder) {
 		t.Skip("skipped: no ext4 disk can be made and mounted")
 	}
@@ -290,9 +276,7 @@ func TestAReadOnlyDisk(t *testing.T) {
 			{"b GET /v1/bank/de/a", "", "", 200, `"B"`, ""}, {"b GET /v1/bank", "", "", 200, "", ""}, {"- GET /readyz", "", "", 200, "", ""}}...)
 	}
 	s.writez(503)
-	if s.measured()["resb_writes"] != 0 {
-		t.Error("the metrics don't say that nothing is stored")
-	}
+	errorIf(t, s.measured()["resb_writes"] != 0, "the metrics don't say that nothing is stored")
 	s.Kill()
 	eventually(t, "the disk is free", func() bool { return run("umount", folder) })
 	_ = exec.Command("e2fsck", "-fy", image).Run()

@@ -49,9 +49,8 @@ func TestTheHistory(t *testing.T) {
 		t.Fatalf("%+v", all)
 	}
 	for i, later := 0, time.Now(); i < len(all); i++ {
-		if all[i].Revision != 4-i || all[i].At.After(later) || all[i].At.Before(began) {
-			t.Errorf("%+v after %v", all[i], later)
-		}
+		errorIf(t, all[i].Revision != 4-i || all[i].At.After(later) || all[i].At.Before(began),
+			"%+v after %v", all[i], later)
 		later = all[i].At
 	}
 	if some := s.past("?locale=DE&last=1&before=" + fmt.Sprint(all[0].ID)); len(some) != 1 || some[0].ID != all[2].ID {
@@ -181,18 +180,14 @@ func TestPatchesAtOnce(t *testing.T) {
 		want += fmt.Sprintf(`,"w%c":"%d"`, 'a'+w, rounds)
 	}
 	s.has("/de.json", want+"}\n")
-	if n := len(s.past("")); n != 1+writers*rounds {
-		t.Errorf("%d versions", n)
-	}
+	equal(t, len(s.past("")), 1+writers*rounds, "versions")
 }
 
 // journal reads the lines of a log that are about an application. None may have a token.
 func journal(t *testing.T, path string) (all []map[string]any) {
 	t.Helper()
 	content, err := os.ReadFile(path)
-	if err != nil {
-		t.Fatal(err)
-	}
+	must(t, err)
 	for _, line := range strings.SplitAfter(string(content), "\n") {
 		var value map[string]any
 		if err := json.Unmarshal([]byte(line), &value); err != nil && strings.HasSuffix(line, "\n") {
@@ -203,9 +198,7 @@ func journal(t *testing.T, path string) (all []map[string]any) {
 		}
 	}
 	for _, token := range []string{shopWrites, shopReads, "nobody"} {
-		if bytes.Contains(content, []byte(token)) {
-			t.Errorf("%s has a token", path)
-		}
+		errorIf(t, bytes.Contains(content, []byte(token)), "%s has a token", path)
 	}
 	return all
 }
@@ -229,23 +222,15 @@ func TestLogs(t *testing.T) {
 	if first["path"] != "/v1/shop/de.txt" || first["status"] != 201.0 || first["app"] != "shop" || len(fmt.Sprint(first["token"])) != 8 || first["method"] != "PUT" {
 		t.Errorf("%v", first)
 	}
-	if requests[16]["token"] != nil || requests[16]["status"] != 401.0 {
-		t.Errorf("%v", requests[16])
-	}
+	errorIf(t, requests[16]["token"] != nil || requests[16]["status"] != 401.0, "%v", requests[16])
 	var results []string // before a change is judged it isn't known whether it installs or replaces
 	for _, one := range changes {
 		results = append(results, fmt.Sprint(one["app"], " ", one["result"]))
 	}
 	want := "ok BadText Absent PreconditionFailed PreconditionFailed Forbidden Forbidden ok BadPatch Absent BadType BadText OtherName BadRelease Forbidden"
-	if got := strings.ReplaceAll(strings.Join(results, " "), "shop ", ""); got != want {
-		t.Errorf("%s, and not %s", got, want)
-	}
-	if changes[0]["sha256"] == nil || changes[0]["bytes"] != 10.0 {
-		t.Errorf("%v", changes[0])
-	}
-	if err := os.Rename(access, access+".1"); err != nil {
-		t.Fatal(err)
-	}
+	equal(t, strings.ReplaceAll(strings.Join(results, " "), "shop ", ""), want)
+	errorIf(t, changes[0]["sha256"] == nil || changes[0]["bytes"] != 10.0, "%v", changes[0])
+	must(t, os.Rename(access, access+".1"))
 	s.Signal(syscall.SIGHUP)
 	eventually(t, "the log is opened again", func() bool {
 		_, err := os.Stat(access)

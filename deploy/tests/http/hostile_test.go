@@ -109,14 +109,10 @@ func TestBodiesAtOnce(t *testing.T) {
 	held := func(least float64) { s.awaitMetric("resb_body_bytes_now", func(n float64) bool { return n >= least }) }
 	first := s.half(shop, 90000, 16000)
 	held(16000)
-	if got := begun(s.half(shop, 90000, 16000)); got != "429" {
-		t.Errorf("past an application's: %q", got)
-	}
+	equal(t, begun(s.half(shop, 90000, 16000)), "429", "past an application's")
 	third := s.half(bank, 90000, 8000)
 	held(24000)
-	if got := begun(s.half(bank, 90000, 16000)); got != "429" {
-		t.Errorf("past what others leave: %q", got)
-	}
+	equal(t, begun(s.half(bank, 90000, 16000)), "429", "past what others leave")
 	_, _ = first.Close(), third.Close()
 	s.rest()
 	s.is("de/a", "A")
@@ -153,9 +149,8 @@ func TestSlowSenders(t *testing.T) {
 			_, _ = c.Write([]byte{b})
 		}
 		text, err := io.ReadAll(c)
-		if err != nil || statusOfText(string(text)) != want {
-			t.Errorf("%q: %v, %.100q", bytes, err, text)
-		}
+		errorIf(t, err != nil || statusOfText(string(text)) != want,
+			"%q: %v, %.100q", bytes, err, text)
 		if next := strings.HasSuffix(bytes, "GET "); next && !strings.Contains(string(text), "HTTP/1.1 40") || !next && strings.Count(string(text), "HTTP/1.1 ") > 1 {
 			t.Errorf("%q: %q", bytes, text)
 		}
@@ -187,9 +182,7 @@ func TestARefusalDoesntWaitForTheBody(t *testing.T) {
 	} {
 		c := s.dial()
 		fmt.Fprint(c, bytes)
-		if got := begun(c); got != want {
-			t.Errorf("%q: %q", bytes, got)
-		}
+		equal(t, begun(c), want, bytes)
 		_ = c.Close()
 	}
 	s.is("de/a", "A")

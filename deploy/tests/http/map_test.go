@@ -32,18 +32,15 @@ func TestTheMapOfPackages(t *testing.T) {
 		}
 		delete(mapped, name)
 	}
-	if len(found) < 10 || len(mapped) > 0 {
-		t.Errorf("%d packages are found, and the page has %v too", len(found), mapped)
-	}
+	errorIf(t, len(found) < 10 || len(mapped) > 0,
+		"%d packages are found, and the page has %v too", len(found), mapped)
 }
 
 // packagesOnThePage returns the packages of the table, each with those that it uses.
 func packagesOnThePage(t *testing.T) map[string]string {
 	t.Helper()
 	page, err := os.ReadFile("../../../docs/ARCHITECTURE.md")
-	if err != nil {
-		t.Fatal(err)
-	}
+	must(t, err)
 	_, table, _ := strings.Cut(string(page), "| Package | What it does | Uses |\n|---|---|---|\n")
 	table, _, _ = strings.Cut(table, "\n\n")
 	name := regexp.MustCompile("`([a-z/]+)`")
@@ -68,9 +65,7 @@ func packagesOnThePage(t *testing.T) map[string]string {
 func importsOf(t *testing.T, file string) (names []string) {
 	t.Helper()
 	parsed, err := parser.ParseFile(gotoken.NewFileSet(), file, nil, parser.ImportsOnly)
-	if err != nil {
-		t.Fatal(err)
-	}
+	must(t, err)
 	for _, one := range parsed.Imports {
 		if from, _ := strconv.Unquote(one.Path.Value); strings.HasPrefix(from, "luvdregan.example/resb/deploy/") {
 			names = append(names, path.Base(from))

@@ -33,9 +33,8 @@ func TestTheDescriptionHasTheRoutes(t *testing.T) {
 		may := strings.Split(got.Header.Get("Allow"), ", ")
 		sort.Strings(may)
 		sort.Strings(want)
-		if got.Status != 204 || strings.Join(may, " ") != strings.Join(want, " ") {
-			t.Errorf("%s: %d, %v are answered and %v described", path, got.Status, may, want)
-		}
+		errorIf(t, got.Status != 204 || strings.Join(may, " ") != strings.Join(want, " "),
+			"%s: %d, %v are answered and %v described", path, got.Status, may, want)
 	}
 }
 
@@ -43,29 +42,21 @@ func TestTheDescriptionHasTheRoutes(t *testing.T) {
 func TestTheDescriptionHasTheErrors(t *testing.T) {
 	open(t).describe()
 	explained, err := os.ReadFile("../../../crates/rb_explain/src/words.rt")
-	if err != nil {
-		t.Fatal(err)
-	}
+	must(t, err)
 	named := map[string]bool{}
 	for _, one := range regexp.MustCompile("`([A-Z]\\w+)`").FindAllStringSubmatch(described.text, -1) {
 		named[one[1]] = true
 	}
 	for word := range named {
-		if !bytes.Contains(explained, []byte("\n"+word+"\\t")) {
-			t.Errorf("%s isn't explained", word)
-		}
+		errorIf(t, !bytes.Contains(explained, []byte("\n"+word+"\\t")), "%s isn't explained", word)
 	}
-	if len(named) < 35 {
-		t.Errorf("only %d error codes are named", len(named))
-	}
+	errorIf(t, len(named) < 35, "only %d error codes are named", len(named))
 }
 
 // TestTheTestsOfInvariants looks for each test that docs/ARCHITECTURE.md names.
 func TestTheTestsOfInvariants(t *testing.T) {
 	page, err := os.ReadFile("../../../docs/ARCHITECTURE.md")
-	if err != nil {
-		t.Fatal(err)
-	}
+	must(t, err)
 	var sources strings.Builder
 	for _, pattern := range []string{"*_test.go", "../*/*_test.go", "../../internal/*/*_test.go", "../../internal/*/*/*_test.go"} {
 		files, _ := filepath.Glob(pattern)
@@ -76,13 +67,10 @@ func TestTheTestsOfInvariants(t *testing.T) {
 	}
 	named := regexp.MustCompile("`(Test[A-Z]\\w+)`").FindAllSubmatch(page, -1)
 	for _, one := range named {
-		if !strings.Contains(sources.String(), "\nfunc "+string(one[1])+"(t *testing.T)") {
-			t.Errorf("there is no test %s", one[1])
-		}
+		errorIf(t, !strings.Contains(sources.String(), "\nfunc "+string(one[1])+"(t *testing.T)"),
+			"there is no test %s", one[1])
 	}
-	if len(named) < 5 {
-		t.Errorf("only %d tests are named", len(named))
-	}
+	errorIf(t, len(named) < 5, "only %d tests are named", len(named))
 }
 
 // TestTheDescriptionMakesAClient has Debian's libopenapi-client-perl judge the description and make a client of it.
@@ -98,7 +86,5 @@ func TestTheDescriptionMakesAClient(t *testing.T) {
 	}
 	text, err := exec.Command("perl", "testdata/client.pl", s.URL+"/openapi.json", s.URL, shopWrites).CombinedOutput()
 	const want = "list look put remove history release restore erase getTxt\nA\n1\n400\nde{a{\"A\"}}\n"
-	if err != nil || string(text) != want {
-		t.Errorf("%v\n%s", err, text)
-	}
+	errorIf(t, err != nil || string(text) != want, "%v\n%s", err, text)
 }

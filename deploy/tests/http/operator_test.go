@@ -30,9 +30,8 @@ import (
 func command(t *testing.T, status int, want string, arguments ...string) string {
 	t.Helper()
 	got, text := harness.Run(t, arguments...)
-	if got != status || !strings.Contains(text, want) {
-		t.Errorf("%q: status %d: %s, and not %d %s", arguments, got, text, status, want)
-	}
+	errorIf(t, got != status || !strings.Contains(text, want),
+		"%q: status %d: %s, and not %d %s", arguments, got, text, status, want)
 	return text
 }
 
@@ -40,9 +39,7 @@ func command(t *testing.T, status int, want string, arguments ...string) string 
 func fileOf(t *testing.T, text string) string {
 	t.Helper()
 	path := filepath.Join(t.TempDir(), "file")
-	if err := os.WriteFile(path, []byte(text), 0o600); err != nil {
-		t.Fatal(err)
-	}
+	must(t, os.WriteFile(path, []byte(text), 0o600))
 	return path
 }
 
@@ -99,14 +96,10 @@ func TestTheExampleHasEveryOption(t *testing.T) {
 		if name, _, _ = strings.Cut(name, " "); !strings.HasPrefix(line, "  -") || strings.Contains(" config check-config version help ", " "+name+" ") {
 			continue
 		}
-		if all[name] == nil {
-			t.Errorf("the example lacks %s", name)
-		}
+		errorIf(t, all[name] == nil, "the example lacks %s", name)
 		delete(all, name)
 	}
-	if len(all) > 0 {
-		t.Errorf("more than the options: %v", all)
-	}
+	errorIf(t, len(all) > 0, "more than the options: %v", all)
 }
 
 // TestTokenCommands make, list and revoke tokens under a running gateway.
@@ -121,13 +114,11 @@ func TestTokenCommands(t *testing.T) {
 	command(t, 0, "1 removed", "token", "revoke", "-tokens", s.Tokens, "ci")
 	eventually(t, "the token is revoked", func() bool { return status(made) == 401 })
 	const fresh = "fresh-0123456789-0123456789"
-	if err := os.WriteFile(s.Tokens, []byte(harness.TokenLine("shop", "read", fresh)+"shop read abc\n"), 0o600); err != nil {
-		t.Fatal(err)
-	}
+	lines := harness.TokenLine("shop", "read", fresh) + "shop read abc\n"
+	must(t, os.WriteFile(s.Tokens, []byte(lines), 0o600))
 	eventually(t, "the line without a fault is read", func() bool { return status(fresh) == 200 })
-	if status(shopReads) != 401 || s.measured()["resb_tokens_file_bad"] != 1 {
-		t.Error("after a wrong line")
-	}
+	errorIf(t, status(shopReads) != 401 || s.measured()["resb_tokens_file_bad"] != 1,
+		"after a wrong line")
 	for _, wrong := range []string{"revoke|ci", "add|shop|sing", "add|sh/op|read", "add|-expires|2001-01-01|shop|read", "add|-name|a b|shop|read", "add|shop read|read", "add|#shop|read"} {
 		words := strings.Split(wrong, "|")
 		command(t, 1, "", append([]string{"token", words[0], "-tokens", s.Tokens}, words[1:]...)...)
@@ -141,9 +132,7 @@ func TestTokenCommands(t *testing.T) {
 func TestAGatewayThatFailsLeavesNoToken(t *testing.T) {
 	t.Parallel()
 	taken, err := net.Listen("tcp", "127.0.0.1:0")
-	if err != nil {
-		t.Fatal(err)
-	}
+	must(t, err)
 	defer taken.Close()
 	const added = "a-token-that-is-added-later"
 	more := fileOf(t, harness.TokenLine("post", "write", added))
@@ -152,9 +141,7 @@ func TestAGatewayThatFailsLeavesNoToken(t *testing.T) {
 	if content, _ := os.ReadFile(s.Tokens); string(content) != harness.Tokens {
 		t.Errorf("%s", content)
 	}
-	if err := os.WriteFile(more, []byte(harness.TokenLine("post", "write", added)), 0o600); err != nil {
-		t.Fatal(err)
-	}
+	must(t, os.WriteFile(more, []byte(harness.TokenLine("post", "write", added)), 0o600))
 	s.Restart()
 	eventually(t, "the token is stored", func() bool {
 		content, _ := os.ReadFile(s.Tokens)
@@ -170,22 +157,14 @@ func TestAGatewayThatFailsLeavesNoToken(t *testing.T) {
 func writePair(t *testing.T, folder string, serial int64, at time.Time) {
 	t.Helper()
 	key, err := ecdsa.GenerateKey(elliptic.P256(), rand.Reader)
-	if err != nil {
-		t.Fatal(err)
-	}
+	must(t, err)
 	about := x509.Certificate{SerialNumber: big.NewInt(serial), Subject: pkix.Name{CommonName: "gateway"}, NotAfter: time.Now().Add(time.Hour), DNSNames: []string{"localhost"}}
 	cert, err := x509.CreateCertificate(rand.Reader, &about, &about, &key.PublicKey, key)
-	if err != nil {
-		t.Fatal(err)
-	}
+	must(t, err)
 	secret, err := x509.MarshalECPrivateKey(key)
-	if err != nil {
-		t.Fatal(err)
-	}
+	must(t, err)
 	for name, block := range map[string]*pem.Block{"key": {Type: "EC PRIVATE KEY", Bytes: secret}, "cert": {Type: "CERTIFICATE", Bytes: cert}} {
-		if err := os.WriteFile(filepath.Join(folder, name), pem.EncodeToMemory(block), 0o600); err != nil {
-			t.Fatal(err)
-		}
+		must(t, os.WriteFile(filepath.Join(folder, name), pem.EncodeToMemory(block), 0o600))
 		_ = os.Chtimes(filepath.Join(folder, name), at, at)
 	}
 }
@@ -245,9 +224,7 @@ func TestTLS(t *testing.T) {
 	if _, err := tls.Dial("tcp", s.Address, old); err == nil {
 		t.Error("a key exchange without forward secrecy is taken")
 	}
-	if err := os.WriteFile(filepath.Join(folder, "cert"), []byte("half"), 0o600); err != nil {
-		t.Fatal(err)
-	}
+	must(t, os.WriteFile(filepath.Join(folder, "cert"), []byte("half"), 0o600))
 	time.Sleep(1500 * time.Millisecond)
 	if got, err := get(); err != nil || got.StatusCode != 200 {
 		t.Errorf("with a wrong certificate in the file: %v", err)
@@ -294,9 +271,7 @@ func TestTheServiceManagerIsNotified(t *testing.T) {
 	t.Parallel()
 	for _, name := range []string{filepath.Join(t.TempDir(), "n"), fmt.Sprintf("@gateway-test-%d", os.Getpid())} {
 		socket, err := net.ListenUnixgram("unixgram", &net.UnixAddr{Name: strings.Replace(name, "@", "\x00", 1), Net: "unixgram"})
-		if err != nil {
-			t.Fatal(err)
-		}
+		must(t, err)
 		defer socket.Close()
 		_ = socket.SetReadDeadline(time.Now().Add(generous))
 		s := prepare(t, "-log", "json")
@@ -338,9 +313,7 @@ func TestEnds(t *testing.T) {
 	if got, _ := io.ReadAll(c); statusOfText(string(got)) != "201" {
 		t.Errorf("%q", got)
 	}
-	if status := s.Wait(); status != 0 {
-		t.Error(status)
-	}
+	equal(t, s.Wait(), 0)
 	s.Restart()
 	s.is("de/a", "A")
 	s = open(t, "-drain", "1m")
@@ -376,9 +349,7 @@ func TestBackups(t *testing.T) {
 		t.Errorf("%v", got.Header)
 	}
 	s.is("de/a", "later")
-	if err := os.WriteFile(file, []byte("no copy"), 0o600); err != nil {
-		t.Fatal(err)
-	}
+	must(t, os.WriteFile(file, []byte("no copy"), 0o600))
 	command(t, 1, "", "restore", "-state", filepath.Join(folder, "third"), "--", file)
 	command(t, 2, "usage:", "restore", "-state", folder)
 }

@@ -58,9 +58,7 @@ func TestTheClientInGo(t *testing.T) {
 	if err := c.Remove(ctx, "fr", `"other"`); !overhttp.Is(err, "PreconditionFailed") {
 		t.Error(err)
 	}
-	if err := c.Remove(ctx, "fr", ""); err != nil {
-		t.Error(err)
-	}
+	equal(t, c.Remove(ctx, "fr", ""), nil)
 	s.Restart()
 	if names, err := c.Names(ctx); err != nil || len(names) != 0 {
 		t.Error(names, err)

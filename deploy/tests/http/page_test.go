@@ -24,9 +24,7 @@ func TestThePageByItsRequests(t *testing.T) {
 	s := open(t)
 	s.put("de", `de{a{"<b>Grüße</b>"} m{"M"}}`)
 	s.put("de_AT", `de_AT{m{"Z"}}`)
-	if strings.Contains(page.Policy, "unsafe") {
-		t.Error(page.Policy)
-	}
+	errorIf(t, strings.Contains(page.Policy, "unsafe"), "%v", page.Policy)
 	s.script("ThePageByItsRequests", "policy", page.Policy, "url", s.URL)
 }
 

@@ -27,9 +27,7 @@ func tarOf(t *testing.T, files ...namedText) string {
 	to := tar.NewWriter(&out)
 	_ = to.WriteHeader(&tar.Header{Name: "texts/", Typeflag: tar.TypeDir, Mode: 0o755})
 	for _, f := range files {
-		if err := to.WriteHeader(&tar.Header{Name: f.name, Size: int64(len(f.text)), Mode: 0o644, Typeflag: tar.TypeReg}); err != nil {
-			t.Fatal(err)
-		}
+		must(t, to.WriteHeader(&tar.Header{Name: f.name, Size: int64(len(f.text)), Mode: 0o644}))
 		_, _ = io.WriteString(to, f.text)
 	}
 	_ = to.Close()
@@ -43,9 +41,7 @@ func zipOf(t *testing.T, files ...namedText) string {
 	_, _ = to.Create("texts/")
 	for _, f := range files {
 		w, err := to.Create(f.name)
-		if err != nil {
-			t.Fatal(err)
-		}
+		must(t, err)
 		_, _ = io.WriteString(w, f.text)
 	}
 	_ = to.Close()
@@ -166,9 +162,8 @@ func TestAReleaseIsSeenWhole(t *testing.T) {
 			}
 			for n, one := range seen {
 				now, _ := strconv.Atoi(one[1])
-				if now < last || body == "" && one[1] != seen[0][1] {
-					t.Errorf("item %d after release %d: %s", n, last, got.Body)
-				}
+				errorIf(t, now < last || body == "" && one[1] != seen[0][1],
+					"item %d after release %d: %s", n, last, got.Body)
 				last = now
 			}
 			if err != nil || len(seen) < 3 || t.Failed() {

@@ -25,9 +25,8 @@ func TestTokensPart(t *testing.T) {
 			for method, needed := range map[string]int{"GET": read, "HEAD": read, "PUT": write, "POST": write, "DELETE": write} {
 				got := s.ask(method, "/v1/"+app+"/fr", token, "fr{}", "Content-Type", "text/plain")
 				denied := got.Status == 401 || got.Status == 403
-				if denied == (may[app] >= needed) {
-					t.Errorf("%q: %s %s: %d", token, method, app, got.Status)
-				}
+				errorIf(t, denied == (may[app] >= needed),
+					"%q: %s %s: %d", token, method, app, got.Status)
 				if denied && (got.Status == 401) != (len(may) == 0) || (got.Status == 401) != (got.Header.Get("WWW-Authenticate") != "") {
 					t.Errorf("%q: %s %s: %d, %v", token, method, app, got.Status, got.Header)
 				}
@@ -36,9 +35,7 @@ func TestTokensPart(t *testing.T) {
 	}
 	s.script("TokensPart", "token", shopReads)
 	twice := s.raw("GET /v1/shop HTTP/1.1\r\nHost: x\r\nConnection: close\r\nAuthorization: Bearer " + shopReads + "\r\nAuthorization: Bearer " + shopReads + "\r\n\r\n")
-	if statusOfText(twice) != "401" {
-		t.Error(twice)
-	}
+	errorIf(t, statusOfText(twice) != "401", "%v", twice)
 }
 
 // TestTagsAndHeads has HEAD answer the header of GET at each kind of address, and conditions of GET hold.
@@ -108,9 +105,8 @@ func TestManyLookups(t *testing.T) {
 	torn.WriteString(strings.Repeat("[", 100000) + "\n" + `{"locale":"de","path":"a","x":` + strings.Repeat("[", 500) + strings.Repeat("]", 500) + "}\n" + line)
 	got := s.ask("POST", "/v1/shop/look", shopReads, torn.String())
 	lines := strings.Split(strings.TrimSuffix(got.Body, "\n"), "\n")
-	if got.Status != 200 || len(lines) != count+3 || lines[count+2]+"\n" != item("A") {
-		t.Errorf("%d, %d replies to %d: %q", got.Status, len(lines), count+3, lines[len(lines)-1])
-	}
+	errorIf(t, got.Status != 200 || len(lines) != count+3 || lines[count+2]+"\n" != item("A"),
+		"%d, %d replies to %d: %q", got.Status, len(lines), count+3, lines[len(lines)-1])
 }
 
 // TestRevisions follows the revision of an application through changes and reads. Another one's changes don't count.
@@ -155,9 +151,8 @@ func TestRatesOfAnApplication(t *testing.T) {
 	s.run(step{"r POST /v1/shop/look", "", strings.Repeat("{\"locale\":\"de\",\"path\":\"a\"}\n", 5000), 200, "", ""})
 	got := s.get("/v1/shop")
 	wait, err := strconv.Atoi(got.Header.Get("Retry-After"))
-	if got.Status != 429 || err != nil || wait < 1 || got.Error() != "OverRate" {
-		t.Errorf("%d %v %s", got.Status, got.Header, got.Body)
-	}
+	errorIf(t, got.Status != 429 || err != nil || wait < 1 || got.Error() != "OverRate",
+		"%d %v %s", got.Status, got.Header, got.Body)
 	s.run(step{"b GET /v1/bank", "", "", 200, "", ""})
 	s = open(t, "-day-bytes", "2000")
 	for _, want := range []int{201, 200, 429} {
@@ -177,16 +172,12 @@ func TestMetrics(t *testing.T) {
 	for at, want := range map[string]float64{`resb_requests_total{kind="look",status="200"}`: 5, `resb_requests_total{kind="look",status="404"}`: 1,
 		`resb_requests_total{kind="other",status="401"}`: 1, `resb_requests_total{kind="change",status="201"}`: 1, `resb_request_seconds_count{kind="look"}`: 6,
 		`resb_left_out`: 0, `resb_writes`: 1, `resb_ready`: 1, `resb_bundles`: 1, `resb_apps`: 1} {
-		if values[at] != want {
-			t.Errorf("%s is %v", at, values[at])
-		}
+		errorIf(t, values[at] != want, "%s is %v", at, values[at])
 	}
 	last := 0.0
 	for _, bound := range []string{"0.0001", "0.001", "0.01", "0.1", "1", "10", "+Inf"} {
 		at, there := values[fmt.Sprintf(`resb_request_seconds_bucket{kind="look",le=%q}`, bound)]
-		if !there || at < last {
-			t.Errorf("the bucket of %s has %v after %v", bound, at, last)
-		}
+		errorIf(t, !there || at < last, "the bucket of %s has %v after %v", bound, at, last)
 		last = at
 	}
 	if last != 6 || values[`resb_memory_bytes`] < 1000 || values[`resb_database_bytes`] < 20 {

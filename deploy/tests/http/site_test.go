@@ -35,7 +35,12 @@ const (
 	generous   = harness.Generous
 )
 
-var eventually = harness.Eventually
+var (
+	eventually = harness.Eventually
+	must       = harness.Must
+	errorIf    = harness.ErrorIf
+	equal      = harness.Equal
+)
 
 // A site is a gateway that a test asks.
 type site struct {
@@ -66,9 +71,7 @@ func prepare(t *testing.T, options ...string) *site {
 func (s *site) leave() {
 	s.t.Helper()
 	s.Signal(syscall.SIGTERM)
-	if status := s.Wait(); status != 0 {
-		s.t.Errorf("status %d", status)
-	}
+	equal(s.t, s.Wait(), 0, "status")
 }
 
 // ask sends a request, with headers in pairs. What is answered must be described.
@@ -217,18 +220,15 @@ func (s *site) perform(pairs []string, steps []step) {
 		}
 		got := s.ask(words[1], words[2], tokens[words[0]], stored.Replace(one.body), headers...)
 		what := fmt.Sprintf("%d: %s [%s] %.60q", n, one.do, one.headers, one.body)
-		if got.Status != one.status || !wanted(stored.Replace(one.want), got) {
-			s.t.Errorf("%s: %d %.300s, and not %d %.300s", what, got.Status, got.Body, one.status, one.want)
-		}
+		errorIf(s.t, got.Status != one.status || !wanted(stored.Replace(one.want), got),
+			"%s: %d %.300s, and not %d %.300s", what, got.Status, got.Body, one.status, one.want)
 		for _, spec := range strings.Split(stored.Replace(one.reply), " | ") {
 			if name, variable, store := strings.Cut(spec, ">"); store {
 				pairs = append(pairs, "{"+variable+"}", got.Header.Get(name))
 				stored = strings.NewReplacer(pairs...)
 				spec = name
 			}
-			if !headed(spec, got.Header) {
-				s.t.Errorf("%s: no %q in %v", what, spec, got.Header)
-			}
+			errorIf(s.t, !headed(spec, got.Header), "%s: no %q in %v", what, spec, got.Header)
 		}
 	}
 }
@@ -279,9 +279,7 @@ func (s *site) describe() {
 		var page struct {
 			Paths map[string]map[string]json.RawMessage
 		}
-		if err := json.Unmarshal([]byte(d.text), &page); err != nil {
-			s.t.Fatal(err)
-		}
+		must(s.t, json.Unmarshal([]byte(d.text), &page))
 		d.paths, d.of = page.Paths, map[*regexp.Regexp]string{}
 		for path := range d.paths {
 			text := strings.NewReplacer(`\{path\}`, ".*", `\{locale\}`, "(?:[^/_][^/]*|)").Replace(regexp.QuoteMeta(path))
@@ -312,9 +310,8 @@ func (s *site) describes(method, path string, status int) {
 		}
 		return
 	}
-	if status < 400 && method != "options" {
-		s.t.Errorf("openapi.json has no %s %s, which is answered %d", method, path, status)
-	}
+	errorIf(s.t, status < 400 && method != "options",
+		"openapi.json has no %s %s, which is answered %d", method, path, status)
 }
 
 // raw sends bytes over a separate connection, and returns the whole response.
@@ -331,9 +328,7 @@ func (s *site) raw(bytes string) string {
 func (s *site) dial() net.Conn {
 	s.t.Helper()
 	c, err := net.Dial("tcp", s.Address)
-	if err != nil {
-		s.t.Fatal(err)
-	}
+	must(s.t, err)
 	s.t.Cleanup(func() { _ = c.Close() })
 	_ = c.SetDeadline(time.Now().Add(harness.Generous))
 	return c

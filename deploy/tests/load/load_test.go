@@ -163,9 +163,7 @@ func report(b *testing.B, what string, took time.Duration) {
 // syncs returns how long the disk takes to sync a page.
 func syncs(b *testing.B) time.Duration {
 	file, err := os.Create(filepath.Join(b.TempDir(), "file"))
-	if err != nil {
-		b.Fatal(err)
-	}
+	harness.Must(b, err)
 	defer file.Close()
 	var took harness.Times
 	for i := 0; i < 50; i++ {

@@ -57,9 +57,7 @@ func at(t *testing.T, urls ...string) *trial {
 // judged finishes a trial, and fails if a promise was broken.
 func (t *trial) judged(to *testing.T, what string) {
 	t.end()
-	if err := t.finish(); err != nil {
-		to.Fatal(err)
-	}
+	harness.Must(to, t.finish())
 	fmt.Printf("trial: %s: ", what)
 	t.report(os.Stdout)
 	if kinds := t.judge(os.Stdout); len(kinds) > 0 {
@@ -255,9 +253,7 @@ func restoreSnapshot(t *testing.T) {
 		p.Kill()
 	}
 	for i, p := range m.Members {
-		if err := os.RemoveAll(m.Folders[i]); err != nil {
-			t.Fatal(err)
-		}
+		harness.Must(t, os.RemoveAll(m.Folders[i]))
 		arguments := []string{"snapshot", "restore", file, "--data-dir", m.Folders[i]}
 		for n, argument := range p.Args {
 			if strings.Contains(" --name --initial-cluster --initial-advertise-peer-urls ", " "+argument+" ") {

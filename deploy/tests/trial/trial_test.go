@@ -254,9 +254,8 @@ func TestPlantedFaults(t *testing.T) {
 		for seed := int64(1); seed <= 20 && len(kinds) == 0; seed++ { // a fault may not be planted, or change nothing
 			kinds, planted = tryFault(g, fault, 200, seed)
 		}
-		if len(kinds) == 0 || planted == 0 {
-			t.Errorf("%s: planted %d times, and not found", fault, planted)
-		}
+		harness.ErrorIf(t, len(kinds) == 0 || planted == 0,
+			"%s: planted %d times, and not found", fault, planted)
 		t.Logf("%s: planted %d times, found as %v", fault, planted, kinds)
 	}
 }
