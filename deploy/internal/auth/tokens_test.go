@@ -185,20 +185,14 @@ func TestAddedTokens(t *testing.T) {
 
 func TestRevoke(t *testing.T) {
 	path := file(t, "# first", "shop read "+hashOf(one)+" name=ci", "bank read "+hashOf(one), "", "wrong", "shop write "+hashOf(two))
-	if n, err := Revoke(path, ""); n != 0 || err != ErrUnknown {
-		t.Error(n, err)
-	}
-	if n, err := Revoke(path, "ci"); n != 2 || err != nil {
-		t.Error(n, err)
-	}
-	if _, err := Revoke(path, hashOf(two)[:7]); err == nil {
-		t.Error("7 digits are enough")
-	}
-	if n, err := Revoke(path, hashOf(two)[:8]); n != 1 || err != nil {
-		t.Error(n, err)
-	}
-	if _, err := Revoke(path, "ci"); err != ErrUnknown {
-		t.Error(err)
+	for _, c := range []struct {
+		token   string
+		removed int
+		err     error
+	}{{"", 0, ErrUnknown}, {"ci", 2, nil}, {hashOf(two)[:7], 0, ErrUnknown}, {hashOf(two)[:8], 1, nil},
+		{"ci", 0, ErrUnknown}} {
+		n, err := Revoke(path, c.token)
+		harness.ErrorIf(t, n != c.removed || err != c.err, "%q: %d removed, %v", c.token, n, err)
 	}
 	content, err := os.ReadFile(path)
 	harness.ErrorIf(t, err != nil || string(content) != "# first\n\nwrong\n", "%q %v", content, err)

@@ -2,6 +2,7 @@ package http
 
 import (
 	"context"
+	"fmt"
 	"reflect"
 	"strings"
 	"testing"
@@ -16,55 +17,44 @@ func TestTheClientInGo(t *testing.T) {
 	ctx, cancel := context.WithTimeout(context.Background(), generous)
 	defer cancel()
 	c := overhttp.New(s.URL+"/", "shop", shopWrites)
+	// is fails unless a call ended with an error code, or none, and returned what it should
+	is := func(code string, err error, got, want any) {
+		t.Helper()
+		isWrong := code != "" && !overhttp.Is(err, code) || code == "" && err != nil
+		errorIf(t, isWrong || !reflect.DeepEqual(got, want), "%v: %v, and not %v", err, got, want)
+	}
 	tag, err := c.PutText(ctx, "de", `de{a{"A"}}`, "")
-	if err != nil || tag == "" {
-		t.Fatal(tag, err)
-	}
-	if text, err := c.Text(ctx, "de_AT", "a"); text != "A" || err != nil {
-		t.Error(text, err)
-	}
-	if b, err := c.Get(ctx, "de", "txt"); string(b.Body) != `de{a{"A"}}` || b.Tag != tag || err != nil {
-		t.Error(b, err)
-	}
-	if _, err := c.PutText(ctx, "de", `de{a{"B"}}`, `"other"`); !overhttp.Is(err, "PreconditionFailed") {
-		t.Error(err)
-	}
-	if _, err := c.PutText(ctx, "de", `de{a{"B"}}`, tag); err != nil {
-		t.Error(err)
-	}
-	if tree, err := c.Tree(ctx, "de_AT", "a"); err != nil || string(tree.Body) != "\"B\"\n" || tree.Tag == "" {
-		t.Error(tree, err)
-	}
+	is("", err, tag != "", true)
+	text, err := c.Text(ctx, "de_AT", "a")
+	is("", err, text, "A")
+	b, err := c.Get(ctx, "de", "txt")
+	is("", err, string(b.Body)+b.Tag, `de{a{"A"}}`+tag)
+	_, err = c.PutText(ctx, "de", `de{a{"B"}}`, `"other"`)
+	is("PreconditionFailed", err, nil, nil)
+	_, err = c.PutText(ctx, "de", `de{a{"B"}}`, tag)
+	is("", err, nil, nil)
+	tree, err := c.Tree(ctx, "de_AT", "a")
+	is("", err, string(tree.Body), "\"B\"\n")
 	tag, err = c.Patch(ctx, "de", map[string]any{"a": nil, "b": map[string]any{"c": "C"}}, "")
-	if text, _ := c.Text(ctx, "de", "b/c"); err != nil || text != "C" {
-		t.Error(text, err)
-	}
-	if _, err := c.Patch(ctx, "de", map[string]any{"c": "D"}, `"other"`); tag == "" || !overhttp.Is(err, "PreconditionFailed") {
-		t.Error(err)
-	}
-	if _, err := c.Look(ctx, "de", "none"); !overhttp.Is(err, "Missing") {
-		t.Error(err)
-	}
-	if err := c.Release(ctx, []overhttp.Entry{{Locale: "fr", Text: `fr{a{"F"}}`}, {Locale: "de", Remove: true}}); err != nil {
-		t.Error(err)
-	}
-	if names, err := c.Names(ctx); err != nil || !reflect.DeepEqual(names, []string{"fr"}) {
-		t.Error(names, err)
-	}
+	is("", err, tree.Tag != "" && tag != "", true)
+	text, err = c.Text(ctx, "de", "b/c")
+	is("", err, text, "C")
+	_, err = c.Patch(ctx, "de", map[string]any{"c": "D"}, `"other"`)
+	is("PreconditionFailed", err, nil, nil)
+	_, err = c.Look(ctx, "de", "none")
+	is("Missing", err, nil, nil)
+	err = c.Release(ctx, []overhttp.Entry{{Locale: "fr", Text: `fr{a{"F"}}`}, {Locale: "de", Remove: true}})
+	is("", err, nil, nil)
+	names, err := c.Names(ctx)
+	is("", err, names, []string{"fr"})
 	err = c.Release(ctx, []overhttp.Entry{{Locale: "it", Text: "it{}"}, {Locale: "es", Text: "es{\n bad\u00e4 {}"}})
-	if !overhttp.Is(err, "BadText") || !strings.Contains(err.Error(), "400 BadText: line 2: line 2: BadKey: ") {
-		t.Error(err)
-	}
-	if err := c.Remove(ctx, "fr", `"other"`); !overhttp.Is(err, "PreconditionFailed") {
-		t.Error(err)
-	}
-	equal(t, c.Remove(ctx, "fr", ""), nil)
+	is("BadText", err, strings.Contains(fmt.Sprint(err), "400 BadText: line 2: line 2: BadKey: "), true)
+	is("PreconditionFailed", c.Remove(ctx, "fr", `"other"`), nil, nil)
+	is("", c.Remove(ctx, "fr", ""), nil, nil)
 	s.Restart()
-	if names, err := c.Names(ctx); err != nil || len(names) != 0 {
-		t.Error(names, err)
-	}
+	names, err = c.Names(ctx)
+	is("", err, len(names), 0)
 	c.Patience = time.Millisecond
-	if _, err := overhttp.New(s.URL, "bank", shopWrites).Names(ctx); !overhttp.Is(err, "Forbidden") {
-		t.Error(err)
-	}
+	_, err = overhttp.New(s.URL, "bank", shopWrites).Names(ctx)
+	is("Forbidden", err, nil, nil)
 }

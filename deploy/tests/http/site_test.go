@@ -180,9 +180,9 @@ func sectionOf(t *testing.T, file, section string) (lines []string) {
 func (one *step) add(kind string, status int, text string) {
 	switch kind {
 	case ">":
-		one.headers += " | " + text
+		one.headers = strings.TrimPrefix(one.headers+" | "+text, " | ")
 	case "<":
-		one.reply += " | " + text
+		one.reply = strings.TrimPrefix(one.reply+" | "+text, " | ")
 	case "+":
 		one.body = unescaped(text)
 	default:
