@@ -69,9 +69,9 @@ func (c *conn) Close() error {
 // A caller is a connection for HTTP/1.1, within TLS if that is on.
 type caller struct {
 	net.Conn
-	begun int32 // a part of a header has come
-	asked int32 // a whole header has come, and its response isn't done
-	late  int32 // the caller got the error that it is too slow
+	begun atomic.Bool // a part of a header has come
+	asked atomic.Bool // a whole header has come, and its response isn't done
+	late  atomic.Bool // the caller got the error that it is too slow
 
 	next lengths // of the header that comes
 	both bool    // the last header has two lengths
@@ -113,13 +113,13 @@ func (l *lengths) take(bytes []byte) {
 func (c *caller) Read(b []byte) (int, error) {
 	n, err := c.Conn.Read(b)
 	if n > 0 {
-		atomic.StoreInt32(&c.begun, 1)
-		if atomic.LoadInt32(&c.asked) == 0 {
+		c.begun.Store(true)
+		if !c.asked.Load() {
 			c.next.take(b[:n])
 		}
 	}
-	late := errors.Is(err, os.ErrDeadlineExceeded) && atomic.LoadInt32(&c.begun) == 1 && atomic.LoadInt32(&c.asked) == 0
-	if late && atomic.CompareAndSwapInt32(&c.late, 0, 1) {
+	late := errors.Is(err, os.ErrDeadlineExceeded) && c.begun.Load() && !c.asked.Load()
+	if late && c.late.CompareAndSwap(false, true) {
 		_ = c.SetWriteDeadline(time.Now().Add(time.Second))
 		_, _ = c.Conn.Write([]byte(tooSlow))
 	}
@@ -128,7 +128,7 @@ func (c *caller) Read(b []byte) (int, error) {
 
 // Write writes bytes to the caller, unless it got the error for being slow: net/http mistakes the part of a line for the whole.
 func (c *caller) Write(b []byte) (int, error) {
-	if atomic.LoadInt32(&c.late) == 1 {
+	if c.late.Load() {
 		return 0, os.ErrDeadlineExceeded
 	}
 	return c.Conn.Write(b)
@@ -142,10 +142,10 @@ func State(of net.Conn, to http.ConnState) {
 	}
 	switch to {
 	case http.StateActive:
-		atomic.StoreInt32(&c.asked, 1)
+		c.asked.Store(true)
 		c.both, c.next = c.next.content && c.next.encoding, lengths{}
 	case http.StateIdle:
-		atomic.StoreInt32(&c.begun, 0)
-		atomic.StoreInt32(&c.asked, 0)
+		c.begun.Store(false)
+		c.asked.Store(false)
 	}
 }

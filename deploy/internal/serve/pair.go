@@ -4,18 +4,17 @@ import (
 	"crypto/tls"
 	"fmt"
 	"log"
-	"os"
+	"reflect"
 	"runtime"
 	"strings"
 	"sync/atomic"
 )
 
-// A Pair is a certificate with its key, read again when the content of one of the files changes.
+// A Pair is a certificate with its key, read again when the files have another one.
 type Pair struct {
-	files   [2]string // certificate and key
-	content [2]string
-	now     atomic.Pointer[tls.Certificate]
-	failed  string // why the files could not be read again, or empty
+	cert, key string // the files
+	now       atomic.Pointer[tls.Certificate]
+	failed    string // why the files could not be read again, or empty
 }
 
 // OpenPair reads the files; without files there is no pair.
@@ -23,30 +22,20 @@ func OpenPair(cert, key string) (*Pair, error) {
 	if cert == "" {
 		return nil, nil
 	}
-	p := &Pair{files: [2]string{cert, key}}
+	p := &Pair{cert: cert, key: key}
 	_, err := p.read()
 	return p, err
 }
 
-// read reads the files. It returns false if their content is that of the last time.
+// read reads the files. It returns false if they have the certificate of the last time.
 func (p *Pair) read() (isNew bool, err error) {
-	var content [2]string
-	for i, file := range p.files {
-		text, err := os.ReadFile(file)
-		if err != nil {
-			return false, err
-		}
-		content[i] = string(text)
+	pair, err := tls.LoadX509KeyPair(p.cert, p.key)
+	last := p.now.Load()
+	if err != nil || last != nil && reflect.DeepEqual(pair.Certificate, last.Certificate) {
+		return false, err
 	}
-	if content == p.content {
-		return false, nil
-	}
-	now, err := tls.X509KeyPair([]byte(content[0]), []byte(content[1]))
-	if err == nil {
-		p.content = content
-		p.now.Store(&now)
-	}
-	return true, err
+	p.now.Store(&pair)
+	return true, nil
 }
 
 // Again reads the files again. If they don't fit each other the earlier ones stay, and the files are read once more the next time: one of them
