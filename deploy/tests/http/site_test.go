@@ -193,9 +193,8 @@ func (one *step) add(kind string, status int, text string) {
 
 // unescaped returns a text of testdata as it is meant: a string of Go after $, or with `\n` and `\r`.
 func unescaped(text string) string {
-	if quoted, isQuoted := harness.Cut(text, "$"); isQuoted {
-		text, _ = strconv.Unquote(quoted)
-		return text
+	if quoted, err := strconv.Unquote(strings.TrimPrefix(text, "$")); err == nil && text[0] == '$' {
+		return quoted
 	}
 	return strings.NewReplacer(`\n`, "\n", `\r`, "\r").Replace(text)
 }
