@@ -58,6 +58,7 @@ type checker struct {
 	revisions []int64
 	states    []State // of revisions; the first is that of revision 0, without bundles
 	changes   map[int64]Change
+	idle      map[*Op]bool // restorations that changed nothing
 	faults    []Fault
 	one       bool
 	base      int64
@@ -66,17 +67,19 @@ type checker struct {
 // Check returns the faults of an application's operations. The history has all its changes; those up to the revision base were made by
 // others. With one gateway each read must be linearizable.
 func Check(ops []*Op, history []Change, base int64, oneGateway bool) []Fault {
-	c := &checker{one: oneGateway, base: base, changes: map[int64]Change{}, revisions: []int64{0}, states: []State{{}}}
+	c := &checker{one: oneGateway, base: base, changes: map[int64]Change{}, idle: map[*Op]bool{},
+		revisions: []int64{0}, states: []State{{}}}
 	sort.Slice(history, func(i, j int) bool { return history[i].Revision < history[j].Revision })
 	for _, change := range history {
 		c.add(change)
 	}
+	c.findIdle(ops)
 	c.claims(ops)
 	c.counts(ops)
 	windows := windowsOf(ops, c)
 	for i, op := range ops {
 		switch {
-		case op.Outcome == Done && op.Write && !c.idle(op):
+		case op.Outcome == Done && op.Write && !c.idle[op]:
 			c.write(op, windows[i])
 		case op.Outcome == Refused:
 			c.refusal(op, windows[i])
@@ -128,7 +131,7 @@ func (c *checker) claims(ops []*Op) {
 		switch {
 		case op.Write && op.Outcome == Unknown:
 			unknown[op] = true
-		case op.Write && op.Outcome == Done && c.idle(op):
+		case op.Write && op.Outcome == Done && c.idle[op]:
 		case op.Write && op.Outcome == Done && of[op.Revision] != nil:
 			c.bad("twice", "%v and %v have one revision", op, of[op.Revision])
 		case op.Write && op.Outcome == Done:
@@ -143,18 +146,27 @@ func (c *checker) claims(ops []*Op) {
 	}
 }
 
-// idle returns true if a restoration changed nothing, as its bundle was that already: it makes no revision, and its reply has the newest one.
-func (c *checker) idle(op *Op) bool {
-	i := c.index(op.Revision)
-	if op.What != "restore" || i < 1 || same(op.Puts, c.changes[op.Revision].Puts, c.states[i-1]) {
-		return false
-	}
-	for locale, value := range op.Puts {
-		if c.states[i][locale] != value {
-			return false
+// findIdle finds the restorations that changed nothing, as their bundle was that already. They make no
+// revision, and their replies have the newest one: it is of another operation that put the same if the
+// revision had been seen before, or if that operation began earlier.
+func (c *checker) findIdle(ops []*Op) {
+	ends, next, seen := order(ops, func(o *Op) time.Duration { return o.End }), 0, int64(0)
+	makers := map[int64]bool{}
+	for _, at := range order(ops, func(o *Op) time.Duration { return o.Start }) {
+		op := ops[at]
+		for ; next < len(ends) && ops[ends[next]].End < op.Start; next++ {
+			o := ops[ends[next]]
+			if (o.Outcome == Done || o.Outcome == Refused) && o.Revision > seen {
+				seen = o.Revision
+			}
+		}
+		if i := c.index(op.Revision); op.Write && op.Outcome == Done && i > 0 {
+			isNew := op.Revision > seen && !makers[op.Revision] &&
+				same(op.Puts, c.changes[op.Revision].Puts, c.states[i-1])
+			c.idle[op] = op.What == "restore" && !isNew && (&Op{Saw: op.Puts}).agrees(c.states[i])
+			makers[op.Revision] = true
 		}
 	}
-	return true
 }
 
 // unanswered takes an operation without an answer that can have made a change.
@@ -235,7 +247,7 @@ func windowsOf(ops []*Op, c *checker) []window {
 	last, later := c.revisions[len(c.revisions)-1], len(starts)-1
 	for k := len(ends) - 1; k >= 0; k-- {
 		for ; later >= 0 && ops[starts[later]].Start > ops[ends[k]].End; later-- {
-			if o := ops[starts[later]]; o.Write && o.Outcome == Done && o.Revision-1 < last && !c.idle(o) {
+			if o := ops[starts[later]]; o.Write && o.Outcome == Done && o.Revision-1 < last && !c.idle[o] {
 				last = o.Revision - 1
 			}
 		}

@@ -205,9 +205,11 @@ func fillQuota(t *testing.T) {
 	for n := 0; n < 200 && full < 3; n++ {
 		path := fmt.Sprintf("/v1/app.filler/l%c%c.txt", 'a'+n/26, 'a'+n%26)
 		got := m.Gateways[n%3].Ask("PUT", path, harness.AppsWrite, fmt.Sprintf("x{a{\"%d %s\"}}", n, harness.Noise(100<<10)))
-		if got.Status == 507 {
+		switch got.Status {
+		case 507:
 			full++
-		} else if got.Status != 201 {
+		case 201, 503, 504: // on a busy machine a change may take too long
+		default:
 			t.Fatalf("the filler's change %d: %d %s", n, got.Status, got.Body)
 		}
 	}
