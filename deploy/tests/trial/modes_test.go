@@ -87,7 +87,7 @@ func killOne(t *testing.T) {
 func disturbCluster(t *testing.T) {
 	m := harness.NewMachines(t, *cuts > 0, options())
 	all := at(t, m.URLs()...)
-	faults := disturb(m)
+	faults := disturb(t, m)
 	recovering := time.Now()
 	harness.AwaitAll(m.Both, 2*time.Minute)
 	all.judged(t, fmt.Sprintf("%s; all ready after %v", counts(faults), time.Since(recovering).Round(time.Millisecond)))
@@ -118,11 +118,11 @@ func disturbances(r *rand.Rand) (all []disturbance) {
 
 // disturb makes faults, several at a time, and returns how many of each kind. It waits as long as the
 // next one would be of a process that another one disturbs, or, unless -rough is given, would leave no
-// majority of members.
-func disturb(m *harness.Machines) map[string]int {
+// majority of members; the trial fails if that takes minutes.
+func disturb(t *testing.T, m *harness.Machines) map[string]int {
 	r, faults, busy := rand.New(rand.NewSource(*seed)), map[string]int{}, sync.Map{}
 	var ends sync.WaitGroup
-	for _, one := range disturbances(r) {
+	for n, one := range disturbances(r) {
 		one := one
 		time.Sleep(*pause/2 + time.Duration(r.Int63n(int64(*pause))))
 		of, isMember := fmt.Sprint("gateway ", one.i), one.kind != "gateways"
@@ -131,12 +131,14 @@ func disturb(m *harness.Machines) map[string]int {
 		} else if isMember {
 			of = "members"
 		}
-		for {
+		for end := time.Now().Add(*longest + 5*time.Minute); ; time.Sleep(20 * time.Millisecond) {
 			_, there := busy.Load(of)
 			if !there && (!isMember || *rough || healthy(m)) {
 				break
 			}
-			time.Sleep(20 * time.Millisecond)
+			if time.Now().After(end) {
+				t.Fatalf("after %d faults the members don't become healthy", n)
+			}
 		}
 		busy.Store(of, true)
 		faults[one.what+"s of "+one.kind]++
