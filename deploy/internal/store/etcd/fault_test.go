@@ -172,16 +172,18 @@ func TestTakeover(t *testing.T) {
 	for round, signal := range []syscall.Signal{syscall.SIGKILL, syscall.SIGSTOP} {
 		p, longest := leader(t, s, all), time.Duration(0)
 		p.Signal(signal)
-		for began := time.Now(); time.Since(began) < 4*time.Second; {
-			at := time.Now()
-			next, bodies := Next(t, now, Put("de", fmt.Sprint(round, now.Revision)))
-			Must(t, s.Swap(within(t, 30*time.Second), next, bodies))
-			now = next
-			if took := time.Since(at); took > longest {
-				longest = took
+		for leads := p; leads == p; leads = leader(t, s, all) {
+			for i := 0; i < 20; i++ {
+				at := time.Now()
+				next, bodies := Next(t, now, Put("de", fmt.Sprint(round, now.Revision)))
+				Must(t, s.Swap(within(t, harness.Generous), next, bodies))
+				now = next
+				if took := time.Since(at); took > longest {
+					longest = took
+				}
 			}
 		}
-		Must(t, s.Sync(within(t, 30*time.Second)))
+		Must(t, s.Sync(within(t, harness.Generous)))
 		Check(t, s, now)
 		t.Logf("leader %v: the longest swap took %v", signal, longest)
 		if signal == syscall.SIGKILL {
@@ -189,7 +191,7 @@ func TestTakeover(t *testing.T) {
 		} else {
 			p.Signal(syscall.SIGCONT)
 		}
-		p.Await(30 * time.Second)
+		p.Await(harness.Generous)
 	}
 	all[0].Signal(syscall.SIGSTOP)
 	all[1].Signal(syscall.SIGSTOP)
@@ -205,21 +207,25 @@ func TestTakeover(t *testing.T) {
 	}
 	all[0].Signal(syscall.SIGCONT)
 	all[1].Signal(syscall.SIGCONT)
-	Must(t, s.Sync(within(t, 30*time.Second)))
-	if err := s.Swap(within(t, 30*time.Second), next, bodies); err != nil { // it finds itself if it was stored
+	Must(t, s.Sync(within(t, harness.Generous)))
+	if err := s.Swap(within(t, harness.Generous), next, bodies); err != nil { // it finds itself if it was stored
 		t.Error(err)
 	}
 	Check(t, s, next)
 }
 
-func leader(t testing.TB, s *Store, all []*harness.Process) *harness.Process {
-	for i, e := range s.Endpoints() {
-		if r, err := s.Status(within(t, 5*time.Second), e); err == nil && r.Leader == r.Header.MemberId {
-			return all[i]
+// leader waits until a server says that it is the leader.
+func leader(t testing.TB, s *Store, all []*harness.Process) (found *harness.Process) {
+	harness.Eventually(t, "there is a leader", func() bool {
+		for i, e := range s.Endpoints() {
+			r, err := s.Status(within(t, 5*time.Second), e)
+			if err == nil && r.Leader == r.Header.MemberId {
+				found = all[i]
+			}
 		}
-	}
-	t.Fatal("no leader")
-	return nil
+		return found != nil
+	})
+	return found
 }
 
 // TestAFullQuota fills a database: what is refused isn't stored, the rest works, and after a collection and defragmentation changes do.
