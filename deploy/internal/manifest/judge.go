@@ -26,7 +26,6 @@ type Change struct {
 	App, Who, Op, ID string
 	At               int64
 	Edits            []Edit
-	IfRevision       int64 // the application's, or 0
 	Erase            bool
 }
 
@@ -46,9 +45,6 @@ const (
 
 // Judge makes the next manifest from the present one, or refuses. It returns the present one itself if the change changes nothing.
 func Judge(now *Manifest, c *Change, l Limits) (*Manifest, *Refusal) {
-	if c.IfRevision != 0 && c.IfRevision != now.Revision {
-		return nil, &Refusal{Unmet, ""}
-	}
 	next := &Manifest{App: c.App, Revision: now.Revision + 1, ID: c.ID, Before: now.ID, Op: c.Op, Who: c.Who, At: c.At, index: &index{}}
 	if c.Erase {
 		next.Erased = true

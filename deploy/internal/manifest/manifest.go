@@ -98,15 +98,6 @@ func (m *Manifest) Find(locale string) *Bundle {
 	return nil
 }
 
-// Names returns the digests of the bodies that the manifest names.
-func (m *Manifest) Names() map[Digest]bool {
-	all := make(map[Digest]bool, len(m.Bundles))
-	for _, b := range m.Bundles {
-		all[b.Digest] = true
-	}
-	return all
-}
-
 // A Difference is a bundle that two manifests have differently. Old or New is nil if one of them doesn't have the bundle.
 type Difference struct{ Old, New *Bundle }
 
@@ -118,7 +109,7 @@ func (d *Difference) Locale() string {
 	return d.New.Locale
 }
 
-// Diff returns what differs between the bundles of two manifests.
+// Diff returns what differs between the bundles of two manifests, the removed ones last.
 func Diff(from, to *Manifest) (all []Difference) {
 	same := equalPages(from, to)
 	old := map[string]*Bundle{}
@@ -129,19 +120,15 @@ func Diff(from, to *Manifest) (all []Difference) {
 	}
 	for i := range to.Bundles {
 		b := &to.Bundles[i]
-		if same[pageOf(b.Locale)] {
-			continue
-		}
 		was := old[b.Locale]
 		delete(old, b.Locale)
-		if was == nil || was.Digest != b.Digest || was.Kind != b.Kind || was.Order != b.Order {
+		if !same[pageOf(b.Locale)] &&
+			(was == nil || was.Digest != b.Digest || was.Kind != b.Kind || was.Order != b.Order) {
 			all = append(all, Difference{was, b})
 		}
 	}
-	for i := range from.Bundles {
-		if b := &from.Bundles[i]; old[b.Locale] != nil {
-			all = append(all, Difference{b, nil})
-		}
+	for _, b := range old {
+		all = append(all, Difference{b, nil})
 	}
 	return all
 }

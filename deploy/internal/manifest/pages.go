@@ -116,16 +116,6 @@ func (m *Manifest) Fresh() map[Digest][]byte {
 	return all
 }
 
-// Pages returns the digests of the pages, which a head names.
-func (m *Manifest) Pages() (all []Digest) {
-	for _, p := range append([]page{m.log}, m.pages...) {
-		if p.digest != "" {
-			all = append(all, p.digest)
-		}
-	}
-	return all
-}
-
 var castagnoli = crc32.MakeTable(crc32.Castagnoli)
 
 // ReadHead reads a stored head. The manifest has its bundles once Fill was called, and Made after FillMade.
@@ -152,13 +142,13 @@ func (m *Manifest) Fill(near *Manifest, read func(Digest) ([]byte, error)) error
 	}
 	same := equalPages(near, m)
 	for i, p := range m.pages {
-		var some []Bundle
 		if p.digest == "" || same[i] {
 			continue
-		} else if err := readPage(p.digest, read, &some); err != nil {
+		}
+		var err error
+		if m.Bundles, err = appendPage(m.Bundles, p.digest, read); err != nil {
 			return err
 		}
-		m.Bundles = append(m.Bundles, some...)
 	}
 	if near != nil {
 		for _, b := range near.Bundles {
@@ -190,6 +180,13 @@ func (m *Manifest) FillMade(read func(Digest) ([]byte, error)) error {
 	return readPage(m.log.digest, read, &m.Made)
 }
 
+// appendPage adds the bundles of a page to others.
+func appendPage(to []Bundle, digest Digest, read func(Digest) ([]byte, error)) ([]Bundle, error) {
+	var some []Bundle
+	err := readPage(digest, read, &some)
+	return append(to, some...), err
+}
+
 func readPage(digest Digest, read func(Digest) ([]byte, error), to any) error {
 	stored, err := read(digest)
 	if err != nil {
@@ -207,8 +204,9 @@ type Sweep struct {
 	Named map[Digest]bool // bodies and pages
 }
 
-// Add adds what a manifest names of which the head was read. It returns the bytes of the bodies that were not named before.
-func (s *Sweep) Add(m *Manifest, read func(Digest) ([]byte, error)) (more int64, err error) {
+// Add adds what a manifest names of which the head was read. It returns the bundles whose bodies no
+// manifest before it named.
+func (s *Sweep) Add(m *Manifest, read func(Digest) ([]byte, error)) (fresh []Bundle, err error) {
 	isNewest := s.Named == nil
 	if isNewest {
 		s.Named = map[Digest]bool{}
@@ -216,33 +214,26 @@ func (s *Sweep) Add(m *Manifest, read func(Digest) ([]byte, error)) (more int64,
 	if m.log.digest != "" {
 		s.Named[m.log.digest] = true
 	}
-	if m.pages == nil {
-		return s.add(m.Bundles, isNewest), nil
-	}
+	all := m.Bundles[:len(m.Bundles):len(m.Bundles)]
 	for _, p := range m.pages {
-		var some []Bundle
 		if p.digest == "" || s.Named[p.digest] {
 			continue
-		} else if err := readPage(p.digest, read, &some); err != nil {
-			return 0, err
+		}
+		if all, err = appendPage(all, p.digest, read); err != nil {
+			return nil, err
 		}
 		s.Named[p.digest] = true
-		more += s.add(some, isNewest)
 	}
-	return more, nil
-}
-
-func (s *Sweep) add(bundles []Bundle, isNewest bool) (more int64) {
-	for _, b := range bundles {
+	for _, b := range all {
 		if isNewest && b.File != "" {
 			s.Named[b.File] = true
 		}
 		if !s.Named[b.Digest] {
 			s.Named[b.Digest] = true
-			more += b.Bytes
+			fresh = append(fresh, b)
 		}
 	}
-	return more
+	return fresh, nil
 }
 
 // A writer of compressed bytes takes 600 KB and a reader 40 KB, so they are used again.

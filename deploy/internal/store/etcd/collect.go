@@ -2,7 +2,6 @@ package etcd
 
 import (
 	"context"
-	"fmt"
 	"strings"
 	"time"
 
@@ -15,8 +14,6 @@ import (
 
 // Collect removes manifests and bodies, and then what etcd keeps of earlier revisions. It removes a body only if nobody has stored it again meanwhile.
 func (s *Store) Collect(ctx context.Context, keep store.Keep) (removed int, err error) {
-	s.collecting.Lock()
-	defer s.collecting.Unlock()
 	if keep.Grace < s.grace {
 		keep.Grace = s.grace
 	}
@@ -24,42 +21,7 @@ func (s *Store) Collect(ctx context.Context, keep store.Keep) (removed int, err 
 	if err != nil {
 		return 0, err
 	}
-	apps, bodies, err := s.stored(ctx, mark)
-	if err != nil {
-		return 0, err
-	}
-	for app, kv := range apps {
-		_, revision := newestOf(kv)
-		done := store.Collected{Revision: revision, Bodies: lastOf(bodies[app]), Keep: keep}
-		if s.collected[app] == done {
-			continue
-		}
-		n, err := s.collect(ctx, app, keep, bodies[app])
-		removed += n
-		if err != nil {
-			return removed, err
-		}
-		if n == 0 && keep.Age == 0 && kv.ModRevision <= mark {
-			s.collected[app] = done
-		}
-	}
-	return removed, s.compact(ctx)
-}
-
-// lastOf returns the last modification revision of some bodies.
-func lastOf(bodies map[manifest.Digest]int64) (last int64) {
-	for _, modified := range bodies {
-		if modified > last {
-			last = modified
-		}
-	}
-	return last
-}
-
-// stored returns the keys m/APP of all applications, and the modification revisions of the index keys of their bodies up to a mark. An application that
-// has bodies and no manifest has an empty key.
-func (s *Store) stored(ctx context.Context, mark int64) (apps map[string]*mvccpb.KeyValue, bodies map[string]map[manifest.Digest]int64, err error) {
-	apps, bodies = map[string]*mvccpb.KeyValue{}, map[string]map[manifest.Digest]int64{}
+	apps, bodies := map[string]store.Stamp{}, map[string]map[manifest.Digest]int64{}
 	_, err = s.list(ctx, "d/", func(kv *mvccpb.KeyValue) {
 		p := strings.Split(string(kv.Key), "/")
 		if kv.ModRevision > mark || len(p) != 3 {
@@ -67,15 +29,43 @@ func (s *Store) stored(ctx context.Context, mark int64) (apps map[string]*mvccpb
 		}
 		if bodies[p[1]] == nil {
 			bodies[p[1]] = map[manifest.Digest]int64{}
-			apps[p[1]] = &mvccpb.KeyValue{Key: []byte("m/" + p[1])}
 		}
 		bodies[p[1]][manifest.Digest(p[2])] = kv.ModRevision
+		of := apps[p[1]]
+		if of.Bodies < kv.ModRevision {
+			of.Bodies = kv.ModRevision
+		}
+		apps[p[1]] = of // also without a manifest
 	})
 	if err == nil {
-		_, err = s.list(ctx, "m/", func(kv *mvccpb.KeyValue) { apps[string(kv.Key[len("m/"):])] = kv })
+		err = s.Newest(ctx, func(app string, revision int64) {
+			apps[app] = store.Stamp{Revision: revision, Bodies: apps[app].Bodies}
+		})
 	}
-	delete(apps, "")
-	return apps, bodies, err
+	if err != nil {
+		return 0, err
+	}
+	removed, err = s.collector.Collect(apps, keep, func(app string) (removed int, isFinal bool, err error) {
+		plan, err := store.NewPlan(reader{s, ctx, app}, keep)
+		if err != nil {
+			return 0, false, err
+		}
+		if plan.First > 0 {
+			removed, err = s.delete(ctx, "h/"+app+"/", headKey(app, plan.First))
+		}
+		for d, modified := range bodies[app] {
+			if err == nil && !plan.Named[d] {
+				var n int
+				n, err = s.deleteBody(ctx, app, d, modified)
+				removed += n
+			}
+		}
+		return removed, plan.IsFinal, err
+	})
+	if err != nil {
+		return removed, err
+	}
+	return removed, s.compact(ctx)
 }
 
 // compact has etcd forget what was overwritten or deleted.
@@ -102,6 +92,8 @@ func (s *Store) mark(ctx context.Context, age time.Duration) (revision int64, er
 	if err != nil {
 		return 0, err
 	}
+	s.mu.Lock()
+	defer s.mu.Unlock()
 	s.marks = append(s.marks, mark{r.Header.Revision, time.Now()})
 	for len(s.marks) > 1 && time.Since(s.marks[1].at) >= age {
 		s.marks = s.marks[1:]
@@ -112,62 +104,29 @@ func (s *Store) mark(ctx context.Context, age time.Duration) (revision int64, er
 	return s.marks[0].revision, nil
 }
 
-// delete deletes the keys from one to before another.
-func (s *Store) delete(ctx context.Context, from, end string) error {
-	return s.try(ctx, func(ctx context.Context) error {
-		_, err := s.Delete(ctx, from, clientv3.WithRange(end))
+// delete deletes the keys from one to before another, and returns how many they were.
+func (s *Store) delete(ctx context.Context, from, end string) (n int, err error) {
+	err = s.try(ctx, func(ctx context.Context) error {
+		r, err := s.Delete(ctx, from, clientv3.WithRange(end))
+		if err == nil {
+			n = int(r.Deleted)
+		}
 		return err
 	})
+	return n, err
 }
 
-// collect removes earlier manifests of an application, and bodies that none names.
-func (s *Store) collect(ctx context.Context, app string, keep store.Keep, bodies map[manifest.Digest]int64) (removed int, err error) {
-	var heads []*mvccpb.KeyValue
-	if _, err = s.list(ctx, "h/"+app+"/", func(kv *mvccpb.KeyValue) { heads = append(heads, kv) }); err != nil {
-		return 0, err
-	}
-	stay := store.NewPlan(keep, time.Now(), func(d manifest.Digest) ([]byte, error) { return s.body(ctx, app, d, 0) })
-	for i, stays := len(heads)-1, true; stays && i >= 0; i-- {
-		m, err := readHead(app, heads[i].Value)
-		if err == nil {
-			stays, err = stay.Add(m)
+// deleteBody deletes a body if nobody has stored it again since it was listed.
+func (s *Store) deleteBody(ctx context.Context, app string, d manifest.Digest, modified int64) (n int, err error) {
+	key := indexKey(app, d)
+	is := clientv3.Compare(clientv3.ModRevision(key), "=", modified)
+	parts := clientv3.OpDelete("b/"+app+"/"+string(d)+"/", clientv3.WithPrefix())
+	err = s.try(ctx, func(ctx context.Context) error {
+		r, err := s.Txn(ctx).If(is).Then(clientv3.OpDelete(key), parts).Commit()
+		if err == nil && r.Succeeded {
+			n = 1
 		}
-		if err != nil {
-			return 0, fmt.Errorf("%s: %w", app, err)
-		}
-	}
-	for removed < len(heads) && string(heads[removed].Key) < headKey(app, stay.First) {
-		removed++
-	}
-	if removed > 0 {
-		if err := s.delete(ctx, "h/"+app+"/", headKey(app, stay.First)); err != nil {
-			return 0, err
-		}
-	}
-	n, err := s.removeUnnamed(ctx, app, bodies, stay.Named)
-	return removed + n, err
+		return err
+	})
+	return n, err
 }
-
-// removeUnnamed deletes bodies that nobody has stored again since they were listed.
-func (s *Store) removeUnnamed(ctx context.Context, app string, bodies map[manifest.Digest]int64, named map[manifest.Digest]bool) (removed int, err error) {
-	for d, modified := range bodies {
-		if named[d] {
-			continue
-		}
-		key := indexKey(app, d)
-		is := clientv3.Compare(clientv3.ModRevision(key), "=", modified)
-		err := s.try(ctx, func(ctx context.Context) error {
-			r, err := s.Txn(ctx).If(is).Then(clientv3.OpDelete(key), clientv3.OpDelete(partPrefix(app, d), clientv3.WithPrefix())).Commit()
-			if err == nil && r.Succeeded {
-				removed++
-			}
-			return err
-		})
-		if err != nil {
-			return removed, err
-		}
-	}
-	return removed, nil
-}
-
-func partPrefix(app string, d manifest.Digest) string { return "b/" + app + "/" + string(d) + "/" }

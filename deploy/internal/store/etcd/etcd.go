@@ -53,11 +53,10 @@ type Store struct {
 
 	grace time.Duration // the least of a collection
 
-	collecting sync.Mutex
-	marks      []mark
-	collected  map[string]store.Collected // the applications of which nothing was to be removed
+	collector store.Collector
 
 	mu       sync.Mutex
+	marks    []mark
 	reported int64         // Watch has reported all swaps up to this revision of etcd
 	moved    chan struct{} // closed when reported grows
 	again    chan struct{} // asks for another watch
@@ -75,8 +74,7 @@ func Open(o Options) (*Store, error) {
 	if o.Logf == nil {
 		o.Logf = func(string, ...any) {}
 	}
-	return &Store{Client: c, logf: o.Logf, grace: leastGrace, collected: map[string]store.Collected{}, moved: make(chan struct{}),
-		again: make(chan struct{}, 1)}, nil
+	return &Store{Client: c, logf: o.Logf, grace: leastGrace, moved: make(chan struct{}), again: make(chan struct{}, 1)}, nil
 }
 
 // finalError returns what an error of etcd is for a caller if the same request again can't help, or nil.
@@ -191,61 +189,63 @@ func (s *Store) newestRevision(ctx context.Context, app string) (revision int64,
 	return revision, err
 }
 
-// Manifest returns the manifest of a revision.
-func (s *Store) Manifest(ctx context.Context, app string, revision int64, near *manifest.Manifest) (*manifest.Manifest, error) {
-	if revision == 0 {
-		var err error
-		if revision, err = s.newestRevision(ctx, app); err != nil {
-			return nil, err
+// A reader reads an application. Its manifests are there at one moment, and their pages for as long as a collection leaves them.
+type reader struct {
+	*Store
+	ctx context.Context
+	app string
+}
+
+// Heads returns the last manifests before a revision.
+func (r reader) Heads(before int64, most int) (all []*manifest.Manifest, err error) {
+	if before > 0 {
+		all, err = r.heads(before, most)
+		if err != nil || len(all) > 0 && all[0].Revision == before-1 {
+			return all, err
 		}
 	}
-	head, err := s.read(ctx, headKey(app, revision))
-	if err != nil {
-		return nil, fmt.Errorf("%s at %d: %w", app, revision, err)
+	newest, err := r.newestRevision(r.ctx, r.app)
+	if err != nil || before > 0 && before <= newest+1 {
+		return all, err
 	}
-	m, err := readHead(app, head)
-	if err == nil {
-		err = m.Fill(near, func(d manifest.Digest) ([]byte, error) { return s.body(ctx, app, d, 0) })
-	}
-	return m, err
+	return r.heads(newest+1, most)
 }
 
-func readHead(app string, head []byte) (*manifest.Manifest, error) {
-	m, err := manifest.ReadHead(head)
-	if err == nil && m.App != app {
-		err = fmt.Errorf("etcd: a manifest of %s is under %s: %w", m.App, app, store.ErrDamaged)
-	}
-	return m, err
-}
-
-// History returns the last manifests. Revisions have no gaps, so a server needn't read and sort more than these.
-func (s *Store) History(ctx context.Context, app string, before int64, most int) (all []*manifest.Manifest, err error) {
-	newest, err := s.newestRevision(ctx, app)
-	if err != nil {
-		return nil, err
-	}
-	if before == 0 || before > newest {
-		before = newest + 1
-	}
+// heads reads manifests whose revisions are the last ones before one. Revisions have no gaps, so a
+// server needn't read and sort more than these.
+func (r reader) heads(before int64, most int) (all []*manifest.Manifest, err error) {
 	first := before - int64(most)
 	if first < 0 {
 		first = 0
 	}
-	r, err := s.get(ctx, headKey(app, first), clientv3.WithRange(headKey(app, before)), clientv3.WithSort(clientv3.SortByKey, clientv3.SortDescend))
+	got, err := r.get(r.ctx, headKey(r.app, first), clientv3.WithRange(headKey(r.app, before)),
+		clientv3.WithSort(clientv3.SortByKey, clientv3.SortDescend))
 	if err != nil {
 		return nil, err
 	}
-	for _, kv := range r.Kvs {
-		m, err := readHead(app, kv.Value)
-		if err == nil {
-			err = m.FillMade(func(d manifest.Digest) ([]byte, error) { return s.body(ctx, app, d, 0) })
-		}
+	for _, kv := range got.Kvs {
+		var revision int64
+		_, _ = fmt.Sscanf(string(kv.Key[len("h//")+len(r.app):]), "%d", &revision)
+		m, err := store.ReadHead(r.app, revision, kv.Value)
 		if err != nil {
-			return nil, err
+			return nil, fmt.Errorf("etcd: %s: %w", kv.Key, err)
 		}
 		all = append(all, m)
 	}
 	return all, nil
+}
+
+// Page returns a page of a manifest.
+func (r reader) Page(d manifest.Digest) ([]byte, error) { return r.body(r.ctx, r.app, d, 0) }
+
+// Manifest returns the manifest of a revision.
+func (s *Store) Manifest(ctx context.Context, app string, revision int64, near *manifest.Manifest) (*manifest.Manifest, error) {
+	return store.ReadManifest(reader{s, ctx, app}, revision, near)
+}
+
+// History returns the last manifests.
+func (s *Store) History(ctx context.Context, app string, before int64, most int) ([]*manifest.Manifest, error) {
+	return store.ReadHistory(reader{s, ctx, app}, before, most)
 }
 
 // Body returns a body.

@@ -69,7 +69,7 @@ func copyDatabase(from, options, to string) (sum Summary, err error) {
 		return sum, err
 	}
 	defer db.Close()
-	st, err := check(db, true)
+	found, err := check(db, true)
 	if err == nil {
 		err = db.QueryRow("select count(distinct app) from manifests").Scan(&sum.Apps)
 	}
@@ -77,23 +77,19 @@ func copyDatabase(from, options, to string) (sum Summary, err error) {
 		return sum, fmt.Errorf("%s: %w", from, err)
 	}
 	info, err := made.Stat()
-	if err == nil {
-		sum.Changes, sum.Bytes = st.swaps, info.Size()
-		err = own(folder, made.Name())
-	}
-	if err == nil {
-		err = made.Sync()
-	}
-	if err == nil {
-		err = os.Link(made.Name(), to) // unlike a renaming it replaces nothing
-	}
-	if errors.Is(err, fs.ErrExist) {
-		err = fmt.Errorf("%s: %w", to, ErrExists)
-	}
 	if err != nil {
 		return sum, err
 	}
-	return sum, syncFolder(folder)
+	sum.Changes, sum.Bytes = found.swaps, info.Size()
+	err = inTurn(
+		func() error { return own(folder, made.Name()) },
+		made.Sync,
+		func() error { return os.Link(made.Name(), to) }, // unlike a renaming it replaces nothing
+		func() error { return syncFolder(folder) })
+	if errors.Is(err, fs.ErrExist) {
+		err = fmt.Errorf("%s: %w", to, ErrExists)
+	}
+	return sum, err
 }
 
 // own gives a file that root makes to the owner of the folder, whose gateway is to use it.

@@ -1,16 +1,17 @@
 package sqlite
 
 import (
+	"context"
 	"database/sql"
 	"errors"
 	"fmt"
 	"hash/crc32"
 	"io/fs"
-	"math"
 	"os"
 	"path/filepath"
 	"strconv"
 	"strings"
+	"sync"
 
 	"luvdregan.example/resb/deploy/internal/manifest"
 	"luvdregan.example/resb/deploy/internal/store"
@@ -40,32 +41,33 @@ insert into state values (1, 0, 0);
 commit;
 `
 
+// inTurn calls functions until one fails.
+func inTurn(steps ...func() error) (err error) {
+	for i := 0; i < len(steps) && err == nil; i++ {
+		err = steps[i]()
+	}
+	return err
+}
+
 // create makes an empty database. It has its name once it is whole.
 func create(path string) error {
-	made := path + ".new"
-	if err := os.Remove(made); err != nil && !errors.Is(err, fs.ErrNotExist) {
-		return err
-	}
+	made, folder := path+".new", filepath.Dir(path)
 	db, err := openDatabase(made, "")
 	if err != nil {
 		return err
 	}
-	if _, err = db.Exec(schema); err == nil {
-		err = db.Close()
-	}
-	if err == nil {
-		err = os.Chmod(made, 0o600) // and so is the WAL
-	}
-	if err == nil {
-		err = own(filepath.Dir(path), made)
-	}
-	if err == nil {
-		err = os.Rename(made, path)
-	}
+	defer db.Close()
+	err = inTurn(
+		func() error { _, err := db.Exec(schema); return err },
+		db.Close,
+		func() error { return os.Chmod(made, 0o600) }, // and so is the WAL
+		func() error { return own(folder, made) },
+		func() error { return os.Rename(made, path) },
+		func() error { return syncFolder(folder) })
 	if err != nil {
 		return fmt.Errorf("%s: %w", path, err)
 	}
-	return syncFolder(filepath.Dir(path))
+	return nil
 }
 
 func syncFolder(path string) error {
@@ -91,66 +93,63 @@ func rowDamaged(table string, err error, key ...any) error {
 	return damaged(fmt.Errorf("table %s, row %v: %v", table, key, err))
 }
 
-// check returns the state, or an error if the database is damaged. It reads all bodies, and the newest manifests or all of them.
-func check(db *sql.DB, whole bool) (st state, err error) {
+var errChecksum = errors.New("it has another checksum")
+
+// A checked is what check finds of a database that can be used.
+type checked struct {
+	state
+	mu      sync.Mutex
+	damaged []blob // without which all bundles can be read
+}
+
+// check returns an error if the database is damaged. It reads all bodies of each application, and
+// compares them with what the newest manifest names, or all of them. A bundle of the newest one needs
+// one of its two bodies.
+func check(db *sql.DB, whole bool) (*checked, error) {
+	found := &checked{}
 	if err := checkFile(db); err != nil {
-		return st, damaged(err)
+		return nil, damaged(err)
 	}
-	var checks []func(tx *sql.Tx) error
-	err = inTx(db, func(tx *sql.Tx) error {
-		var last, sum int64
-		if err := tx.QueryRow("select swaps, revisions from state where one = 1").Scan(&st.swaps, &st.revisions); err != nil {
+	var apps []string
+	err := inTx(context.Background(), db, func(tx *sql.Tx) error {
+		var sum int64
+		row := tx.QueryRow("select swaps, revisions from state where one = 1")
+		if err := row.Scan(&found.swaps, &found.revisions); err != nil {
 			return fmt.Errorf("table state: %w", err)
-		}
-		if err := tx.QueryRow("select ifnull(max(rowid), 0) from bodies").Scan(&last); err != nil {
-			return err
-		}
-		for step, from := last/64+1, int64(0); from <= last; from += step {
-			from := from
-			checks = append(checks, func(tx *sql.Tx) error { return checkBodies(tx, from, from+step) })
 		}
 		err := newest(tx, func(app string, revision int64) {
 			sum += revision
-			checks = append(checks, func(tx *sql.Tx) error { return checkApp(tx, app, whole) })
+			apps = append(apps, app)
 		})
-		if err == nil && sum != st.revisions {
-			err = fmt.Errorf("table manifests has %d revisions, and table state says %d", sum, st.revisions)
+		if err == nil && sum != found.revisions {
+			err = fmt.Errorf("table manifests has %d revisions, and table state says %d", sum, found.revisions)
 		}
 		return err
 	})
 	if err == nil {
-		err = checkAll(db, checks)
+		err = found.checkAll(db, apps, whole)
 	}
 	if err != nil {
-		err = damaged(err)
+		return nil, damaged(err)
 	}
-	return st, err
+	return found, nil
 }
 
-func inTx(db *sql.DB, do func(tx *sql.Tx) error) error {
-	tx, err := db.Begin()
-	if err != nil {
-		return err
-	}
-	defer func() { _ = tx.Rollback() }()
-	return do(tx)
-}
-
-// checkAll makes checks, some at once.
-func checkAll(db *sql.DB, checks []func(tx *sql.Tx) error) (err error) {
-	next, failed := make(chan func(tx *sql.Tx) error), make(chan error, len(checks))
+// checkAll checks applications, some at once.
+func (c *checked) checkAll(db *sql.DB, apps []string, whole bool) (err error) {
+	next, failed := make(chan string), make(chan error, len(apps))
 	for w := 0; w < readers; w++ {
 		go func() {
-			for check := range next {
-				failed <- inTx(db, check)
+			for app := range next {
+				failed <- inTx(context.Background(), db, func(tx *sql.Tx) error { return c.checkApp(reader{tx, app}, whole) })
 			}
 		}()
 	}
-	for _, check := range checks {
-		next <- check
+	for _, app := range apps {
+		next <- app
 	}
 	close(next)
-	for range checks {
+	for range apps {
 		if one := <-failed; one != nil {
 			err = one
 		}
@@ -158,51 +157,47 @@ func checkAll(db *sql.DB, checks []func(tx *sql.Tx) error) (err error) {
 	return err
 }
 
-// checkBodies compares bodies with their checksums.
-func checkBodies(tx *sql.Tx, from, end int64) error {
-	return each(tx, func(rows *sql.Rows) error {
-		var app, digest string
-		var crc uint32
-		var body sql.RawBytes
-		err := rows.Scan(&app, &digest, &crc, &body)
-		if err == nil && checksum(body) != crc {
-			err = rowDamaged("bodies", errors.New("it has another checksum"), app, digest)
-		}
-		return err
-	}, "select app, digest, crc, body from bodies where rowid >= ? and rowid < ?", from, end)
-}
-
-// checkApp checks that all is there which the newest manifest of an application names, or any of them.
-func checkApp(tx *sql.Tx, app string, whole bool) error {
-	done, blobs, most := manifest.Sweep{}, blobsOf(tx, app), 1
-	if whole {
-		most = math.MaxInt32
-	}
-	err := eachHead(tx, app, math.MaxInt64, most, func(m *manifest.Manifest) error {
-		_, err := done.Add(m, blobs)
-		return err
-	})
+// checkApp compares the bodies of an application with what its manifests name.
+func (c *checked) checkApp(from reader, whole bool) error {
+	sound, err := bodiesOf(from)
+	var sweep manifest.Sweep
 	if err == nil {
-		err = eachDigest(tx, app, func(d manifest.Digest) { delete(done.Named, d) })
+		err = store.EachHead(from, func(m *manifest.Manifest) (more bool, err error) {
+			bundles, err := sweep.Add(m, from.Page)
+			if err == nil && whole {
+				err = m.FillMade(from.Page)
+			}
+			for _, b := range bundles {
+				if err == nil && !sound[b.Digest] && (whole || !sound[b.File]) {
+					fault := fmt.Errorf("the bundle %s can't be read", b.Locale)
+					err = rowDamaged("bodies", fault, from.app, b.Digest)
+				}
+			}
+			return whole, err
+		})
 	}
-	for d := range done.Named {
-		if err == nil {
-			err = fmt.Errorf("%w: %s", store.ErrNoBody, d)
+	c.mu.Lock()
+	defer c.mu.Unlock()
+	for d, is := range sound {
+		if !is {
+			c.damaged = append(c.damaged, blob{from.app, d})
 		}
-	}
-	if errors.Is(err, store.ErrNoBody) {
-		err = rowDamaged("bodies", err, app)
 	}
 	return err
 }
 
-func eachDigest(tx *sql.Tx, app string, do func(d manifest.Digest)) error {
-	return each(tx, func(rows *sql.Rows) error {
-		var d manifest.Digest
-		err := rows.Scan(&d)
-		do(d)
-		return err
-	}, "select digest from bodies where app = ?", app)
+// bodiesOf compares the bodies of an application with their checksums.
+func bodiesOf(from reader) (sound map[manifest.Digest]bool, err error) {
+	sound = map[manifest.Digest]bool{}
+	var d manifest.Digest
+	var crc uint32
+	var body sql.RawBytes
+	q := query{"select digest, crc, body from bodies where app = ?", []any{from.app}}
+	err = q.each(from.tx, func() error {
+		sound[d] = checksum(body) == crc
+		return nil
+	}, &d, &crc, &body)
+	return sound, err
 }
 
 var castagnoli = crc32.MakeTable(crc32.Castagnoli)
@@ -236,26 +231,20 @@ const marker = "acknowledged"
 func (s *Store) openMarker() error {
 	path := filepath.Join(s.folder, marker)
 	content, err := os.ReadFile(path)
-	if err == nil {
+	if err == nil && len(content) > 0 { // one that was made just before a kill is empty
 		number, err := strconv.ParseInt(strings.TrimSpace(string(content)), 10, 64)
 		if err != nil || number > s.swaps {
 			return fmt.Errorf("%s: %w: acknowledged changes are missing: the last one was %.20q, the database has %d; to start with what the database "+
 				"has, remove this file", path, store.ErrDamaged, content, s.swaps)
 		}
-	} else if !errors.Is(err, fs.ErrNotExist) {
+	} else if err != nil && !errors.Is(err, fs.ErrNotExist) {
 		return err
 	}
 	if s.marker, err = os.OpenFile(path, os.O_CREATE|os.O_RDWR, 0o600); err != nil {
 		return err
 	}
 	s.mark()
-	if err := own(s.folder, path); err != nil {
-		return err
-	}
-	if err := s.marker.Sync(); err != nil {
-		return err
-	}
-	return syncFolder(s.folder)
+	return inTurn(func() error { return own(s.folder, path) }, s.marker.Sync, func() error { return syncFolder(s.folder) })
 }
 
 // mark writes the number of the last change. One that can't be written leaves an earlier one.

@@ -193,3 +193,82 @@ func TestDamageNamesTheRow(t *testing.T) {
 		}
 	}
 }
+
+// spoil changes a database.
+func spoil(t testing.TB, folder, change string, args ...any) {
+	t.Helper()
+	db, err := sql.Open("sqlite3", filepath.Join(folder, database))
+	Must(t, err)
+	_, err = db.Exec(change, args...)
+	Must(t, err)
+	Must(t, db.Close())
+}
+
+const spoilBody = "update bodies set body = zeroblob(3) where app = ? and digest = ?"
+
+// withFile returns a store with a bundle whose compiled file is stored too, and an earlier version.
+func withFile(t testing.TB) (folder string, now *manifest.Manifest) {
+	t.Helper()
+	folder = t.TempDir()
+	s, err := Open(Options{Folder: folder, Create: true})
+	Must(t, err)
+	before := Make(t, s, Empty("shop"), Put("de", "earlier"))
+	edit := Put("de", "text")
+	edit.File = manifest.DigestOf([]byte("file"))
+	now, bodies := Next(t, before, edit)
+	bodies[edit.File] = []byte("file")
+	Must(t, s.Swap(Ctx, now, bodies))
+	Must(t, s.Close())
+	return folder, now
+}
+
+// TestADamagedBody has one of the two bodies of a bundle damaged, and an earlier version: the store opens, and a body that is stored again is
+// sound. If both are damaged the error names the application, the locale and the digest.
+func TestADamagedBody(t *testing.T) {
+	folder, now := withFile(t)
+	b := now.Bundles[0]
+	earlier := Put("de", "earlier")
+	for _, d := range []manifest.Digest{b.File, earlier.Digest} {
+		spoil(t, folder, spoilBody, "shop", d)
+	}
+	s, err := Open(Options{Folder: folder})
+	Must(t, err)
+	if _, err := s.Body(Ctx, "shop", b.FileBody()); !errors.Is(err, store.ErrDamaged) {
+		t.Error("the file: ", err)
+	}
+	Check(t, s, now)
+	again, bodies := Next(t, now, earlier)
+	Must(t, s.Swap(Ctx, again, bodies))
+	Check(t, s, again)
+	Must(t, s.Close())
+	Check(t, opened(t, folder), again)
+
+	folder, _ = withFile(t)
+	spoil(t, folder, spoilBody, "shop", b.Digest)
+	s, err = Open(Options{Folder: folder})
+	Must(t, err)
+	if file, err := s.Body(Ctx, "shop", b.FileBody()); err != nil || string(file) != "file" {
+		t.Error(string(file), err)
+	}
+	if _, err := Backup(folder, filepath.Join(t.TempDir(), "copy")); !errors.Is(err, store.ErrDamaged) {
+		t.Error("a backup without the text: ", err)
+	}
+	Must(t, s.Close())
+	spoil(t, folder, spoilBody, "shop", b.File)
+	_, err = Open(Options{Folder: folder})
+	if !errors.Is(err, store.ErrDamaged) || !strings.Contains(err.Error(), "[shop "+string(b.Digest)+"]: the bundle de ") {
+		t.Error("none can be read: ", err)
+	}
+}
+
+// TestABackupWithoutAFile copies a store of which only a compiled file is damaged.
+func TestABackupWithoutAFile(t *testing.T) {
+	folder, now := withFile(t)
+	spoil(t, folder, spoilBody, "shop", now.Bundles[0].File)
+	file, into := filepath.Join(t.TempDir(), "copy"), t.TempDir()
+	_, err := Backup(folder, file)
+	Must(t, err)
+	_, err = Restore(into, file)
+	Must(t, err)
+	Check(t, opened(t, into), now)
+}

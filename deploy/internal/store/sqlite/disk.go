@@ -23,7 +23,8 @@ func (s *Store) fits(bytes int) bool {
 		return true
 	}
 	var pages, page int64
-	if s.query("select freelist_count, page_size from pragma_freelist_count, pragma_page_size", nil, &pages, &page) != nil {
+	row := s.writer.QueryRow("select freelist_count, page_size from pragma_freelist_count, pragma_page_size")
+	if row.Scan(&pages, &page) != nil {
 		return false
 	}
 	grows := int64(bytes) - pages*page

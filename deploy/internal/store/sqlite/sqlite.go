@@ -7,11 +7,13 @@ import (
 	"database/sql"
 	"errors"
 	"fmt"
+	"log"
 	"math"
 	"os"
 	"path/filepath"
 	"strings"
 	"sync"
+	"sync/atomic"
 	"syscall"
 	"time"
 
@@ -38,22 +40,21 @@ type Options struct {
 
 // A Store is the database of a folder. One process at a time has it.
 type Store struct {
-	folder   string
-	lock     *os.File
-	reader   *sql.DB
-	body     *sql.Stmt // of reader
-	writer   *sql.DB   // with one connection
-	prepared map[string]*sql.Stmt
-	marker   *os.File // has the number of the last change that was acknowledged
-	spare    int64    // bytes that a change leaves free on the disk
+	folder string
+	lock   *os.File
+	reader *sql.DB
+	writer *sql.DB  // with one connection
+	marker *os.File // has the number of the last change that was acknowledged
+	spare  int64    // bytes that a change leaves free on the disk
 
 	short, long chan *job
 	closing     chan struct{}
 	ended       chan struct{}
 	committing  sync.Mutex   // held until the changes of a transaction are reported
 	reading     sync.RWMutex // held while a connection reads, so that a checkpoint can wait until none does
-	collecting  sync.Mutex
-	collected   map[string]store.Collected // the applications of which nothing was to be removed
+	collector   store.Collector
+	damaged     sync.Map    // of true by blob: what is stored of it isn't what was written
+	unwiped     atomic.Bool // the WAL may have what was erased
 
 	state              // of the database; the goroutine that writes has it
 	unmoved int        // bytes that were written since the last checkpoint, about; the same
@@ -65,8 +66,14 @@ type Store struct {
 	watched chan struct{}                    // closed once Watch has reported all that was there
 }
 
+// A blob names a row of the table bodies.
+type blob struct {
+	app    string
+	digest manifest.Digest
+}
+
 // Open opens the store of a folder. If something in it isn't what was acknowledged it returns an error that wraps store.ErrDamaged and names the
-// place.
+// place; what is damaged and not needed for the present bundles is only logged.
 func Open(o Options) (*Store, error) {
 	if o.Create {
 		if err := os.MkdirAll(o.Folder, 0o700); err != nil {
@@ -77,8 +84,8 @@ func Open(o Options) (*Store, error) {
 	if err != nil {
 		return nil, err
 	}
-	s := &Store{folder: o.Folder, lock: lock, short: make(chan *job), long: make(chan *job), prepared: map[string]*sql.Stmt{},
-		collected: map[string]store.Collected{}, closing: make(chan struct{}), ended: make(chan struct{}), watched: make(chan struct{})}
+	s := &Store{folder: o.Folder, lock: lock, short: make(chan *job), long: make(chan *job),
+		closing: make(chan struct{}), ended: make(chan struct{}), watched: make(chan struct{})}
 	if err := s.open(o); err != nil {
 		s.release()
 		return nil, err
@@ -110,6 +117,10 @@ func (s *Store) open(o Options) error {
 	if _, err := os.Stat(filepath.Join(s.folder, earlier)); err == nil {
 		return fmt.Errorf("%s: %s is the store of an earlier version, which isn't read; take an empty folder, and send all bundles again", s.folder, earlier)
 	}
+	unfinished, _ := filepath.Glob(path + ".new*") // of processes that were killed
+	for _, one := range unfinished {
+		_ = os.Remove(one)
+	}
 	if info, err := os.Stat(path); err != nil || info.Size() == 0 {
 		if !o.Create {
 			return fmt.Errorf("%s: %w; -init makes an empty one", s.folder, ErrMissing)
@@ -118,38 +129,36 @@ func (s *Store) open(o Options) error {
 			return err
 		}
 	}
-	// What is deleted isn't overwritten, because a full disk would lack the space; Debian's SQLite does it by default.
+	// SQLite needn't overwrite what it deletes, for which a full disk would lack the space; Debian's does it by default.
 	options := "_journal_mode=WAL&_synchronous=FULL&_busy_timeout=5000&_secure_delete=off"
 	var err error
 	if s.writer, err = openDatabase(path, options); err != nil {
 		return err
 	}
 	s.writer.SetMaxOpenConns(1)
-	_, err = s.exec("pragma wal_autocheckpoint = 0") // also finds out if the file can be opened
-	if err == nil {
-		_, err = s.exec("pragma journal_size_limit = 4194304")
-	}
+	// also finds out if the file can be opened
+	_, err = s.writer.Exec("pragma wal_autocheckpoint = 0; pragma journal_size_limit = 4194304")
 	if err == nil {
 		s.reader, err = openDatabase(path, options+"&_query_only=on")
 	}
+	var found *checked
 	if err == nil {
 		s.reader.SetMaxOpenConns(readers)
 		s.reader.SetMaxIdleConns(readers)
-		s.state, err = check(s.reader, false)
-	}
-	if err == nil {
-		s.body, err = s.reader.Prepare(selectBody)
+		found, err = check(s.reader, false)
 	}
 	if err != nil {
 		return fmt.Errorf("%s: %w", path, damaged(err))
 	}
+	s.state = found.state
+	for _, of := range found.damaged {
+		log.Printf("%s: table bodies, row [%s %s]: %v; all bundles are answered without it", path, of.app, of.digest, errChecksum)
+		s.damaged.Store(of, true)
+	}
 	if err := s.openMarker(); err != nil {
 		return err
 	}
-	// processes that were killed before they moved theirs may have left a long WAL
-	if info, err := os.Stat(path + "-wal"); err == nil && info.Size() > someWAL {
-		_ = s.checkpoint("truncate")
-	}
+	s.truncate() // the WAL of a process that was killed may be long, or have what was erased
 	return nil
 }
 
@@ -159,9 +168,6 @@ func openDatabase(path, options string) (*sql.DB, error) {
 
 // release closes what is open. The last connection moves the changes from the WAL into the database.
 func (s *Store) release() {
-	for _, prepared := range s.prepared {
-		_ = prepared.Close()
-	}
 	for _, db := range []*sql.DB{s.reader, s.writer} {
 		if db != nil {
 			_ = db.Close()
@@ -185,7 +191,15 @@ func (s *Store) Close() error {
 func (s *Store) read(ctx context.Context, do func(tx *sql.Tx) error) error {
 	s.reading.RLock()
 	defer s.reading.RUnlock()
-	tx, err := s.reader.BeginTx(ctx, nil)
+	err := inTx(ctx, s.reader, do)
+	if ctx.Err() != nil { // which closes the rows: what was read may be a part, without an error
+		err = fmt.Errorf("%w: %v", store.ErrUnreached, ctx.Err())
+	}
+	return err
+}
+
+func inTx(ctx context.Context, db *sql.DB, do func(tx *sql.Tx) error) error {
+	tx, err := db.BeginTx(ctx, nil)
 	if err != nil {
 		return err
 	}
@@ -193,106 +207,99 @@ func (s *Store) read(ctx context.Context, do func(tx *sql.Tx) error) error {
 	return do(tx)
 }
 
-// each calls a function for each row.
-func each(tx *sql.Tx, do func(rows *sql.Rows) error, query string, args ...any) error {
-	rows, err := tx.Query(query, args...)
+// A query is a statement with its arguments.
+type query struct {
+	text string
+	args []any
+}
+
+// each reads the columns of each row, and then calls a function.
+func (q query) each(tx *sql.Tx, do func() error, columns ...any) error {
+	rows, err := tx.Query(q.text, q.args...)
 	if err != nil {
 		return err
 	}
 	defer rows.Close()
 	for rows.Next() {
-		if err := do(rows); err != nil {
+		if err := rows.Scan(columns...); err != nil {
+			return err
+		}
+		if err := do(); err != nil {
 			return err
 		}
 	}
 	return rows.Err()
 }
 
-// eachHead calls a function for the last manifests of an application before a revision, the newest first.
-func eachHead(tx *sql.Tx, app string, before int64, most int, do func(m *manifest.Manifest) error) error {
-	const query = "select revision, head from manifests where app = ? and revision < ? order by revision desc limit ?"
-	return each(tx, func(rows *sql.Rows) error {
-		var revision int64
-		var head []byte
-		if err := rows.Scan(&revision, &head); err != nil {
-			return err
-		}
-		m, err := manifest.ReadHead(head)
-		if err == nil && (m.App != app || m.Revision != revision) {
-			err = errors.New("it is the manifest of another row")
-		}
-		if err != nil {
-			return rowDamaged("manifests", err, app, revision)
-		}
-		return do(m)
-	}, query, app, before, most)
+// A reader reads an application.
+type reader struct {
+	tx  *sql.Tx
+	app string
 }
 
-const selectBody = "select crc, body from bodies where app = ? and digest = ?"
-
-// blobsOf returns the function that reads a body, or a page of a manifest, which is stored like one.
-func blobsOf(tx *sql.Tx, app string) func(manifest.Digest) ([]byte, error) {
-	prepared, err := tx.Prepare(selectBody)
-	return func(d manifest.Digest) ([]byte, error) {
-		if err != nil {
-			return nil, err
-		}
-		return scanBlob(prepared.QueryRow(app, d), app, d)
+// Heads returns the last manifests before a revision.
+func (r reader) Heads(before int64, most int) (all []*manifest.Manifest, err error) {
+	if before == 0 {
+		before = math.MaxInt64
 	}
+	q := query{`select revision, head from manifests where app = ? and revision < ?
+		order by revision desc limit ?`, []any{r.app, before, most}}
+	var revision int64
+	var head []byte
+	err = q.each(r.tx, func() error {
+		m, err := store.ReadHead(r.app, revision, head)
+		if err != nil {
+			return rowDamaged("manifests", err, r.app, revision)
+		}
+		all = append(all, m)
+		return nil
+	}, &revision, &head)
+	return all, err
 }
 
-func scanBlob(row *sql.Row, app string, d manifest.Digest) (body []byte, err error) {
+// Page returns a page of a manifest, or a body, which are stored alike.
+func (r reader) Page(d manifest.Digest) (body []byte, err error) {
 	var crc uint32
+	row := r.tx.QueryRow("select crc, body from bodies where app = ? and digest = ?", r.app, d)
 	if err = row.Scan(&crc, &body); errors.Is(err, sql.ErrNoRows) {
-		return nil, fmt.Errorf("%w: %s, %s", store.ErrNoBody, app, d)
+		return nil, fmt.Errorf("%w: %s, %s", store.ErrNoBody, r.app, d)
 	}
 	if err == nil && checksum(body) != crc {
-		err = rowDamaged("bodies", errors.New("it has another checksum"), app, d)
+		err = rowDamaged("bodies", errChecksum, r.app, d)
 	}
 	return body, err
 }
 
 // Manifest returns the manifest of a revision.
-func (s *Store) Manifest(ctx context.Context, app string, revision int64, near *manifest.Manifest) (m *manifest.Manifest, err error) {
-	before := revision + 1
-	if revision == 0 {
-		before = math.MaxInt64
-	}
+func (s *Store) Manifest(ctx context.Context, app string, revision int64, near *manifest.Manifest) (
+	m *manifest.Manifest, err error) {
 	err = s.read(ctx, func(tx *sql.Tx) error {
-		return eachHead(tx, app, before, 1, func(found *manifest.Manifest) error {
-			if revision != 0 && found.Revision != revision {
-				return nil
-			}
-			m = found
-			return m.Fill(near, blobsOf(tx, app))
-		})
+		m, err = store.ReadManifest(reader{tx, app}, revision, near)
+		return err
 	})
-	if err == nil && m == nil {
-		err = fmt.Errorf("%w: %s at %d", store.ErrNoVersion, app, revision)
-	}
 	return m, err
 }
 
 // History returns the last manifests.
-func (s *Store) History(ctx context.Context, app string, before int64, most int) (all []*manifest.Manifest, err error) {
-	if before == 0 {
-		before = math.MaxInt64
-	}
+func (s *Store) History(ctx context.Context, app string, before int64, most int) (
+	all []*manifest.Manifest, err error) {
 	err = s.read(ctx, func(tx *sql.Tx) error {
-		blobs := blobsOf(tx, app)
-		return eachHead(tx, app, before, most, func(m *manifest.Manifest) error {
-			all = append(all, m)
-			return m.FillMade(blobs)
-		})
+		all, err = store.ReadHistory(reader{tx, app}, before, most)
+		return err
 	})
 	return all, err
 }
 
 // Body returns a body.
-func (s *Store) Body(_ context.Context, app string, b manifest.Bundle) ([]byte, error) {
-	s.reading.RLock()
-	defer s.reading.RUnlock()
-	return scanBlob(s.body.QueryRow(app, b.Digest), app, b.Digest)
+func (s *Store) Body(ctx context.Context, app string, b manifest.Bundle) (body []byte, err error) {
+	err = s.read(ctx, func(tx *sql.Tx) error {
+		body, err = reader{tx, app}.Page(b.Digest)
+		return err
+	})
+	if errors.Is(err, store.ErrDamaged) {
+		s.damaged.Store(blob{app, b.Digest}, true)
+	}
+	return body, err
 }
 
 // selectNewest finds each application with its last revision by a few steps in the index.
@@ -305,15 +312,12 @@ with recursive n (app) as (
 select app, (select max(revision) from manifests where app = n.app) from n where app is not null`
 
 func newest(tx *sql.Tx, do func(app string, revision int64)) error {
-	return each(tx, func(rows *sql.Rows) error {
-		var app string
-		var revision int64
-		err := rows.Scan(&app, &revision)
-		if err == nil {
-			do(app, revision)
-		}
-		return err
-	}, selectNewest)
+	var app string
+	var revision int64
+	return query{text: selectNewest}.each(tx, func() error {
+		do(app, revision)
+		return nil
+	}, &app, &revision)
 }
 
 // Newest calls a function for the newest manifest of each application.

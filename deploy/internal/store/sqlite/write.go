@@ -40,31 +40,8 @@ type transaction struct {
 	state
 }
 
-// prepare prepares a statement of the connection that writes, once.
-func (s *Store) prepare(query string) (prepared *sql.Stmt, err error) {
-	if prepared = s.prepared[query]; prepared == nil {
-		if prepared, err = s.writer.Prepare(query); err == nil {
-			s.prepared[query] = prepared
-		}
-	}
-	return prepared, err
-}
-
 func (s *Store) exec(query string, args ...any) (sql.Result, error) {
-	prepared, err := s.prepare(query)
-	if err != nil {
-		return nil, err
-	}
-	return prepared.Exec(args...)
-}
-
-// query reads one row.
-func (s *Store) query(query string, args []any, to ...any) error {
-	prepared, err := s.prepare(query)
-	if err != nil {
-		return err
-	}
-	return prepared.QueryRow(args...).Scan(to...)
+	return s.writer.Exec(query, args...)
 }
 
 // submit has a job done. The context counts only until a transaction has it.
@@ -190,9 +167,6 @@ func (s *Store) transact(group []*job) error {
 	t := &transaction{s, s.state}
 	err := t.all(group)
 	if err == nil {
-		_, err = t.exec("update state set swaps = ?, revisions = ? where one = 1", t.swaps, t.revisions)
-	}
-	if err == nil {
 		_, err = s.exec("commit")
 	}
 	if err != nil {
@@ -202,33 +176,20 @@ func (s *Store) transact(group []*job) error {
 	s.state = t.state
 	s.mark()
 	if wipes {
-		_ = s.checkpoint("truncate") // the WAL has what was erased
+		s.truncate() // the WAL has what was erased
 	}
 	return nil
 }
 
-// all does the jobs, each in a savepoint.
+// all does the jobs. One that conflicts has changed nothing.
 func (t *transaction) all(group []*job) error {
 	for _, j := range group {
-		before := t.state // the job may fail
-		if _, err := t.exec("savepoint job"); err != nil {
-			return err
-		}
-		j.err = j.do(t)
-		if j.err != nil && !errors.Is(j.err, store.ErrConflict) {
+		if j.err = j.do(t); j.err != nil && !errors.Is(j.err, store.ErrConflict) {
 			return j.err
 		}
-		if j.err != nil {
-			t.state = before
-			if _, err := t.exec("rollback to job"); err != nil {
-				return err
-			}
-		}
-		if _, err := t.exec("release job"); err != nil {
-			return err
-		}
 	}
-	return nil
+	_, err := t.exec("update state set swaps = ?, revisions = ? where one = 1", t.swaps, t.revisions)
+	return err
 }
 
 // Swap stores a manifest with its bodies. Once its transaction has begun it doesn't give up, so it knows whether it stored them, unless a sync
@@ -256,52 +217,49 @@ func (s *Store) Swap(ctx context.Context, next *manifest.Manifest, bodies map[ma
 // swap stores a manifest if the application has the one before.
 func (t *transaction) swap(next *manifest.Manifest, head []byte, blobs map[manifest.Digest][]byte) error {
 	var revision int64
-	var before manifest.Manifest
 	var stored []byte
-	err := t.query("select revision, head from manifests where app = ? order by revision desc limit 1", []any{next.App}, &revision, &stored)
+	now := &manifest.Manifest{}
+	err := t.writer.QueryRow("select revision, head from manifests where app = ? order by revision desc limit 1", next.App).Scan(&revision, &stored)
 	if err == nil {
-		var now *manifest.Manifest
-		if now, err = manifest.ReadHead(stored); err == nil {
-			before = *now
-		}
+		now, err = manifest.ReadHead(stored)
 	} else if errors.Is(err, sql.ErrNoRows) {
 		err = nil
 	}
 	switch {
 	case err != nil:
 		return err
-	case before.ID != next.Before || revision > 0 && revision != next.Revision-1:
+	case now.ID != next.Before || revision > 0 && revision != next.Revision-1:
 		return store.ErrConflict
 	}
 	t.revisions += next.Revision - revision
-	for i := 0; next.Erased && i < 2; i++ {
-		if _, err := t.exec([]string{"delete from manifests where app = ?", "delete from bodies where app = ?"}[i], next.App); err != nil {
-			return err
-		}
+	if next.Erased {
+		_, err = t.exec("delete from manifests where app = ?; delete from bodies where app = ?", next.App, next.App)
 	}
-	if err := t.put(next.App, blobs); err != nil {
-		return err
+	if err == nil {
+		err = t.put(next.App, blobs)
 	}
-	_, err = t.exec("insert into manifests values (?, ?, ?)", next.App, next.Revision, head)
+	if err == nil {
+		_, err = t.exec("insert into manifests values (?, ?, ?)", next.App, next.Revision, head)
+	}
 	return err
 }
 
 // put stores bodies with the number of this change, so that a plan which was made before doesn't remove them. For one that is there SQLite doesn't
-// write the body again.
+// write the body again, unless it is damaged.
 func (t *transaction) put(app string, blobs map[manifest.Digest][]byte) error {
 	t.swaps++
 	for digest, body := range blobs {
-		done, err := t.exec("update bodies set swap = ? where app = ? and digest = ?", t.swaps, app, digest)
-		if err != nil {
-			return err
-		}
-		if there, _ := done.RowsAffected(); there > 0 {
-			continue
+		if _, is := t.damaged.Load(blob{app, digest}); is {
+			if _, err := t.exec("delete from bodies where app = ? and digest = ?", app, digest); err != nil {
+				return err
+			}
 		}
 		if body == nil {
 			body = []byte{}
 		}
-		if _, err := t.exec("insert into bodies values (?, ?, ?, ?, ?)", app, digest, t.swaps, checksum(body), body); err != nil {
+		_, err := t.exec(`insert into bodies values (?, ?, ?, ?, ?)
+			on conflict (app, digest) do update set swap = excluded.swap`, app, digest, t.swaps, checksum(body), body)
+		if err != nil {
 			return err
 		}
 	}
@@ -370,6 +328,9 @@ func (s *Store) boundWAL() {
 	_ = s.checkpoint(how)
 }
 
+// truncate moves the WAL into the database and empties it. If that fails the next collection tries again.
+func (s *Store) truncate() { s.unwiped.Store(s.checkpoint("truncate") != nil) }
+
 // checkpoint moves the changes from the WAL into the database. SQLite's own checkpoints are off, as they don't say if a sync failed.
 func (s *Store) checkpoint(how string) error {
 	if how == "truncate" {
@@ -379,7 +340,8 @@ func (s *Store) checkpoint(how string) error {
 		defer func() { _, _ = s.exec("pragma busy_timeout = 5000") }()
 	}
 	var busy, pages, moved int
-	if err := s.query("pragma wal_checkpoint("+how+")", nil, &busy, &pages, &moved); err != nil {
+	row := s.writer.QueryRow("pragma wal_checkpoint(" + how + ")")
+	if err := row.Scan(&busy, &pages, &moved); err != nil {
 		return s.judge(err)
 	}
 	if busy != 0 {

@@ -29,7 +29,7 @@ func Suite(t *testing.T, fresh func(t *testing.T) Kind) {
 	for name, test := range map[string]func(*testing.T, Kind){
 		"Bodies": testBodies, "Conflicts": testConflicts, "Pages": testPages, "History": testHistory, "Erase": testErase, "Races": testRaces,
 		"Watch": testWatch, "Collect": testCollect, "CollectUnderWriters": testCollectUnderWriters, "Release": testRelease, "Copy": testCopy,
-		"GivenUp": testGivenUp,
+		"GivenUp": testGivenUp, "Gone": testGone,
 	} {
 		t.Run(name, func(t *testing.T) { test(t, fresh(t)) })
 	}
@@ -62,7 +62,10 @@ func Next(t testing.TB, now *manifest.Manifest, edits ...manifest.Edit) (*manife
 	if refusal != nil {
 		t.Fatal(refusal)
 	}
-	had, bodies := now.Names(), map[manifest.Digest][]byte{}
+	had, bodies := map[manifest.Digest]bool{}, map[manifest.Digest][]byte{}
+	for _, b := range now.Bundles {
+		had[b.Digest] = true
+	}
 	for _, e := range edits {
 		if e.Body != nil && !had[e.Digest] {
 			bodies[e.Digest] = e.Body
@@ -490,6 +493,9 @@ func testGivenUp(t *testing.T, k Kind) {
 		ctx, cancel := context.WithTimeout(Ctx, time.Duration(i*i)*10*time.Microsecond)
 		err := s.Swap(ctx, next, bodies)
 		cancel()
+		if k.Shared && errors.Is(err, store.ErrUnsettled) { // it may be stored at any time; a second one finds it
+			err = s.Swap(Ctx, next, bodies)
+		}
 		got, there := s.Manifest(Ctx, "a", next.Revision, nil)
 		stored := there == nil && got.ID == next.ID
 		switch {
@@ -498,5 +504,28 @@ func testGivenUp(t *testing.T, k Kind) {
 		case stored:
 			now = next
 		}
+	}
+}
+
+// testGone has readers go at any moment: they get what they asked for, or that the store isn't reached.
+func testGone(t *testing.T, k Kind) {
+	s := k.Open(t)
+	now := Empty("a")
+	for i := 0; i < 20; i++ {
+		now = Make(t, s, now, Put("de", fmt.Sprint("text ", i)))
+	}
+	for i := 0; i < 300; i++ {
+		ctx, cancel := context.WithTimeout(Ctx, time.Duration(i)*3*time.Microsecond)
+		all, err := s.History(ctx, "a", 0, 20)
+		if err == nil && len(all) != 20 || err != nil && !errors.Is(err, store.ErrUnreached) {
+			t.Errorf("%d manifests: %v", len(all), err)
+		}
+		if _, err := s.Manifest(ctx, "a", 0, nil); err != nil && !errors.Is(err, store.ErrUnreached) {
+			t.Error("a manifest: ", err)
+		}
+		if _, err := s.Body(ctx, "a", now.Bundles[0]); err != nil && !errors.Is(err, store.ErrUnreached) {
+			t.Error("a body: ", err)
+		}
+		cancel()
 	}
 }
