@@ -40,12 +40,10 @@ func (r *Replica) Change(ctx context.Context, q Request) (made *manifest.Manifes
 	}
 	a := r.use(q.App)
 	defer r.leave(a)
-	select {
-	case a.writing <- struct{}{}:
-		defer func() { <-a.writing }()
-	case <-ctx.Done():
-		return nil, false, store.ErrUnreached
+	if err := a.writing.take(ctx); err != nil {
+		return nil, false, err
 	}
+	defer a.writing.leave()
 	c := manifest.Change{App: q.App, Who: q.Who, Op: q.Op, ID: newID(), Erase: q.Erase}
 	confirmed := int64(-1) // the revision up to which the store had reported all when the change had come
 	for {
@@ -108,8 +106,8 @@ func (r *Replica) judge(ctx context.Context, q *Request, c *manifest.Change, now
 // stored returns the digest of a bundle's compiled file, if that is stored too. To make a long one counts as preparing it.
 func (r *Replica) stored(b *engine.Bundle) manifest.Digest {
 	if b != nil && b.Compiled() > longChange {
-		r.preparing <- struct{}{}
-		defer func() { <-r.preparing }()
+		_ = r.preparing.take(context.Background())
+		defer r.preparing.leave()
 	}
 	_, digest := b.Stored()
 	return digest
@@ -153,14 +151,8 @@ func (r *Replica) turn(ctx context.Context, who string, bodies map[manifest.Dige
 	if bytes < longChange {
 		return func() {}, nil
 	}
-	of, _ := r.long.LoadOrStore(who, make(chan struct{}, 1))
-	place := of.(chan struct{})
-	select {
-	case place <- struct{}{}:
-		return func() { <-place }, nil
-	case <-ctx.Done():
-		return nil, store.ErrUnreached
-	}
+	of, _ := r.long.LoadOrStore(who, make(places, 1))
+	return of.(places).leave, of.(places).take(ctx)
 }
 
 // swap stores a manifest, and brings the engine to it.
@@ -242,16 +234,6 @@ func (r *Replica) sync(ctx context.Context, a *app) error {
 	return nil
 }
 
-// Body returns what was submitted for a bundle.
-func (r *Replica) Body(ctx context.Context, name string, b manifest.Bundle) ([]byte, error) {
-	return r.store.Body(ctx, name, b)
-}
-
-// History returns manifests as the store does.
-func (r *Replica) History(ctx context.Context, name string, before int64, most int) ([]*manifest.Manifest, error) {
-	return r.store.History(ctx, name, before, most)
-}
-
 // A Sum is what the replica has.
 type Sum struct {
 	Apps, Bundles, LeftOut  int
@@ -276,6 +258,3 @@ func (s *Sum) add(v *View) {
 	s.LeftOut += len(v.leftOut)
 	s.StoredBytes, s.FilesBytes = s.StoredBytes+v.Bytes, s.FilesBytes+v.Compiled
 }
-
-// Stats returns what the store reports.
-func (r *Replica) Stats(ctx context.Context) (store.Stats, error) { return r.store.Stats(ctx) }

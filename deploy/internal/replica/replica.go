@@ -34,19 +34,28 @@ type Options struct {
 	Every  time.Duration // between two collections of what need not stay
 }
 
+// The past is what a replica reads from its store for callers.
+type past interface {
+	History(ctx context.Context, app string, before int64, most int) ([]*manifest.Manifest, error)
+	Body(ctx context.Context, app string, b manifest.Bundle) ([]byte, error)
+	Stats(ctx context.Context) (store.Stats, error)
+}
+
 // A Replica is a gateway's copy of all applications.
 type Replica struct {
+	past
 	store     store.Store
 	engine    *engine.Engine
 	options   Options
 	ctx       context.Context
 	stop      context.CancelFunc
+	ending    sync.Mutex // locked while ends grows
 	ends      sync.WaitGroup
-	reading   chan struct{} // taken by each bundle that is read from the store
-	preparing chan struct{} // taken while it is prepared
+	reading   places // taken by each bundle that is read from the store
+	preparing places // taken while it is prepared
 	ready     atomic.Bool
 	madeRoom  atomic.Int64 // when, in seconds
-	long      sync.Map     // of a chan struct{} by holder, taken while a long change is stored
+	long      sync.Map     // of places by holder, taken while a long change is stored
 
 	apps sync.Map // of *app by name
 	mu   sync.Mutex
@@ -55,8 +64,8 @@ type Replica struct {
 // An app is one application.
 type app struct {
 	name    string
-	writing chan struct{} // taken by the change that is made, so that a gateway's own changes don't conflict
-	bring   sync.Mutex    // locked while the engine moves to a manifest
+	writing places     // taken by the change that is made, so that a gateway's own changes don't conflict
+	bring   sync.Mutex // locked while the engine moves to a manifest
 	now     atomic.Pointer[View]
 	users   int // calls that need it, under the replica's mu
 
@@ -90,16 +99,21 @@ const mostRead = 32
 // Open begins to follow a store.
 func Open(s store.Store, e *engine.Engine, o Options) *Replica {
 	ctx, stop := context.WithCancel(context.Background())
-	r := &Replica{store: s, engine: e, options: o, ctx: ctx, stop: stop, reading: make(chan struct{}, mostRead),
-		preparing: make(chan struct{}, runtime.GOMAXPROCS(0))}
+	r := &Replica{past: s, store: s, engine: e, options: o, ctx: ctx, stop: stop,
+		reading: make(places, mostRead), preparing: make(places, runtime.GOMAXPROCS(0))}
 	for _, work := range []func(){r.watch, r.start, r.collect} {
 		r.do(work)
 	}
 	return r
 }
 
-// do does something that Close waits for.
+// do does something that Close waits for, unless that was called.
 func (r *Replica) do(work func()) {
+	r.ending.Lock()
+	defer r.ending.Unlock()
+	if r.ctx.Err() != nil {
+		return
+	}
 	r.ends.Add(1)
 	go func() {
 		defer r.ends.Done()
@@ -109,12 +123,28 @@ func (r *Replica) do(work func()) {
 
 // Close ends it, and closes the store.
 func (r *Replica) Close() {
+	r.ending.Lock()
 	r.stop()
+	r.ending.Unlock()
 	r.ends.Wait()
 	if err := r.store.Close(); err != nil {
 		log.Printf("store: %v", err)
 	}
 }
+
+// Places are taken by as many at once as there are.
+type places chan struct{}
+
+func (p places) take(ctx context.Context) error {
+	select {
+	case p <- struct{}{}:
+		return nil
+	case <-ctx.Done():
+		return store.ErrUnreached
+	}
+}
+
+func (p places) leave() { <-p }
 
 func (r *Replica) watch() {
 	for r.ctx.Err() == nil {
@@ -202,7 +232,7 @@ func (r *Replica) use(name string) *app {
 	of, _ := r.apps.Load(name)
 	a, there := of.(*app)
 	if !there {
-		a = &app{name: name, writing: make(chan struct{}, 1), moved: make(chan struct{})}
+		a = &app{name: name, writing: make(places, 1), moved: make(chan struct{})}
 		a.now.Store(empty(name))
 		r.apps.Store(name, a)
 	}
@@ -389,8 +419,12 @@ func (r *Replica) prepare(ctx context.Context, name string, b *manifest.Bundle) 
 		return nil, &engine.Fault{Code: "BadLocale"}
 	}
 	if b.File != "" {
-		if prepared, err := r.prepareBody(ctx, name, engine.File, b.FileBody()); err == nil {
+		prepared, err := r.prepareBody(ctx, name, engine.File, b.FileBody())
+		if err == nil {
 			return prepared, nil
+		}
+		if errors.Is(err, store.ErrDamaged) || errors.Is(err, store.ErrNoBody) {
+			log.Printf("application %s: the text of the bundle %s is compiled again: %v", name, b.Locale, err)
 		}
 	}
 	return r.prepareBody(ctx, name, b.Kind, *b)
@@ -401,7 +435,9 @@ func (r *Replica) prepareBody(ctx context.Context, name, kind string, b manifest
 	if err != nil {
 		return nil, err
 	}
-	r.preparing <- struct{}{}
-	defer func() { <-r.preparing }()
+	if err := r.preparing.take(ctx); err != nil {
+		return nil, err
+	}
+	defer r.preparing.leave()
 	return engine.Prepare(kind, body)
 }

@@ -2,8 +2,10 @@ package replica
 
 import (
 	"context"
+	"database/sql"
 	"errors"
 	"fmt"
+	"path/filepath"
 	"strings"
 	"sync"
 	"testing"
@@ -105,6 +107,84 @@ func TestCompiledFiles(t *testing.T) {
 		g.is(t, "shop", "fr", "a", "F")
 		g.Close()
 	}
+}
+
+// TestADamagedFile damages a stored compiled file in SQLite: the next start compiles the text again.
+func TestADamagedFile(t *testing.T) {
+	folder := t.TempDir()
+	g := open(t, folder, asIs)
+	m, err := g.put("shop", "de", long("A"))
+	if err != nil {
+		t.Fatal(err)
+	}
+	g.Close()
+	db, err := sql.Open("sqlite3", filepath.Join(folder, "manifests.db"))
+	if err == nil {
+		_, err = db.Exec("update bodies set body = zeroblob(length(body)) where digest = ?", m.Bundles[0].File)
+	}
+	if err == nil {
+		err = db.Close()
+	}
+	if err != nil {
+		t.Fatal(err)
+	}
+	g = open(t, folder, asIs)
+	defer g.Close()
+	g.is(t, "shop", "de_AT", "a", "A")
+}
+
+// TestErasures erases an application beside its writers and readers, and beside the collector. Nobody finds what was erased.
+func TestErasures(t *testing.T) {
+	g := open(t, t.TempDir(), asIs)
+	defer g.Close()
+	end, stop := context.WithTimeout(ctx, 2*time.Second)
+	defer stop()
+	var all sync.WaitGroup
+	work := func(n int, do func(w, i int)) {
+		for w := 0; w < n; w++ {
+			all.Add(1)
+			go func(w int) {
+				defer all.Done()
+				for i := 0; end.Err() == nil; i++ {
+					do(w, i)
+				}
+			}(w)
+		}
+	}
+	work(3, func(w, i int) {
+		locale := fmt.Sprintf("l%c", 'a'+w)
+		if _, err := g.put("shop", locale, strings.Replace(long(fmt.Sprint(i)), "de", locale, 1)); err != nil {
+			t.Error(err)
+		}
+	})
+	work(1, func(int, int) {
+		_, _, err := g.Change(ctx, Request{App: "shop", Who: "me", Op: "erase", Erase: true,
+			IsGone: func() bool { return false }, Mine: func(string) bool { return true }})
+		if err != nil {
+			t.Error(err)
+		}
+	})
+	work(2, func(w, i int) {
+		soon, cancel := context.WithTimeout(ctx, time.Duration(i%40)*50*time.Microsecond)
+		defer cancel()
+		if _, err := g.History(soon, "shop", 0, 20); err != nil && !errors.Is(err, store.ErrUnreached) {
+			t.Error(err)
+		}
+		for _, b := range g.Now("shop").Bundles {
+			_, err := g.Body(soon, "shop", b)
+			if err != nil && !errors.Is(err, store.ErrUnreached) && !errors.Is(err, store.ErrNoBody) {
+				t.Error(err)
+			}
+			g.engine.Item(nil, "shop", b.Locale, "a", 1<<20)
+			g.engine.Tree("shop", b.Locale, "")
+		}
+	})
+	work(1, func(int, int) {
+		if _, err := g.store.Collect(ctx, store.Keep{Manifests: 2}); err != nil {
+			t.Error(err)
+		}
+	})
+	all.Wait()
 }
 
 // TestWriters has changes of some applications at once. Each is found once it is acknowledged, and none is lost.
