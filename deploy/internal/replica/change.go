@@ -68,7 +68,7 @@ func (r *Replica) Change(ctx context.Context, q Request) (made *manifest.Manifes
 		case !errors.Is(err, store.ErrConflict):
 			return nil, false, err
 		}
-		pause(ctx, time.Duration(mathrand.Intn(3))*time.Millisecond)
+		store.Pause(ctx, time.Duration(mathrand.Intn(3))*time.Millisecond)
 	}
 }
 

@@ -150,7 +150,7 @@ func (r *Replica) watch() {
 	for r.ctx.Err() == nil {
 		if err := r.store.Watch(r.ctx, func(name string, revision int64) { r.seen(name, revision, false) }); err != nil && r.ctx.Err() == nil {
 			log.Printf("store: watch: %v", err)
-			pause(r.ctx, time.Second)
+			store.Pause(r.ctx, time.Second)
 		}
 	}
 }
@@ -165,7 +165,7 @@ func (r *Replica) start() {
 		} else if failures == 0 {
 			log.Printf("store: %v", err)
 		}
-		pause(r.ctx, 100*time.Millisecond)
+		store.Pause(r.ctx, 100*time.Millisecond)
 	}
 	r.apps.Range(func(_, of any) bool {
 		a := of.(*app)
@@ -189,7 +189,7 @@ func (r *Replica) start() {
 
 // collect removes what the store need not keep, now and then.
 func (r *Replica) collect() {
-	for pause(r.ctx, r.options.Every) {
+	for store.Pause(r.ctx, r.options.Every) {
 		if removed, err := r.store.Collect(r.ctx, r.options.Keep); err != nil && r.ctx.Err() == nil {
 			log.Printf("store: collect: %v", err)
 		} else if removed > 0 {
@@ -212,17 +212,6 @@ func (r *Replica) Writable(ctx context.Context) error {
 		return err
 	}
 	return r.store.Writable(ctx)
-}
-
-func pause(ctx context.Context, d time.Duration) bool {
-	late := time.NewTimer(d)
-	defer late.Stop()
-	select {
-	case <-late.C:
-		return true
-	case <-ctx.Done():
-		return false
-	}
 }
 
 // use returns an application, which is added if it is missing. Leave must follow.
@@ -334,7 +323,7 @@ func (r *Replica) follow(a *app) {
 		if wait = 2*wait + 10*time.Millisecond; wait > 5*time.Second {
 			wait = 5 * time.Second
 		}
-		pause(r.ctx, wait)
+		store.Pause(r.ctx, wait)
 	}
 }
 

@@ -71,9 +71,6 @@ func Open(o Options) (*Store, error) {
 	if err != nil {
 		return nil, fmt.Errorf("etcd: %w", err)
 	}
-	if o.Logf == nil {
-		o.Logf = func(string, ...any) {}
-	}
 	return &Store{Client: c, logf: o.Logf, grace: leastGrace, moved: make(chan struct{}), again: make(chan struct{}, 1)}, nil
 }
 
@@ -110,19 +107,9 @@ func (s *Store) try(ctx context.Context, do func(ctx context.Context) error) err
 		if final := finalError(err); final != nil {
 			return final
 		}
-		if !pause(ctx, 30*time.Millisecond) {
+		if !store.Pause(ctx, 30*time.Millisecond) {
 			return fmt.Errorf("%w: %v", store.ErrUnreached, err)
 		}
-	}
-}
-
-// pause waits, and returns false if the context ended.
-func pause(ctx context.Context, d time.Duration) bool {
-	select {
-	case <-time.After(d):
-		return true
-	case <-ctx.Done():
-		return false
 	}
 }
 
@@ -153,20 +140,6 @@ func (s *Store) list(ctx context.Context, prefix string, each func(kv *mvccpb.Ke
 		}
 		from = string(r.Kvs[len(r.Kvs)-1].Key) + "\x00"
 	}
-}
-
-// read reads a key that never changes, from any server, or with most of them if that one lacks it.
-func (s *Store) read(ctx context.Context, key string) ([]byte, error) {
-	r, err := s.get(ctx, key, clientv3.WithSerializable())
-	if err == nil && len(r.Kvs) == 0 {
-		r, err = s.get(ctx, key)
-	}
-	if err != nil {
-		return nil, err
-	} else if len(r.Kvs) == 0 {
-		return nil, store.ErrNoVersion
-	}
-	return r.Kvs[0].Value, nil
 }
 
 func headKey(app string, revision int64) string { return fmt.Sprintf("h/%s/%016d", app, revision) }
@@ -253,17 +226,22 @@ func (s *Store) Body(ctx context.Context, app string, b manifest.Bundle) ([]byte
 	return s.body(ctx, app, b.Digest, b.Bytes)
 }
 
-// body reads the parts of a body of this length, or of a page, which has one part.
+// body reads the parts of a body of this length, or of a page, which has one part: from any server, as
+// they never change, or with most of them if that one lacks a part.
 func (s *Store) body(ctx context.Context, app string, d manifest.Digest, bytes int64) ([]byte, error) {
 	body := make([]byte, 0, bytes)
 	for part := 0; part == 0 || int64(part*partSize) < bytes; part++ {
-		value, err := s.read(ctx, partKey(app, d, part))
-		if errors.Is(err, store.ErrNoVersion) {
-			return nil, fmt.Errorf("%w: %s, %s", store.ErrNoBody, app, d)
-		} else if err != nil {
+		r, err := s.get(ctx, partKey(app, d, part), clientv3.WithSerializable())
+		if err == nil && len(r.Kvs) == 0 {
+			r, err = s.get(ctx, partKey(app, d, part))
+		}
+		if err == nil && len(r.Kvs) == 0 {
+			err = fmt.Errorf("%w: %s, %s", store.ErrNoBody, app, d)
+		}
+		if err != nil {
 			return nil, err
 		}
-		body = append(body, value...)
+		body = append(body, r.Kvs[0].Value...)
 	}
 	if manifest.DigestOf(body) != d {
 		return nil, fmt.Errorf("etcd: %s, %s has another digest: %w", app, d, store.ErrDamaged)
@@ -289,7 +267,7 @@ func (s *Store) newest(ctx context.Context, each func(app string, revision int64
 // behind.
 func (s *Store) Watch(ctx context.Context, seen func(app string, revision int64)) error {
 	go func() {
-		for pause(ctx, pulse) {
+		for store.Pause(ctx, pulse) {
 			within, cancel := context.WithTimeout(ctx, 2*overdue)
 			_ = s.Sync(within)
 			cancel()
@@ -298,7 +276,7 @@ func (s *Store) Watch(ctx context.Context, seen func(app string, revision int64)
 	for ctx.Err() == nil {
 		if err := s.watchOnce(ctx, seen); err != nil && ctx.Err() == nil {
 			s.logf("etcd: watch: %v", err)
-			pause(ctx, 100*time.Millisecond)
+			store.Pause(ctx, 100*time.Millisecond)
 		}
 	}
 	return ctx.Err()

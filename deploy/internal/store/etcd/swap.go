@@ -120,7 +120,7 @@ func (s *Store) exchange(ctx context.Context, next *manifest.Manifest, commit fu
 			return final
 		}
 		sent = sent || !isUnsent(err)
-		if !pause(ctx, 30*time.Millisecond) {
+		if !store.Pause(ctx, 30*time.Millisecond) {
 			if sent {
 				return fmt.Errorf("%w: %v", store.ErrUnsettled, err)
 			}
