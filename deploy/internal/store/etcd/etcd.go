@@ -162,7 +162,8 @@ func (s *Store) newestRevision(ctx context.Context, app string) (revision int64,
 	return revision, err
 }
 
-// A reader reads an application. Its manifests are there at one moment, and their pages for as long as a collection leaves them.
+// A reader reads an application. Its manifests are there at one moment, and their pages for as long as
+// a collection leaves them.
 type reader struct {
 	*Store
 	ctx context.Context

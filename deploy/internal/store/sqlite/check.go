@@ -141,7 +141,9 @@ func (c *checked) checkAll(db *sql.DB, apps []string, whole bool) (err error) {
 	for w := 0; w < readers; w++ {
 		go func() {
 			for app := range next {
-				failed <- inTx(context.Background(), db, func(tx *sql.Tx) error { return c.checkApp(reader{tx, app}, whole) })
+				failed <- inTx(context.Background(), db, func(tx *sql.Tx) error {
+					return c.checkApp(reader{tx, app}, whole)
+				})
 			}
 		}()
 	}
@@ -244,7 +246,10 @@ func (s *Store) openMarker() error {
 		return err
 	}
 	s.mark()
-	return inTurn(func() error { return own(s.folder, path) }, s.marker.Sync, func() error { return syncFolder(s.folder) })
+	return inTurn(
+		func() error { return own(s.folder, path) },
+		s.marker.Sync,
+		func() error { return syncFolder(s.folder) })
 }
 
 // mark writes the number of the last change. One that can't be written leaves an earlier one.

@@ -129,7 +129,8 @@ func (s *Store) open(o Options) error {
 			return err
 		}
 	}
-	// SQLite needn't overwrite what it deletes, for which a full disk would lack the space; Debian's does it by default.
+	// SQLite needn't overwrite what it deletes, for which a full disk would lack the space; Debian's
+	// does it by default.
 	options := "_journal_mode=WAL&_synchronous=FULL&_busy_timeout=5000&_secure_delete=off"
 	var err error
 	if s.writer, err = openDatabase(path, options); err != nil {
@@ -152,7 +153,8 @@ func (s *Store) open(o Options) error {
 	}
 	s.state = found.state
 	for _, of := range found.damaged {
-		log.Printf("%s: table bodies, row [%s %s]: %v; all bundles are answered without it", path, of.app, of.digest, errChecksum)
+		log.Printf("%s: table bodies, row [%s %s]: %v; all bundles are answered without it",
+			path, of.app, of.digest, errChecksum)
 		s.damaged.Store(of, true)
 	}
 	if err := s.openMarker(); err != nil {

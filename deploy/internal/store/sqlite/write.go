@@ -219,7 +219,9 @@ func (t *transaction) swap(next *manifest.Manifest, head []byte, blobs map[manif
 	var revision int64
 	var stored []byte
 	now := &manifest.Manifest{}
-	err := t.writer.QueryRow("select revision, head from manifests where app = ? order by revision desc limit 1", next.App).Scan(&revision, &stored)
+	row := t.writer.QueryRow(`select revision, head from manifests where app = ?
+		order by revision desc limit 1`, next.App)
+	err := row.Scan(&revision, &stored)
 	if err == nil {
 		now, err = manifest.ReadHead(stored)
 	} else if errors.Is(err, sql.ErrNoRows) {
