@@ -1,6 +1,7 @@
 // The view in which a bundle's text is edited, checked, compared and installed.
-import { at, confirmed, counted, say } from "./show.mjs";
-import { goToOffset, setText, showFindings } from "./editor.mjs";
+import { at, counted, make, say } from "./show.mjs";
+import { confirmed, settle } from "./ask.mjs";
+import { select, setText, showFindings } from "./editor.mjs";
 import { placeOf } from "./places.mjs";
 import { showDifference } from "./difference.mjs";
 
@@ -17,23 +18,33 @@ let opens = 0; // how often one was opened: an answer about an earlier one may c
 /** Returns the text with the line ends that it had when it was opened. */
 const textNow = () => (ends === "\n" ? text.value : text.value.replaceAll("\n", ends));
 
+/** Returns what is open as {app, locale}, or null. */
+export const openNow = () => gateway && { app: gateway.app, locale };
+
 /** Returns false if there are changes that their author wants to keep. */
 export const mayLeave = async () => !dirty || confirmed(`Your text${locale && " of " + locale} isn't installed. Discard it?`, "Discard it");
 
+// Says what the text is, and what is installed where.
+const name = (what) => {
+  at("opened").textContent = gateway === null ? what : `${gateway.app}: ${what}`;
+  at("install").textContent = gateway === null ? "Install" : `Install ${locale} in ${gateway.app}`;
+};
+
+const nameInstalled = () => name(opened.text === null ? `${locale} isn't installed yet.` : `${locale} as it is installed.`);
+
 /** Opens the bundle of a locale. Returns false if another one is opened meanwhile. */
-export const open = async (of, name) => {
+export const open = async (of, wanted) => {
   const mine = ++opens;
   text.readOnly = true; // what is typed until the text comes would be lost
   try {
-    const found = await of.text(name);
+    const found = await of.text(wanted);
     if (mine !== opens) return false;
     gateway = of;
-    locale = name;
+    locale = wanted;
     show(found);
   } finally {
     if (mine === opens) text.readOnly = false;
   }
-  at("opened").textContent = opened.text === null ? `${name} isn't installed yet.` : `${name} as it is installed.`;
   return true;
 };
 
@@ -44,15 +55,22 @@ export const close = () => {
   locale = "";
   text.readOnly = false;
   show({ text: null, tag: null });
-  at("opened").textContent = NOTHING;
 };
 
-/** Opens a bundle unless it is open, and returns what puts the cursor at an item, or null if the text that is there is to stay. */
-export const toItem = async (of, name, keys) => {
-  const isOpen = gateway !== null && gateway.app === of.app && locale === name;
-  if (!isOpen && !(await mayLeave())) return null;
-  if (!isOpen && !(await open(of, name))) return null;
-  return () => goToOffset(placeOf(text.value, keys));
+/**
+ * Opens a bundle, unless it is open with changes, and returns what selects the value of an item, which is inserted if it is missing. Returns null
+ * if the text that is there is to stay.
+ */
+export const toItem = async (of, wanted, keys) => {
+  const stays = dirty && gateway !== null && gateway.app === of.app && locale === wanted;
+  if (!stays && (!(await mayLeave()) || !(await open(of, wanted)))) return null;
+  return () => {
+    if (text.value === "") text.value = `${locale} {\n}\n`;
+    const { at: place, insert, from, to } = placeOf(text.value, keys);
+    if (insert !== "") text.setRangeText(insert, place, place);
+    if (insert !== "") text.dispatchEvent(new Event("input"));
+    select(from, to);
+  };
 };
 
 const show = (found) => {
@@ -60,6 +78,8 @@ const show = (found) => {
   at("edit-diff").replaceChildren();
   take(found.text ?? "");
   dirty = false;
+  if (gateway === null) name(NOTHING);
+  else nameInstalled();
 };
 
 // Takes a text into the editor, which knows lines that end in a line feed.
@@ -100,26 +120,26 @@ const check = async () => {
   }
 };
 
-/** Compares the text with the bundle as it is installed now. Returns null if another one is opened meanwhile. */
+// Compares the text with the bundle as it is installed now.
 const compare = async () => {
-  const mine = opens;
-  const now = await gateway.text(locale);
-  if (mine !== opens) return null;
-  const n = showDifference(at("edit-diff"), `From what is installed as ${locale} to your text`, now.text ?? "", textNow());
-  return { now, n };
+  const mine = opens, now = await gateway.text(locale);
+  if (mine !== opens) return;
+  showDifference(at("edit-diff"), `From what is installed as ${locale} to your text`, now.text ?? "", textNow());
 };
 
 const install = async () => {
-  const mine = opens, name = locale, sent = textNow();
+  const mine = opens, sentAs = locale, sent = textNow();
+  say(at("message"), "", `Installing ${locale} …`);
   try {
-    const { tag, warning } = await gateway.put(name, sent, opened.tag);
+    const { tag, warning } = await gateway.put(sentAs, sent, opened.tag);
     if (mine === opens) {
       opened = { text: sent, tag };
       dirty = textNow() !== sent; // something was typed meanwhile
       at("edit-diff").replaceChildren();
-      at("opened").textContent = dirty ? withChanges() : `${name} as it is installed.`;
+      if (dirty) name(withChanges());
+      else nameInstalled();
     }
-    say(at("message"), warning ? "warn" : "good", `${name} is installed.${warning ? " " + warning : ""}`);
+    say(at("message"), warning ? "warn" : "good", `${sentAs} is installed.${warning ? " " + warning : ""}`);
   } catch (error) {
     if (error.status !== 412 || mine !== opens) throw error;
     await explainConflict();
@@ -128,22 +148,23 @@ const install = async () => {
 
 const withChanges = () => `${locale}, with changes that aren't installed.`;
 
-// Shows another's change. Installing once more replaces it.
+// Shows another's change, and asks which text is to stay.
 const explainConflict = async () => {
-  const mine = opens;
-  const [last] = await gateway.history({ locale, last: 1 });
+  const mine = opens, now = await gateway.text(locale);
   if (mine !== opens) return;
-  const compared = await compare();
-  if (compared === null) return;
-  const { now, n } = compared;
-  opened = now;
-  if (n === 0) { // its answer was lost, or another sent the same text
+  const about = make("div", { className: "diff" });
+  if (showDifference(about, "From theirs to your text", now.text ?? "", textNow()) === 0) { // its answer was lost, or another sent the same text
+    opened = now;
     dirty = false;
-    at("opened").textContent = `${locale} as it is installed.`;
+    nameInstalled();
     return say(at("message"), "good", `This text is installed as ${locale} already.`);
   }
-  const who = last ? `${last.token || "Somebody"} changed ${locale} at ${new Date(last.at).toLocaleTimeString()}` : `${locale} was changed`;
-  say(at("message"), "bad", `Not installed: ${who}, after you opened it. Compare below. Install once more to replace that change by your text.`);
+  const answer = await settle(gateway, locale, about);
+  if (mine !== opens || answer !== "yes") say(at("message"), "warn", `${locale} isn't installed: another's change stays.`);
+  if (mine !== opens || answer === "no") return;
+  if (answer === "other") return show(now);
+  opened = now;
+  await install();
 };
 
 // Opens a file that was chosen or dropped.
@@ -155,7 +176,7 @@ const openFile = async (file) => {
     if (!(await mayLeave())) return;
     if (text.readOnly) return say(at("message"), "bad", `${file.name} isn't opened, because a bundle is being opened. Try again.`);
     take(value);
-    at("opened").textContent = `${file.name}, not installed.`;
+    name(`${gateway === null ? "" : locale + " from "}${file.name}, not installed.`);
     text.focus();
   } catch {
     say(at("message"), "bad", `${file.name} is no text in UTF-8. resb text makes a text of a .res file.`);
@@ -177,7 +198,7 @@ const act = (what) => async () => {
 };
 
 text.addEventListener("input", () => {
-  if (!dirty && gateway !== null) at("opened").textContent = withChanges();
+  if (!dirty && gateway !== null) name(withChanges());
   dirty = true;
   soon();
 });

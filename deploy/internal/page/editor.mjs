@@ -24,33 +24,26 @@ const countLines = () => {
   for (let i = text.value.indexOf("\n"); i >= 0; i = text.value.indexOf("\n", i + 1)) total++;
 };
 
-/** Puts the cursor at a line and column, which count from 1, and scrolls there. */
-export const goTo = (line, column = 1) => {
-  const value = text.value;
-  let start = 0;
-  for (let n = 1; n < line; n++) {
-    const end = value.indexOf("\n", start);
-    if (end < 0) break;
-    start = end + 1;
-  }
-  let end = value.indexOf("\n", start);
-  if (end < 0) end = value.length;
+/** Selects a part of the text, and scrolls there. */
+export const select = (from, to) => {
   text.focus();
-  text.setSelectionRange(Math.min(start + column - 1, end), end);
+  text.setSelectionRange(from, to);
+  const line = text.value.slice(0, from).split("\n").length;
   text.scrollTop = Math.max(0, (line - 1) * rowHeight() - text.clientHeight / 2);
 };
 
-const buttonOf = (finding, kind) => {
-  const what = [finding.code ?? finding.rule, finding.message].filter(Boolean).join(": ");
-  const button = make("button", { type: "button", className: kind }, ...visible(`Line ${finding.line ?? 1}: ${what}`));
-  button.addEventListener("click", () => goTo(finding.line ?? 1, finding.column ?? 1));
-  return make("li", {}, button);
+const goTo = (line, column) => {
+  const offset = text.value.split("\n", line - 1).reduce((sum, { length }) => sum + length + 1, column - 1);
+  select(offset, offset);
 };
 
-/** Puts the cursor at an offset. */
-export const goToOffset = (offset) => {
-  const before = text.value.slice(0, offset).split("\n");
-  goTo(before.length, before.at(-1).length + 1);
+/** Returns what an error or a warning says. */
+export const meaningOf = (finding) => [finding.code ?? finding.rule, finding.message].filter(Boolean).join(": ");
+
+const buttonOf = (finding, kind) => {
+  const button = make("button", { type: "button", className: kind }, ...visible(`Line ${finding.line ?? 1}: ${meaningOf(finding)}`));
+  button.addEventListener("click", () => goTo(finding.line ?? 1, finding.column ?? 1));
+  return make("li", {}, button);
 };
 
 /** Shows the errors and warnings of the text. */

@@ -107,12 +107,13 @@ export class Gateway {
     }
   }
 
-  /** Returns the tree of a bundle, or null if there is none. */
+  /** Returns the tree of a bundle as {tree, tag}, or as {tree: null, tag: null} if there is none. */
   async tree(locale) {
     try {
-      return await (await this.ask("GET", this.address(locale + ".json"))).json();
+      const response = await this.ask("GET", this.address(locale + ".json"));
+      return { tree: await response.json(), tag: response.headers.get("ETag") };
     } catch (error) {
-      if (error.code === "Absent") return null;
+      if (error.code === "Absent") return { tree: null, tag: null };
       throw error;
     }
   }
@@ -128,6 +129,12 @@ export class Gateway {
     return { tag: response.headers.get("ETag"), warning: (await response.json()).warning };
   }
 
+  /** Merges a patch (RFC 7396) into a bundle that has this tag, and returns the new tag. */
+  async patch(locale, patch, tag) {
+    const headers = { "Content-Type": "application/merge-patch+json", ...ifTag(tag) };
+    return (await this.ask("PATCH", this.address(locale), { body: JSON.stringify(patch), headers })).headers.get("ETag");
+  }
+
   /** Returns the last changes, the newest first. */
   async history({ locale, before, last }) {
     const query = new URLSearchParams({ last });
@@ -139,6 +146,14 @@ export class Gateway {
   /** Returns the text of a bundle as it was after a change. */
   async version(id) {
     return whole(await this.ask("GET", this.address("_history", id + ".txt")));
+  }
+
+  /** Returns the tree of a bundle as it was before a time, or null if there was none. */
+  async treeBefore(locale, time) {
+    const past = await this.history({ locale, last: 1000 });
+    const { id, op } = past.find(({ at }) => Date.parse(at) < time) ?? { op: past.at(-1)?.op === "install" ? "remove" : "" };
+    if (op === "") throw new Refused(404, { error: "NoVersion" });
+    return op === "remove" ? null : (await this.ask("GET", this.address("_history", id + ".json"))).json();
   }
 
   /** Makes a bundle what it was after a change, if it has this tag. */

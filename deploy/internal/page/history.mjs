@@ -1,22 +1,22 @@
 // The view of the last changes.
-import { at, confirmed, make, say, visible } from "./show.mjs";
+import { at, make, rowOf, say, tableOf, visible } from "./show.mjs";
+import { confirmed } from "./ask.mjs";
 import { showDifference } from "./difference.mjs";
 
 const LAST = 50;
+const TITLES = ["When", "Who", "Bundle", "Change", "Bytes", "Version"];
 let asked = 0;
 const DONE = { install: "installed", replace: "replaced", remove: "removed" };
 
 /** Shows the last changes of a bundle, or of all. */
 export const history = async (gateway, locale) => {
   const mine = ++asked, of = at("every").checked ? "" : locale;
-  const body = make("tbody"), button = make("button", { type: "button", textContent: "Show earlier changes" });
-  const titles = ["When", "Who", "Bundle", "Change", "Bytes", "Version"];
-  const head = make("tr", {}, ...titles.map((title) => make("th", { scope: "col", textContent: title })));
+  const table = tableOf(TITLES, []), button = make("button", { type: "button", textContent: "Show earlier changes" });
   let earliest = 0;
   const next = async () => {
     const before = earliest, all = await gateway.history({ locale: of, before, last: LAST });
     if (before !== earliest) return; // the button was pressed twice
-    body.append(...all.map((one) => rowOf(gateway, one)));
+    table.tBodies[0].append(...all.map((one) => changeOf(gateway, one)));
     button.hidden = all.length < LAST;
     earliest = all.at(-1)?.id ?? 0;
   };
@@ -24,16 +24,16 @@ export const history = async (gateway, locale) => {
   await next();
   if (mine !== asked) return;
   at("history-diff").replaceChildren();
-  at("changes").replaceChildren(earliest === 0 ? make("p", { textContent: "There are no changes." }) : make("table", {}, make("thead", {}, head), body), button);
+  at("changes").replaceChildren(earliest === 0 ? make("p", { textContent: "There are no changes." }) : table, button);
 };
 
-const rowOf = (gateway, change) => {
+const changeOf = (gateway, change) => {
   const compare = make("button", { type: "button", textContent: "Compare", "aria-label": `Compare version ${change.revision} of ${change.locale}` });
   const restore = make("button", { type: "button", textContent: "Restore", "aria-label": `Restore version ${change.revision} of ${change.locale}` });
   compare.addEventListener("click", acting(() => compareWith(gateway, change)));
   restore.addEventListener("click", acting(() => restoreTo(gateway, change)));
   const version = !change.kept ? ["not stored any more"] : change.op === "remove" ? [restore] : [compare, " ", restore];
-  return make("tr", {},
+  return rowOf(TITLES,
     make("td", {}, make("time", { dateTime: change.at, textContent: new Date(change.at).toLocaleString() })),
     make("td", { dir: "auto" }, ...visible(change.token)), make("td", { dir: "auto" }, ...visible(change.locale)),
     make("td", { textContent: DONE[change.op] ?? change.op }), make("td", { textContent: String(change.bytes) }), make("td", {}, ...version));

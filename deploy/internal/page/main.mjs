@@ -16,16 +16,19 @@ const recall = () => FIELDS.forEach((id) => { at(id).value = sessionStorage.getI
 const locale = () => at("locale").value.trim();
 
 // Returns the requests for what is typed in, or null after showing what is missing.
-const gatewayNow = () => {
-  if (!at("who").reportValidity()) return null;
+const gatewayNow = (needsLocale) => {
+  at("locale").required = needsLocale;
+  const isFilled = at("who").reportValidity();
+  at("locale").required = false;
+  if (!isFilled) return null;
   remember();
   return new Gateway(at("app").value.trim(), at("token").value.trim());
 };
 
 // Does something with the gateway, and shows why it failed.
-const acting = (what) => async (event) => {
+const acting = (what, needsLocale = false) => async (event) => {
   event.preventDefault();
-  const gateway = gatewayNow();
+  const gateway = gatewayNow(needsLocale);
   if (gateway === null) return;
   try {
     await what(gateway);
@@ -38,10 +41,18 @@ const openBundle = async (gateway) => {
   const name = locale();
   const names = await gateway.names();
   at("names").replaceChildren(...names.map((value) => make("option", { value })));
-  if (!(await edit.mayLeave()) || !(await edit.open(gateway, name))) return;
+  if (name === "") return say(at("message"), "good", `${gateway.app} has ${counted(names.length, "bundle")}${names.length ? ": " + names.join(", ") : ""}.`);
+  if (!(await edit.mayLeave())) return nameOpen();
+  if (!(await edit.open(gateway, name))) return;
   at("target").value = name;
   at("source").value ||= ["en", "root", ...names].find((other) => names.includes(other) && other !== name) ?? "root";
   say(at("message"), "good", `${gateway.app} has ${counted(names.length, "bundle")}.`);
+};
+
+// Names the text that stays open.
+const nameOpen = () => {
+  for (const [id, value] of Object.entries(edit.openNow() ?? {})) at(id).value = value;
+  remember();
 };
 
 // Opens the editor at an item that is chosen in the translation view.
@@ -86,8 +97,8 @@ at("forget").addEventListener("click", forget);
 at("pair").addEventListener("submit", acting((gateway) => translate(gateway, editItem(gateway))));
 at("past").addEventListener("submit", acting((gateway) => history(gateway, locale())));
 at("every").addEventListener("change", () => at("past").requestSubmit());
-at("item").addEventListener("submit", acting((gateway) => look(gateway, locale())));
-at("up").addEventListener("click", acting((gateway) => up(gateway, locale())));
+at("item").addEventListener("submit", acting((gateway) => look(gateway, locale()), true));
+at("up").addEventListener("click", acting((gateway) => up(gateway, locale()), true));
 at("list").addEventListener("click", acting(list));
 recall();
 showView(false);

@@ -1,46 +1,105 @@
-// Places of items in the text of a bundle (docs/LANGUAGE.md).
+// Places and comments of items in the text of a bundle (docs/LANGUAGE.md).
 
 // A comment, a string, a sign that parts items, or a word. What isn't closed reaches to the end of the text, so that no text is read twice.
 const TOKENS = /\/\/[^\n]*|\/\*[^]*?(?:\*\/|$)|"(?:[^"\\]|\\[^]?)*(?:"|$)|[{}:,]|[^\s{}:,"]+/g;
 
+const DEEPEST = 64; // levels of a bundle
+
+/** Returns a path as one text, in which each key ends in a NUL. No key has one. */
+export const pathOf = (keys) => keys.map((key) => key + "\0").join("");
+
+class Reader {
+  items = new Map();
+  #open = []; // the items around the current token
+  #words = null; // texts side by side: a key, a value, or an item of an array
+  #type = null;
+  #notes = []; // comments before the next item
+  #last = null; // the item that ended last, and where
+
+  take(text, token, at) {
+    if (/^\/[/*]/.test(token)) {
+      const isBehind = this.#last !== null && !text.slice(this.#last.end, at).includes("\n");
+      (isBehind ? this.#last.notes : this.#notes).push(token.replace(/^\/[/*]+ ?|\s*\*+\/$/g, "").replace(/\n\s*\*? ?/g, "\n").trim());
+    } else if (token === "{") this.#begin(at);
+    else if (token === "}") this.#end(at);
+    else if (token === ",") this.#element(at);
+    else if (token === ":") this.#type = "";
+    else if (this.#type === "") this.#type = token;
+    else this.#word(token, at);
+  }
+
+  // The value of a string that is alone is between its quotes.
+  #word(token, at) {
+    const end = at + token.length, isString = token.length > 1 && token[0] === '"' && token.endsWith('"');
+    if (this.#words !== null) Object.assign(this.#words, { from: this.#words.at, to: end });
+    else if (isString) this.#words = { key: token.slice(1, -1), at, from: at + 1, to: end - 1 };
+    else this.#words = { key: token, at, from: at, to: end };
+    this.#last = null;
+  }
+
+  #add(path, from, to) {
+    const item = { path, at: this.#words?.at ?? from, from, to, notes: this.#notes, length: 0, isList: this.#type === "array" };
+    this.items.set(path, item);
+    this.#notes = [];
+    this.#words = this.#type = null;
+    return item;
+  }
+
+  #begin(at) {
+    const inside = this.#open.at(-1);
+    const key = this.#words?.key ?? (inside === undefined ? "" : inside.length++);
+    const path = inside === undefined ? "" : this.#open.length > DEEPEST ? inside.path : inside.path + key + "\0";
+    this.#open.push(this.#add(path, at + 1, Infinity));
+    this.#last = null;
+  }
+
+  // Ends a text that is an item of an array. The comments of the array are for the first one.
+  #element(at) {
+    const inside = this.#open.at(-1), words = this.#words;
+    if (inside === undefined || words === null) return;
+    if (inside.length === 0) this.#notes.unshift(...inside.notes);
+    this.#last = Object.assign(this.#add(inside.path + inside.length++ + "\0", words.from, words.to), { end: at });
+  }
+
+  #end(at) {
+    const item = this.#open.at(-1);
+    if (item === undefined) return;
+    item.isList ||= item.length > 0;
+    if (item.isList) this.#element(at);
+    if (this.#words === null) item.to = at;
+    else Object.assign(item, { from: this.#words.from, to: this.#words.to, notes: [...item.notes, ...this.#notes] });
+    this.#words = this.#type = null;
+    this.#notes = [];
+    this.#last = Object.assign(this.#open.pop(), { end: at });
+  }
+}
+
 /**
- * Returns the offset of the item to which keys lead. If it isn't there, it returns that of the last item on the way, which is the whole
- * bundle if there is none.
+ * Returns the items of a text in its order, by their paths: where each begins (`at`), where its value is (`from`, `to`) without the quotes or braces
+ * around it, its comments (`notes`), and whether it is an array with items (`isList`). The bundle's path is "".
+ */
+export const itemsIn = (text) => {
+  const reader = new Reader();
+  for (const { 0: token, index } of text.matchAll(TOKENS)) reader.take(text, token, index);
+  return reader.items;
+};
+
+const quoted = (key) => (/^[\w-]+$/.test(key) ? key : `"${key.replace(/["\\]/g, "\\$&")}"`);
+
+/**
+ * Returns what must be inserted into a text, and where (`at`), so that it has an item, and where the item's value is then (`from`, `to`). Nothing is
+ * inserted into an array.
  */
 export const placeOf = (text, keys) => {
-  const open = []; // the number of the next item of each table or array around the current token
-  let found = 0, met = 0; // the keys that lead to `found`
-  let key = null, start = 0, typed = false;
-  const meets = (name) => met === open.length - 1 && keys[met] === name;
-  for (const { 0: token, index } of text.matchAll(TOKENS)) {
-    if (token.startsWith("//") || token.startsWith("/*")) continue;
-    if (token === "{") {
-      const name = key ?? String(open.at(-1));
-      if (open.length > 0 && meets(name)) {
-        met++;
-        found = key === null ? index : start;
-      }
-      if (met === keys.length) return found;
-      open.push(0);
-    } else if (token === "}") {
-      if (open.length - 1 === met) return found;
-      open.pop();
-    } else if (token === ",") {
-      if (open.length > 0) open[open.length - 1]++;
-    } else if (token === ":") {
-      typed = true;
-      continue;
-    } else if (!typed) {
-      key = token.startsWith('"') ? token.slice(1, -1) : token;
-      start = index;
-      if (met === keys.length - 1 && meets(String(open.at(-1))) && token.startsWith('"')) return index; // perhaps a string of an array
-      continue;
-    } else {
-      typed = false;
-      continue;
-    }
-    key = null;
-    typed = false;
-  }
-  return found;
+  const items = itemsIn(text);
+  let n = keys.length;
+  while (n > 0 && !items.has(pathOf(keys.slice(0, n)))) n--;
+  const { from = 0, to = 0, isList = true } = items.get(pathOf(keys.slice(0, n))) ?? {};
+  const lacking = keys.slice(n), end = Math.min(to, text.length);
+  if (n === keys.length) return { at: from, insert: "", from, to: end };
+  if (isList || lacking.some((key) => /^\d+$/.test(key))) return { at: end, insert: "", from: end, to: end };
+  const line = text.lastIndexOf("\n", end - 1) + 1, indent = text.slice(line, end), isOnOwnLine = line > from && indent.trim() === "";
+  const begin = (isOnOwnLine ? indent + "    " : text[end - 1] === " " ? "" : " ") + lacking.map((key) => quoted(key) + " { ").join("") + '"';
+  const at = isOnOwnLine ? line : end, value = at + begin.length;
+  return { at, insert: `${begin}"${" }".repeat(lacking.length)}${isOnOwnLine ? "\n" : " "}`, from: value, to: value };
 };

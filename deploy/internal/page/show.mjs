@@ -1,13 +1,14 @@
 // Elements of the page. Every value becomes text, never markup.
+import { directionOf, languageOf } from "./language.mjs";
 
 /** Returns the element with an id. */
 export const at = (id) => document.getElementById(id);
 
-/** Makes an element with properties and children. Names with a hyphen are attributes. */
+/** Makes an element with properties and children. Names with a hyphen, and roles, are attributes. */
 export const make = (name, given = {}, ...children) => {
   const element = document.createElement(name);
   for (const [key, value] of Object.entries(given)) {
-    if (key.includes("-")) element.setAttribute(key, value);
+    if (key.includes("-") || key === "role") element.setAttribute(key, value);
     else element[key] = value;
   }
   element.append(...children);
@@ -36,7 +37,7 @@ export const MOST_SHOWN = 600;
 
 /** Puts a value into an element. The end of a long one is shown on demand. */
 export const putValue = (element, text, locale) => {
-  element.dir = "auto";
+  element.dir = locale === undefined ? "auto" : directionOf(locale);
   if (locale !== undefined) element.lang = languageOf(locale);
   const begin = beginning(text, MOST_SHOWN);
   element.replaceChildren(...visible(begin));
@@ -58,10 +59,20 @@ export const beginning = (text, most) => {
   return text.slice(0, last >= 0xd800 && last < 0xdc00 ? most - 1 : most);
 };
 
-/** Returns the language tag of a locale, for fonts and for programs that read the page aloud. */
-export const languageOf = (locale) => {
-  const name = locale.split("@")[0].replaceAll("_", "-");
-  return name === "root" ? "" : name;
+/** Makes a row of a table, whose cells name their columns where they are below one another. */
+export const rowOf = (titles, ...cells) => {
+  cells.forEach((cell, i) => {
+    cell.setAttribute("role", cell.localName === "th" ? "rowheader" : "cell");
+    cell.dataset.head = titles[i];
+  });
+  return make("tr", { role: "row" }, ...cells);
+};
+
+/** Makes a table. It stays one for programs that read the page aloud, whatever a style displays. */
+export const tableOf = (titles, rows) => {
+  const heads = titles.map((title) => make("th", { role: "columnheader", scope: "col", dir: "auto" }, ...visible(title)));
+  const head = make("thead", { role: "rowgroup" }, make("tr", { role: "row" }, ...heads));
+  return make("table", { role: "table" }, head, make("tbody", { role: "rowgroup" }, ...rows));
 };
 
 /** Returns a number with what it counts. */
@@ -72,16 +83,3 @@ export const say = (element, kind, text) => {
   element.className = kind;
   element.replaceChildren(...visible(beginning(text, 10 * MOST_SHOWN)));
 };
-
-/** Asks a question in a dialog, and returns true if the answer is yes. While another one is asked the answer is no. */
-export const confirmed = (question, yes) => new Promise((answer) => {
-  const dialog = at("ask");
-  if (dialog.open) return answer(false);
-  at("question").replaceChildren(...visible(question));
-  at("yes").textContent = yes;
-  at("yes").onclick = () => dialog.close("yes");
-  at("no").onclick = () => dialog.close("no");
-  dialog.returnValue = "no"; // of the escape key
-  dialog.onclose = () => answer(dialog.returnValue === "yes");
-  dialog.showModal();
-});

@@ -23,18 +23,43 @@ export const itemsOf = (tree) => {
   return found;
 };
 
+const nameOf = (key) => (key.startsWith(":") ? ":" + key : key);
+const memberOf = (node, name) => (node !== undefined && Object.hasOwn(node, name) ? node[name] : undefined);
+
 /**
- * Returns the items of two trees side by side, as {key, path, from, to, state}: "missing" in the second, "extra" only there, "same" for
- * texts that are equal, "" for others. A tree that is null has no items.
+ * Returns a merge patch (RFC 7396) that sets a text in a tree, or the whole new tree. A tree that has the item says what is an array. A patch
+ * replaces arrays whole, and they have no gaps.
  */
-export const sideBySide = (source, target) => {
-  const from = source === null ? new Map() : itemsOf(source), to = target === null ? new Map() : itemsOf(target);
-  const rows = [];
-  for (const [key, item] of from) {
-    const other = to.get(key) ?? null;
-    const same = other !== null && item.isText && item.value !== "" && other.value === item.value;
-    rows.push({ key, path: item.path, from: item, to: other, state: other === null ? "missing" : same ? "same" : "" });
+export const withText = (node, like, keys, text, isWhole) => {
+  if (keys.length === 0) return text;
+  const [key, ...rest] = keys;
+  if (Array.isArray(node ?? like)) {
+    const items = [...(node ?? [])];
+    if (Number(key) > items.length) throw new Error(`An array has no gaps: translate its item ${items.length} first.`);
+    items[key] = withText(items[key], like?.[key], rest, text, true);
+    return items;
   }
-  for (const [key, item] of to) if (!from.has(key)) rows.push({ key, path: item.path, from: null, to: item, state: "extra" });
-  return rows;
+  if (node !== undefined && (node === null || typeof node !== "object")) throw new Error(`The translation has no table for ${key}, but a value.`);
+  const name = nameOf(key), item = withText(memberOf(node, name), memberOf(like, name), rest, text, isWhole);
+  return isWhole ? { ...node, [name]: item } : { [name]: item };
+};
+
+/**
+ * Returns what an item of a translation is beside that of its source: "missing", also if it is empty; "extra" without a source; "same" for texts
+ * that are equal; or "".
+ */
+export const stateOf = (from, to) => {
+  if (from === null) return "extra";
+  if (to === null || (to.value === "" && from.value !== "")) return "missing";
+  return from.isText && from.value !== "" && to.value === from.value ? "same" : "";
+};
+
+/** Returns the items of two trees side by side, as {key, path, from, to}. A tree that is null has no items. */
+export const sideBySide = (source, target) => {
+  const [from, to] = [source, target].map((tree) => (tree === null ? new Map() : itemsOf(tree)));
+  const extra = [...to].filter(([key]) => !from.has(key));
+  return [
+    ...Array.from(from, ([key, item]) => ({ key, path: item.path, from: item, to: to.get(key) ?? null })),
+    ...extra.map(([key, item]) => ({ key, path: item.path, from: null, to: item })),
+  ];
 };

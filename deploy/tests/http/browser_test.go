@@ -145,10 +145,11 @@ func (b *browser) until(script, part string) {
 var keys = map[string]struct {
 	code int
 	text string
-}{"Tab": {9, ""}, "Enter": {13, "\r"}, "Escape": {27, ""}, " ": {32, " "}, "a": {65, ""}}
+}{"Tab": {9, ""}, "Enter": {13, "\r"}, "Escape": {27, ""}, "a": {65, ""}, "ArrowUp": {38, ""}, "ArrowDown": {40, ""}}
 
 // The modifiers of a key.
 const (
+	withAlt     = 1
 	withControl = 2
 	withShift   = 8
 )
@@ -158,7 +159,7 @@ func (b *browser) press(key string, modifiers int) {
 	b.t.Helper()
 	for _, kind := range []string{"keyDown", "keyUp"} {
 		event := map[string]any{"type": kind, "key": key, "code": key, "windowsVirtualKeyCode": keys[key].code, "modifiers": modifiers}
-		if kind == "keyDown" && keys[key].text != "" {
+		if kind == "keyDown" && keys[key].text != "" && modifiers == 0 {
 			event["text"] = keys[key].text
 		}
 		if key == "a" && modifiers == withControl {
@@ -226,9 +227,10 @@ func (b *browser) play(s *site, section string) {
 		"put":      func(locale, text string) { s.put(locale, text) },
 		"activate": only(b.activate), "click": only(b.click), "picture": only(b.picture),
 		"run":   only(func(script string) { b.run(script) }),
+		"open":  only(func(view string) { b.open(s.URL + "/" + view) }),
 		"write": only(func(text string) { b.write(unescaped(text)) }),
 		"press": func(key, with string) {
-			b.press(strings.Replace(key, "Space", " ", 1), map[string]int{"shift": withShift}[with])
+			b.press(key, map[string]int{"alt": withAlt, "control": withControl, "shift": withShift}[with])
 		},
 		"tab": only(func(to string) {
 			if b.names[to] != "" {
@@ -253,6 +255,15 @@ func (b *browser) play(s *site, section string) {
 	b.fine()
 }
 
+// open leaves what is open, opens a page, and waits until it is ready.
+func (b *browser) open(address string) {
+	b.t.Helper()
+	for _, one := range []string{"about:blank", address} {
+		b.call("Page.navigate", map[string]any{"url": one})
+	}
+	b.until("document.documentElement?.dataset.ready", "yes")
+}
+
 // visit opens the page of a gateway that has bundles, each with its locale.
 func visit(t *testing.T, bundles ...string) (*browser, *site) {
 	t.Helper()
@@ -260,8 +271,7 @@ func visit(t *testing.T, bundles ...string) (*browser, *site) {
 	for i := 0; i < len(bundles); i += 2 {
 		s.put(bundles[i], bundles[i+1])
 	}
-	b.call("Page.navigate", map[string]any{"url": s.URL + "/"})
-	b.until("document.documentElement?.dataset.ready", "yes")
+	b.open(s.URL + "/")
 	return b, s
 }
 

@@ -1,8 +1,9 @@
 // modules_test.mjs: tries the modules of the page that need no browser, against slower definitions of what they do.
 import { Gateway } from "../gateway.mjs";
 import { compareLines, linesOf } from "../lines.mjs";
-import { placeOf } from "../places.mjs";
-import { itemsOf, sideBySide } from "../tree.mjs";
+import { itemsIn, pathOf, placeOf } from "../places.mjs";
+import { itemsOf, sideBySide, stateOf, withText } from "../tree.mjs";
+import { argumentsOf, categoriesOf, directionOf, otherArguments } from "../language.mjs";
 
 let seed = 1;
 const random = (n) => (seed = (seed * 1103515245 + 12345) & 0x7fffffff) % n;
@@ -45,21 +46,66 @@ check(linesOf("").length === 0 && linesOf("a\r\nb\rc\n").join() === "a,b,c" && l
 const tree = JSON.parse('{"a":"x","b":-5,"c":{":alias":"/LOCALE/a"},"d":["p",{"::q":"r"}],"e":{":bin":"00ff"},"f":{},"__proto__":{"g":"y"},"h/i":"z","h":{"i":"w"}}');
 const items = [...itemsOf(tree).values()].map(({ path, value, isText }) => `${path}=${value}${isText ? "" : "!"}`);
 check(items.join(";") === 'a=x;b=-5!;c=:alias "/LOCALE/a"!;d/0=p;d/1/:q=r;e=:bin "00ff"!;f=(an empty table)!;__proto__/g=y;h/i=z;h/i=w', items);
-const states = (a, b) => sideBySide(a, b).map(({ path, state }) => path + ":" + state).join(" ");
-check(states({ a: "x", b: "y", n: 1 }, { a: "x", c: "z", n: 1 }) === "a:same b:missing n: c:extra", "states");
+const states = (a, b) => sideBySide(a, b).map(({ path, from, to }) => path + ":" + stateOf(from, to)).join(" ");
+check(states({ a: "x", b: "y", n: 1, e: "f" }, { a: "x", c: "z", n: 1, e: "" }) === "a:same b:missing n: e:missing c:extra", "states");
 check(states(null, { a: "x" }) === "a:extra" && states({ a: "x" }, null) === "a:missing" && states({}, {}) === ":", "absent trees");
-// each item is found at its key, or at its sign if it has none; one that is missing is where its table is
+// a patch, merged as RFC 7396 does, makes the tree that is wanted: the item has the text, and all others are as they were
+const merge = (old, patch) => {
+  if (patch === null || typeof patch !== "object" || Array.isArray(patch)) return patch;
+  const all = new Map(old !== null && typeof old === "object" && !Array.isArray(old) ? Object.entries(old) : []);
+  for (const [key, item] of Object.entries(patch)) all.set(key, merge(all.get(key), item));
+  return Object.fromEntries(all);
+};
+const like = { ...tree, "::y": "1", t: { u: { v: "2" } }, list: ["p", ["q", { r: "s" }]] };
+for (const keys of ["a", "d/0", "d/1/:q", "__proto__/g", ":y", "t/u/v", "list/0", "toString"].map((path) => path.split("/"))) {
+  const whole = withText(tree, like, keys, "new", true), merged = merge(tree, withText(tree, like, keys, "new", false));
+  check(JSON.stringify(whole) === JSON.stringify(merged), keys);
+  const wanted = itemsOf(tree).set(pathOf(keys), { path: keys.join("/"), value: "new", isText: true });
+  check(JSON.stringify([...itemsOf(whole)].sort()) === JSON.stringify([...wanted].sort()), keys);
+}
+const refusal = (...given) => { try { return withText(...given, "x", true); } catch (error) { return error.message; } };
+check(/translate its item 0 first/.test(refusal(tree, like, ["list", "1", "0"])) && /no table/.test(refusal({ t: "x" }, like, ["t", "u"])), "gaps");
+// the value of each item is found without its quotes, and its comments are those before it and behind it on its line
 const text = `de { // a{"no"}
-  /* b{"no"} */ "menu":table { open{"a{b"} "close":string { "\\"}{" "x" } } n:int{5} list{"one","two"} nested { {"p"}, {"q","r"} } last{"}"} }`;
-for (const [keys, begin] of Object.entries({
-  "menu": '"menu"', "menu/open": "open{", "menu/close": '"close"', "n": "n:int", "list": "list{", "list/0": '"one"', "list/1": '"two"', "nested/1": '{"q"',
-  "nested/1/1": '"r"', "last": "last{", "menu/none": '"menu"', "menu/none/x": '"menu"', "none": "de {", "a": "de {", "list/2": "list{", "open": "de {",
-})) check(text.slice(placeOf(text, keys.split("/"))).startsWith(begin), [keys, placeOf(text, keys.split("/"))]);
-for (let cut = 0; cut < text.length; cut++) check(placeOf(text.slice(0, cut), ["nested", "1", "1"]) <= cut, cut); // while it is typed
+  /* b{"no"} */ "menu":table { open{"a{b"} /* behind */ "close":string { "\\"}{" "x" } } n:int{5} list{"one","two"} nested { {"p"}, {"q","r"} } // end
+  /* of
+   * all */ last{"}"} none{""} bare { two words }
+}`;
+const values = {
+  "menu/open": "a{b", "menu/close": '"\\"}{" "x"', "n": "5", "list/0": "one", "list/1": "two", "nested/0": "p", "nested/1/1": "r", "last": "}", "none": "", "bare": "two words",
+};
+for (const [path, value] of Object.entries(values)) {
+  const { insert, from, to } = placeOf(text, path.split("/"));
+  check(insert === "" && text.slice(from, to) === value, [path, text.slice(from, to)]);
+}
+const said = Object.fromEntries(Array.from(itemsIn(text), ([key, { notes }]) => [key.slice(0, -1).replaceAll("\0", "/"), notes.join("|")]));
+check(said.menu === 'a{"no"}|b{"no"}' && said["menu/open"] === "behind" && said.nested === "end" && said.last === "of\nall" && said.n === "", said);
+check([...itemsIn('a{// note\nb{"x", // first\n"y"}}').values()].map(({ notes: all }) => all.join("|")).join() === ",note,note|first,", "notes of an array");
+// what is missing gets a place with an empty value, and a text that has it afterwards; in an array, there is only a place
+for (const [before, path, after] of [
+  ['de { cart { a { "A" } } }', "cart/b", 'de { cart { a { "A" } b { "" } } }'], ["de {\n    a { \"A\" }\n}\n", "c d/e", 'de {\n    a { "A" }\n    "c d" { e { "" } }\n}\n'],
+  ["de {\n}\n", "a", 'de {\n    a { "" }\n}\n'], ["de{}", "a", 'de{ a { "" } }'], ['de{l{"a","b"}}', "l/2", 'de{l{"a","b"}}'], ["", "a", ""],
+]) {
+  const { at, insert, from, to } = placeOf(before, path.split("/")), made = before.slice(0, at) + insert + before.slice(at);
+  check(made === after && from === to && (insert === "" || made.slice(from - 1, to + 1) === '""'), [made, from, to]);
+}
+for (let cut = 0; cut < text.length; cut++) check(placeOf(text.slice(0, cut), ["nested", "1", "1"]).to <= cut + 20, cut); // while it is typed
 const search = process.cpuUsage().user;
 placeOf("de{" + "a{/*".repeat(22500), ["a"]); // 90 KB of unclosed comments
+placeOf("de{" + "a{".repeat(45000), ["a"]); // and of braces
 check(process.cpuUsage().user - search < 2e6, "unclosed comments");
 check(itemsOf("root").size === 1, "a tree without keys");
+
+// arguments, as ICU's MessageFormat reads them, and the plural categories and directions of CLDR
+const named = (message) => Array.from(argumentsOf(message), (pair) => pair.join(":")).join(" ");
+check(named("Open {0}, it''s '{no}' {d, date, dd '{'MM} {n, number}") === "0: d:date n:number", "arguments");
+check(named("{n, plural, one {file {a}} =2 {two} other {# of {m, select, f {her} other {{x}}}}}") === "n:plural a: m:select x:", "nested");
+check(otherArguments("{a} {b}", "{b} {c}").join() === "{a} is missing,{c} isn't in the source", "other arguments");
+for (const [locale, type, categories] of [["ar_EG", "plural", "zero one two few many other"], ["de@collation=phonebook", "plural", "one other"], ["ja", "plural", "other"],
+  ["en", "selectordinal", "one two few other"], ["root", "plural", ""], ["no_locale_at_all_x", "plural", ""]]) check(categoriesOf(locale, type).join(" ") === categories, locale);
+for (const [locale, direction] of [["ar", "rtl"], ["he_IL", "rtl"], ["fa", "rtl"], ["ur", "rtl"], ["az_Arab", "rtl"], ["az", "ltr"], ["de_AT", "ltr"], ["root", "auto"], ["?", "auto"]]) {
+  check(directionOf(locale) === direction, locale);
+}
 
 // a request that says nothing was done is made again, and another refusal is thrown at once
 const answers = [[503, "Busy"], [503, "Replaying"], [200], [503, "NotKept"], [200]];

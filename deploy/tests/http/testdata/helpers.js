@@ -18,8 +18,21 @@
 		text.dispatchEvent(new DragEvent('drop', { dataTransfer: given, bubbles: true, cancelable: true }));
 	};
 	window.directed = (part) => {
-		const cell = [...document.querySelectorAll('#both td')].find(c => c.textContent.includes(part));
+		const cells = [...document.querySelectorAll('#both td div, #both textarea')];
+		const cell = cells.find(c => (c.value ?? c.textContent).includes(part));
 		return getComputedStyle(cell).direction + cell.lang;
+	};
+	window.marked = () => {
+		const { value, selectionStart: from, selectionEnd: to } = text;
+		return JSON.stringify([value.slice(0, from), value.slice(from, to)]);
+	};
+	window.cellsOf = (row) => {
+		const [path, source] = [...row.cells].map(c => c.textContent);
+		return [path, source, row.querySelector('textarea')?.value ?? null, row.querySelector('span:last-child').textContent];
+	};
+	window.choose = (rows) => {
+		document.getElementById('filter').value = rows;
+		document.getElementById('filter').dispatchEvent(new Event('change'));
 	};
 	window.show = (view, form) => { location.hash = view; document.getElementById(form)?.requestSubmit(); };
 }
