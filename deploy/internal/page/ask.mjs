@@ -16,7 +16,7 @@ const choose = (question, yes, other, ...about) => new Promise((answer) => {
   dialog.onclose = () => answer(["yes", "other"].includes(dialog.returnValue) ? dialog.returnValue : "no"); // the escape key returns ""
   dialog.returnValue = "no";
   dialog.showModal();
-  at("no").focus();
+  at("no").focus({ preventScroll: true });
 });
 
 /** Asks a question, and returns true if the answer is yes. */
