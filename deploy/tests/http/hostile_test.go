@@ -81,7 +81,9 @@ func TestLimitsOfBodies(t *testing.T) {
 		if at.want == 201 {
 			at.want = 200 // it is there now
 		}
-		if got := s.raw(begins("w "+at.method+" /v1/shop/"+at.path, chunked)); statusOfText(got) != fmt.Sprint(at.want) {
+		// to a server a client that closes its half has gone, and a change may be refused then
+		got, _ := harness.Exchange(s.Address, begins("w "+at.method+" /v1/shop/"+at.path, chunked), false)
+		if statusOfText(got) != fmt.Sprint(at.want) {
 			t.Errorf("%d in pieces: %.100q", n, got)
 		}
 	}
