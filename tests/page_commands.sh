@@ -75,7 +75,7 @@ as_service() {
     local token=TOKEN-0123456789-0123456789 hash
     hash=$(printf %s $token | sha256sum | cut -d ' ' -f 1)
     fresh
-    mkdir -p copy crates/rb_tool/out && ln -s "$top/deploy" "$top/tests" . && cp "$program" crates/rb_tool/out/rb_tool
+    mkdir -p copy crates/rb_tool/out && ln -s "$top/deploy" "$top/library" "$top/tests" . && cp "$program" crates/rb_tool/out/rb_tool
     echo "shop write $hash" >tokens
     cat >started <<'END'
 #!/bin/sh
@@ -175,7 +175,7 @@ if needs nvim 'GUIDE: Vim'; then
     runs 'GUIDE: Vim' "nvim --headless -n -u NONE -i NONE -c '$(inline docs/GUIDE.md ':set')' -c 'silent make' \
         -c '$(inline docs/GUIDE.md ':%!')' -c 'wqall!' vim.txt && resb fmt --check vim.txt"
 fi
-runs 'INSTALL: the files of an archive' "tar -czf texts.tar.gz texts && $(inline docs/INSTALL.md 'tar -t') texts.tar.gz | grep -q texts/ui/de.txt"
+runs 'INSTALL: the files of an archive' "tar -czf texts.tar.gz texts && $(inline docs/INSTALL.md 'tar -t') texts.tar.gz | grep -c texts/ui/de.txt"
 runs 'TROUBLESHOOTING: a member of a line, and a folder' \
     "printf '%s' $(od -An -v -tx1 de.res | tr -d ' \n') | $(inline docs/TROUBLESHOOTING.md 'xxd') >sent.res && resb check sent.res && $(inline docs/TROUBLESHOOTING.md 'ls -ld') bundles && $(inline docs/TROUBLESHOOTING.md 'ulimit')"
 if needs git 'differences in git'; then
@@ -184,7 +184,7 @@ fi
 if needs genrb 'shipping'; then
     runs 'GUIDE: shipping' "$(block docs/GUIDE.md Shipping) && [ -f ship/ui/de.res ]"
 fi
-runs 'TUTORIAL: its commands, to paste' "EXAMPLES=$top/examples; $(block docs/TUTORIAL.md 'A first hour with resb') | grep -q '^resb compile'"
+runs 'TUTORIAL: its commands, to paste' "EXAMPLES=$top/examples; $(block docs/TUTORIAL.md 'A first hour with resb') | grep -c '^resb compile'"
 fresh
 mkdir -p src/main/resources po app/src/main/res/values App/en.lproj
 printf 'hello=Hello\n' >src/main/resources/app.properties
@@ -202,7 +202,7 @@ for section in 'From .properties' 'From PO' 'From Android and iOS'; do
 done
 
 fresh
-runs 'EXCHANGE: to .properties' "$(inline docs/EXCHANGE.md 'resb-exchange convert --from resb') && find out -name 'app*.properties' | grep -q ."
+runs 'EXCHANGE: to .properties' "$(inline docs/EXCHANGE.md 'resb-exchange convert --from resb') && find out -name 'app*.properties' | grep -c ."
 runs 'PROJECT: several processes' "$(inline docs/PROJECT.md 'ls -d')"
 runs 'PROJECT: a whole project' "$(block docs/PROJECT.md 'Settings of a project')"
 runs 'PROJECT: a baseline' "$(block docs/PROJECT.md 'Old warnings') && resb init . && [ -f resb.toml ]"
