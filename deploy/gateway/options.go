@@ -101,7 +101,7 @@ func (s *settings) table() []option {
 		{"write-time", &s.writeTime, 5 * time.Minute, "how long a request may take altogether"},
 		{"idle-time", &s.idleTime, 2 * time.Minute, "how long a connection may wait for its next request"},
 		{"patience", &o.Patience, 30 * time.Second, "how long a change, a conversion or ?after= may take"},
-		{"drain", &s.drain, time.Duration(0), "how long the gateway still answers after it was told to end, while /readyz says that it ends"},
+		{"drain", &s.drain, time.Duration(0), "how long the gateway still answers after a signal to end, while /readyz says that it ends"},
 		{"leave", &s.leave, 30 * time.Second, "how long requests on their way may take when the gateway ends"},
 	}
 }
