@@ -31,7 +31,7 @@ func NewCluster(t testing.TB, folder string, n int, net *Network, more ...string
 	if strings.Contains(strings.Join(more, " "), "--cert-file") {
 		scheme = "https://"
 	}
-	ports, peers, initial := Ports(2*n), make([]string, n), make([]string, n)
+	ports, peers, initial := Ports(t, 2*n), make([]string, n), make([]string, n)
 	for i := range peers {
 		host := net.Inner(i)
 		peers[i] = fmt.Sprintf("http://%s:%d", host, ports[2*i+1])

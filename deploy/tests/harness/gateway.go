@@ -94,7 +94,7 @@ func New(t testing.TB, s Setup) *Gateway {
 	if s.Host == "" {
 		s.Host = "127.0.0.1"
 	}
-	ports := Ports(2)
+	ports := Ports(t, 2)
 	g := &Gateway{Address: fmt.Sprint(s.Host, ":", ports[0]), Inside: fmt.Sprint("http://", s.Host, ":", ports[1]),
 		State: filepath.Join(s.Folder, "state"), Tokens: filepath.Join(s.Folder, "tokens")}
 	g.URL = "http://" + g.Address

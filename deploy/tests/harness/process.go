@@ -3,6 +3,7 @@
 package harness
 
 import (
+	"errors"
 	"fmt"
 	"io"
 	"math/rand"
@@ -186,21 +187,37 @@ func (r *Record) Tail(most int) string {
 	return string(r.text)
 }
 
-// Ports returns free ports of loopback. They are below those that the system gives to callers.
-func Ports(n int) (all []int) {
-	taken := map[int]bool{}
-	r := rand.New(rand.NewSource(time.Now().UnixNano() + int64(os.Getpid())))
-	for len(all) < n {
-		port := 11000 + r.Intn(20000)
-		l, err := net.Listen("tcp", "127.0.0.1:"+strconv.Itoa(port))
-		if err != nil || taken[port] {
-			continue
+// Ports returns ports of loopback for the processes of a test. They are below those that the system gives to callers, and no other test gets
+// them until this one ends, also while their processes are down.
+func Ports(t testing.TB, n int) (all []int) {
+	t.Helper()
+	for random := rand.New(rand.NewSource(time.Now().UnixNano() + int64(os.Getpid()))); len(all) < n; {
+		port := 11000 + random.Intn(20000)
+		socket, err := reserve(port)
+		if err == nil {
+			t.Cleanup(func() { _ = syscall.Close(socket) })
+			all = append(all, port)
+		} else if !errors.Is(err, syscall.EADDRINUSE) {
+			t.Fatal(err)
 		}
-		_ = l.Close()
-		taken[port] = true
-		all = append(all, port)
 	}
 	return all
+}
+
+// reserve binds a socket to a port that no other socket has. It doesn't listen, so a process that reuses addresses, as Go does, may.
+func reserve(port int) (socket int, err error) {
+	socket, err = syscall.Socket(syscall.AF_INET, syscall.SOCK_STREAM|syscall.SOCK_CLOEXEC, 0)
+	if err != nil {
+		return -1, err
+	}
+	err = syscall.Bind(socket, &syscall.SockaddrInet4{Port: port, Addr: [4]byte{127, 0, 0, 1}})
+	if err == nil {
+		err = syscall.SetsockoptInt(socket, syscall.SOL_SOCKET, syscall.SO_REUSEADDR, 1) // not before, or two could bind
+	}
+	if err != nil {
+		_ = syscall.Close(socket)
+	}
+	return socket, err
 }
 
 // A Use is what a process uses: bytes of memory, threads, open files, time of the processor, and bytes

@@ -68,7 +68,7 @@ func BenchmarkLookups(b *testing.B) {
 	got := g.Make("GET", path, "")
 	delete(got.Header, "Date")
 	text, _ := json.Marshal(reply{got.Header, got.Body})
-	address := fmt.Sprint("127.0.0.1:", harness.Ports(1)[0])
+	address := fmt.Sprint("127.0.0.1:", harness.Ports(b, 1)[0])
 	other := &harness.Process{T: b, Name: "constant", Args: os.Args[:1], Health: "http://" + address,
 		Env: []string{"CONSTANT=" + address, "CONSTANT_REPLY=" + string(text)}}
 	b.Cleanup(other.Kill)
