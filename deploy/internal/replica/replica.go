@@ -101,9 +101,11 @@ func Open(s store.Store, e *engine.Engine, o Options) *Replica {
 	ctx, stop := context.WithCancel(context.Background())
 	r := &Replica{past: s, store: s, engine: e, options: o, ctx: ctx, stop: stop,
 		reading: make(places, mostRead), preparing: make(places, runtime.GOMAXPROCS(0))}
-	for _, work := range []func(){r.watch, r.start, r.collect} {
-		r.do(work)
-	}
+	r.do(r.watch)
+	r.do(func() {
+		r.start()
+		r.collect()
+	})
 	return r
 }
 
@@ -187,9 +189,9 @@ func (r *Replica) start() {
 	}
 }
 
-// collect removes what the store need not keep, now and then.
+// collect removes what the store need not keep, at once and then now and then: a gateway that is always killed soon collects too.
 func (r *Replica) collect() {
-	for store.Pause(r.ctx, r.options.Every) {
+	for goes := r.ctx.Err() == nil; goes; goes = store.Pause(r.ctx, r.options.Every) {
 		if removed, err := r.store.Collect(r.ctx, r.options.Keep); err != nil && r.ctx.Err() == nil {
 			log.Printf("store: collect: %v", err)
 		} else if removed > 0 {

@@ -15,6 +15,7 @@ import (
 	"luvdregan.example/resb/deploy/internal/manifest"
 	"luvdregan.example/resb/deploy/internal/store"
 	"luvdregan.example/resb/deploy/internal/store/sqlite"
+	"luvdregan.example/resb/deploy/tests/harness"
 )
 
 var ctx = context.Background()
@@ -27,6 +28,11 @@ type gateway struct {
 
 func open(t *testing.T, folder string, wrap func(store.Store) store.Store) *gateway {
 	t.Helper()
+	return openKeeping(t, folder, wrap, store.Keep{})
+}
+
+func openKeeping(t *testing.T, folder string, wrap func(store.Store) store.Store, keep store.Keep) *gateway {
+	t.Helper()
 	s, err := sqlite.Open(sqlite.Options{Folder: folder, Create: true})
 	if err != nil {
 		t.Fatal(err)
@@ -35,7 +41,7 @@ func open(t *testing.T, folder string, wrap func(store.Store) store.Store) *gate
 	if err != nil {
 		t.Fatal(err)
 	}
-	r := Open(wrap(s), e, Options{Apps: 64, Bytes: 1 << 30, Every: time.Hour})
+	r := Open(wrap(s), e, Options{Apps: 64, Bytes: 1 << 30, Keep: keep, Every: time.Hour})
 	for began := time.Now(); r.Ready() != nil; time.Sleep(time.Millisecond) {
 		if time.Since(began) > time.Minute {
 			t.Fatal("it isn't ready")
@@ -131,6 +137,24 @@ func TestADamagedFile(t *testing.T) {
 	g = open(t, folder, asIs)
 	defer g.Close()
 	g.is(t, "shop", "de_AT", "a", "A")
+}
+
+// TestCollectsAfterAStart has a gateway that ends long before the time between two collections is over.
+func TestCollectsAfterAStart(t *testing.T) {
+	folder := t.TempDir()
+	g := open(t, folder, asIs)
+	for i := 0; i < 3; i++ {
+		if _, err := g.put("shop", "de", fmt.Sprintf(`de{a{"%d"}}`, i)); err != nil {
+			t.Fatal(err)
+		}
+	}
+	g.Close()
+	g = openKeeping(t, folder, asIs, store.Keep{Manifests: 1})
+	defer g.Close()
+	harness.Eventually(t, "earlier manifests are removed", func() bool {
+		all, err := g.History(ctx, "shop", 0, 10)
+		return err == nil && len(all) == 1
+	})
 }
 
 // TestErasures erases an application beside its writers and readers, and beside the collector. Nobody finds what was erased.
