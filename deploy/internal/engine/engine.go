@@ -5,6 +5,7 @@ package engine
 import (
 	"errors"
 	"fmt"
+	"hash/maphash"
 	"os"
 	"runtime"
 	"sort"
@@ -39,8 +40,36 @@ type Source struct {
 // An Engine has the bundles of all applications.
 type Engine struct {
 	options Options
-	pool    *resb.Pool
-	long    sync.RWMutex // read by trees and long items, so that a change waits for them while short lookups continue
+	seed    maphash.Seed
+	shards  []*shard
+}
+
+// A shard has the bundles of the applications whose names have one of some hashes. A long change or a tree holds up changes of its shard alone.
+type shard struct {
+	pool *resb.Pool
+	long sync.RWMutex // read by trees and long items, so that a change waits for them while short lookups continue
+}
+
+// The number of shards, which is less if all together would have more than some bytes of ICUDATA.
+const (
+	mostShards = 32
+	mostShared = 128 << 20
+)
+
+// shardsOf returns how many shards there are, each with these bundles of ICUDATA.
+func shardsOf(icuData []Source) int {
+	bytes := 0
+	for _, s := range icuData {
+		bytes += len(s.Body)
+	}
+	switch n := mostShared / (bytes + 1); {
+	case n > mostShards:
+		return mostShards
+	case n < 2:
+		return 2
+	default:
+		return n
+	}
 }
 
 // Works returns how much long work may run at once: some processors are left for lookups.
@@ -57,15 +86,26 @@ func Open(o Options) (*Engine, error) {
 	for i, s := range o.ICUData {
 		entries[i] = resb.Entry{Locale: s.Locale, Bundle: s.Body, IsText: s.IsText}
 	}
-	pool, err := resb.OpenPool(resb.Options{ICUData: entries, Parents: o.Parents}, Works()+4*runtime.GOMAXPROCS(0))
-	var fault *resb.Error
-	switch {
-	case errors.As(err, &fault) && fault.Locale != "":
-		return nil, fmt.Errorf("bundle %s of ICUDATA: %s", fault.Locale, fault.Code)
-	case errors.As(err, &fault):
-		return nil, fmt.Errorf("parents: line %d: %s", fault.Line, fault.Code)
+	e := &Engine{options: o, seed: maphash.MakeSeed(), shards: make([]*shard, shardsOf(o.ICUData))}
+	for i := range e.shards {
+		pool, err := resb.OpenPool(resb.Options{ICUData: entries, Parents: o.Parents}, Works()+2*runtime.GOMAXPROCS(0))
+		var fault *resb.Error
+		switch {
+		case errors.As(err, &fault) && fault.Locale != "":
+			return nil, fmt.Errorf("bundle %s of ICUDATA: %s", fault.Locale, fault.Code)
+		case errors.As(err, &fault):
+			return nil, fmt.Errorf("parents: line %d: %s", fault.Line, fault.Code)
+		case err != nil:
+			return nil, err
+		}
+		e.shards[i] = &shard{pool: pool}
 	}
-	return &Engine{options: o, pool: pool}, err
+	return e, nil
+}
+
+// of returns the shard of an application. Nobody can choose names that share one.
+func (e *Engine) of(app string) *shard {
+	return e.shards[maphash.String(e.seed, app)%uint64(len(e.shards))]
 }
 
 // longItem is the most bytes of a reply that is made beside lookups, for which a change waits.
@@ -74,15 +114,16 @@ const longItem = 64 << 10
 // Item appends what `resb serve` replies to a lookup (docs/SERVER.md), without its line feed, or returns the code of a refusal. If the reply has
 // more than some bytes it only returns about how many.
 func (e *Engine) Item(dst []byte, app, locale, path string, most int) (reply []byte, needs int, code string) {
+	its := e.of(app)
 	if most > longItem {
-		e.long.RLock()
-		defer e.long.RUnlock()
+		its.long.RLock()
+		defer its.long.RUnlock()
 	}
 	if int64(most) > e.options.ReplyBytes {
 		most = int(e.options.ReplyBytes)
 	}
 	var err error
-	e.pool.Look(func(b *resb.Bundles) {
+	its.pool.Look(func(b *resb.Bundles) {
 		reply, needs, err = b.AppendItemJSON(dst, app, locale, path, e.options.Steps, most)
 	})
 	if int64(needs) > e.options.ReplyBytes {
@@ -93,10 +134,11 @@ func (e *Engine) Item(dst []byte, app, locale, path string, most int) (reply []b
 
 // Tree returns an item with everything that it inherits as one value of JSON, or the code of a refusal.
 func (e *Engine) Tree(app, locale, path string) (tree []byte, code string) {
-	e.long.RLock()
-	defer e.long.RUnlock()
+	its := e.of(app)
+	its.long.RLock()
+	defer its.long.RUnlock()
 	var err error
-	e.pool.Look(func(b *resb.Bundles) { tree, err = b.TreeJSON(app, locale, path, e.options.TreeSteps) })
+	its.pool.Look(func(b *resb.Bundles) { tree, err = b.TreeJSON(app, locale, path, e.options.TreeSteps) })
 	return tree, codeOf(err)
 }
 
@@ -130,10 +172,11 @@ func (e *Engine) Release(app string, edits []Edit, done func()) {
 	}
 	// removals first, so that there is always room for what is put
 	sort.SliceStable(all, func(i, j int) bool { return all[i].Bundle == nil && all[j].Bundle != nil })
-	e.long.Lock()
-	defer e.long.Unlock()
-	err := e.pool.Change(func(b *resb.Bundles) error {
-		for len(all) > mostEdits { // nobody looks up meanwhile
+	its := e.of(app)
+	its.long.Lock()
+	defer its.long.Unlock()
+	err := its.pool.Change(func(b *resb.Bundles) error {
+		for len(all) > mostEdits { // nobody looks up in the shard meanwhile
 			if err := b.Release(app, all[:mostEdits]); err != nil {
 				return err
 			}
