@@ -7,6 +7,7 @@ import (
 	"context"
 	"errors"
 	"math"
+	"strings"
 	"sync"
 	"time"
 )
@@ -37,9 +38,10 @@ type Limits struct {
 	options Options
 	works   chan struct{}
 
-	mu       sync.Mutex
-	all      usage
-	accounts map[key]*account
+	mu    sync.Mutex
+	all   usage
+	apps  map[string]*account
+	users map[string]*account // by the holder of the token
 }
 
 // A usage is what is on its way.
@@ -48,16 +50,9 @@ type usage struct {
 	bytes    int64
 }
 
-// A key names whose account it is: an application, or the holder of a token.
-type key struct {
-	isHolder bool
-	name     string
-}
-
 // An account is what an application or a holder has on its way, and what it has used.
 type account struct {
 	usage
-	key  key
 	work chan struct{} // taken during its long work
 
 	used  float64 // requests that still count; they fall by the rate
@@ -73,12 +68,12 @@ type Ticket struct {
 	bytes    int64
 }
 
-// mostAccounts is how many accounts are stored before those that used little are removed.
+// mostAccounts is how many accounts of a kind are stored before those that used little are removed.
 const mostAccounts = 1 << 16
 
 // New returns limits.
 func New(o Options) *Limits {
-	return &Limits{options: o, works: make(chan struct{}, o.Works), accounts: map[key]*account{}}
+	return &Limits{options: o, works: make(chan struct{}, o.Works), apps: map[string]*account{}, users: map[string]*account{}}
 }
 
 // HalfOfFree returns how much of a limit an account may have: half of what others leave, so that there is always some left.
@@ -88,7 +83,7 @@ func HalfOfFree(limit, ofAll, own int64) int64 { return (limit - (ofAll - own) +
 func (l *Limits) Begin(t *Ticket, app, holder string, now time.Time) error {
 	l.mu.Lock()
 	defer l.mu.Unlock()
-	*t = Ticket{of: l, accounts: [2]*account{l.account(key{false, app}), l.account(key{true, holder})}}
+	*t = Ticket{of: l, accounts: [2]*account{l.account(l.apps, app), l.account(l.users, holder)}}
 	if l.all.requests >= l.options.All {
 		return ErrFull
 	}
@@ -105,23 +100,24 @@ func (l *Limits) Begin(t *Ticket, app, holder string, now time.Time) error {
 	return nil
 }
 
-func (l *Limits) account(k key) *account {
-	a := l.accounts[k]
+// account returns the account of a name, which stays for its next request.
+func (l *Limits) account(all map[string]*account, name string) *account {
+	a := all[name]
 	if a == nil {
-		if len(l.accounts) >= mostAccounts {
-			l.forget()
+		if len(all) >= mostAccounts {
+			l.forget(all)
 		}
-		a = &account{key: k, work: make(chan struct{}, 1)}
-		l.accounts[k] = a
+		a = &account{work: make(chan struct{}, 1)}
+		all[strings.Clone(name)] = a // the name may be a part of a long address
 	}
 	return a
 }
 
 // forget removes accounts that used little.
-func (l *Limits) forget() {
-	for k, a := range l.accounts {
+func (l *Limits) forget(all map[string]*account) {
+	for name, a := range all {
 		if a.requests == 0 && a.spent <= l.options.DayBytes/mostAccounts {
-			delete(l.accounts, k)
+			delete(all, name)
 		}
 	}
 }
@@ -141,12 +137,10 @@ func (t *Ticket) End(sent int64, now time.Time) {
 	l.mu.Lock()
 	defer l.mu.Unlock()
 	t.add(-1, -t.bytes)
-	for _, a := range t.accounts {
-		if l.options.DayBytes > 0 {
+	if l.options.DayBytes > 0 {
+		for _, a := range t.accounts {
 			a.pass(now, l.options.Rate)
 			a.spent += sent
-		} else if l.options.Rate == 0 && a.requests == 0 {
-			delete(l.accounts, a.key)
 		}
 	}
 }

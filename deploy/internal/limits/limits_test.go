@@ -30,7 +30,7 @@ func TestAHolderOfManyApplications(t *testing.T) {
 	harness.Equal(t, other.Hold(1<<18), nil)
 	held := int64(0)
 	for i := 0; ; i++ {
-		one := &Ticket{of: l, accounts: [2]*account{l.account(key{false, fmt.Sprint("app", i)}), l.account(key{true, "prefix"})}}
+		one := &Ticket{of: l, accounts: [2]*account{l.account(l.apps, fmt.Sprint("app", i)), l.account(l.users, "prefix")}}
 		if one.Hold(1<<14) != nil {
 			break
 		}
@@ -68,6 +68,21 @@ func TestRates(t *testing.T) {
 		"over the bytes of the day: %v", err)
 	harness.Equal(t, l.Begin(&Ticket{}, "shop", "ci", now.Add(secondsADay*time.Second)), nil,
 		"the next day")
+}
+
+// TestManyNames has a holder ask for more names than are stored, and one of them all the time. Further requests of a name allocate nothing.
+func TestManyNames(t *testing.T) {
+	l := New(Options{Each: 9, All: 99, Bytes: 9, Works: 1})
+	stays := begin(t, l, "stays", "me", nil)
+	for i := 0; i < 2*mostAccounts; i++ {
+		begin(t, l, fmt.Sprint("app", i), "me", nil).End(0, time.Now())
+	}
+	harness.ErrorIf(t, len(l.apps) > mostAccounts || l.apps["stays"] != stays.accounts[0], "%d accounts", len(l.apps))
+	ticket, now := &Ticket{}, time.Now()
+	harness.Equal(t, testing.AllocsPerRun(100, func() {
+		harness.Must(t, l.Begin(ticket, "shop", "ci", now))
+		ticket.End(0, now)
+	}), 0.0)
 }
 
 // TestWork has one long work of an application and of a holder at a time.
