@@ -5,7 +5,6 @@ import (
 	"encoding/hex"
 	"errors"
 	"fmt"
-	"regexp"
 	"strings"
 	"time"
 )
@@ -31,12 +30,19 @@ func (g *Grant) covers(app string) bool {
 // Hash returns the digest in hexadecimal.
 func (g *Grant) Hash() string { return hex.EncodeToString(g.digest[:]) }
 
-var appName = regexp.MustCompile(`^[A-Za-z0-9_.-]{1,64}$`)
+// mostApp is the most bytes of an application's name.
+const mostApp = 64
 
 // isApp returns true if a text is the name of an application. A name of full stops alone can't be used
 // in an address.
 func isApp(name string) bool {
-	return appName.MatchString(name) && name != "." && name != ".." && name != "ICUDATA"
+	for i := 0; i < len(name); i++ {
+		c, letter := name[i], name[i]|0x20
+		if (letter < 'a' || letter > 'z') && (c < '0' || c > '9') && c != '_' && c != '.' && c != '-' {
+			return false
+		}
+	}
+	return name != "" && len(name) <= mostApp && name != "." && name != ".." && name != "ICUDATA"
 }
 
 // parse reads the content of a file, without the lines that are wrong.

@@ -37,6 +37,7 @@ type digest [sha256.Size]byte
 // A Holder is who has a token.
 type Holder struct {
 	digest digest
+	id     string // the bytes of the digest
 	name   string // in the file, or ""
 	grants []Grant
 }
@@ -49,7 +50,7 @@ func holdersOf(grants []Grant) map[digest]Holder {
 		if g.Name != "" {
 			h.name = g.Name
 		}
-		h.digest, h.grants = g.digest, append(h.grants, g)
+		h.digest, h.id, h.grants = g.digest, string(g.digest[:]), append(h.grants, g)
 		all[g.digest] = h
 	}
 	return all
@@ -64,7 +65,7 @@ func (h Holder) Name() string {
 }
 
 // ID returns a text that differs for each token.
-func (h *Holder) ID() string { return string(h.digest[:]) }
+func (h *Holder) ID() string { return h.id }
 
 // May returns what the holder may do now for an application; 0 is nothing.
 func (h Holder) May(app string, now time.Time) (most Right) {

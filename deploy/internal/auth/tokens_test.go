@@ -5,6 +5,7 @@ import (
 	"encoding/hex"
 	"os"
 	"path/filepath"
+	"regexp"
 	"strings"
 	"syscall"
 	"testing"
@@ -62,6 +63,18 @@ func TestPrefixesAndNames(t *testing.T) {
 	}
 	if h, _ := tokens.Find(two); h.Name() != hashOf(two)[:8] || h.May("shop.a", time.Now()) != Read {
 		t.Error(h.Name())
+	}
+}
+
+// TestNamesOfApplications compares with the expression of OPERATIONS.md's names.
+func TestNamesOfApplications(t *testing.T) {
+	name := regexp.MustCompile(`^[A-Za-z0-9_.-]{1,64}$`)
+	for _, long := range []string{"", strings.Repeat("a", 64), strings.Repeat("a", 65), ".", "..", "...", "ICUDATA"} {
+		harness.Equal(t, isApp(long), name.MatchString(long) && long != "." && long != ".." && long != "ICUDATA", long)
+	}
+	for b := 0; b < 256; b++ {
+		one := "a" + string([]byte{byte(b)})
+		harness.Equal(t, isApp(one), name.MatchString(one), b)
 	}
 }
 
