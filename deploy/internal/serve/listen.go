@@ -2,6 +2,7 @@
 package serve
 
 import (
+	"bytes"
 	"errors"
 	"net"
 	"net/http"
@@ -56,14 +57,39 @@ func (l *Listener) Accept() (net.Conn, error) {
 // A conn is a connection, which is counted as long as it is open.
 type conn struct {
 	net.Conn
-	of      *Listener
-	closing sync.Once
+	of            *Listener
+	closing       sync.Once
+	reads, writes deadline
 }
 
 // Close ends the connection.
 func (c *conn) Close() error {
 	c.closing.Do(func() { c.of.Metrics.Connect(-1) })
 	return c.Conn.Close()
+}
+
+// Read reads bytes until the deadline.
+func (c *conn) Read(b []byte) (int, error) {
+	return c.reads.within(c.Conn.Read, c.Conn.SetReadDeadline, b)
+}
+
+// Write writes bytes until the deadline.
+func (c *conn) Write(b []byte) (int, error) {
+	return c.writes.within(c.Conn.Write, c.Conn.SetWriteDeadline, b)
+}
+
+// SetReadDeadline sets until when bytes are read.
+func (c *conn) SetReadDeadline(t time.Time) error { return c.reads.set(t, c.Conn.SetReadDeadline) }
+
+// SetWriteDeadline sets until when bytes are written.
+func (c *conn) SetWriteDeadline(t time.Time) error { return c.writes.set(t, c.Conn.SetWriteDeadline) }
+
+// SetDeadline sets both.
+func (c *conn) SetDeadline(t time.Time) error {
+	if err := c.SetReadDeadline(t); err != nil {
+		return err
+	}
+	return c.SetWriteDeadline(t)
 }
 
 // A caller is a connection for HTTP/1.1, within TLS if that is on.
@@ -90,23 +116,37 @@ type lengths struct {
 }
 
 // take reads the next bytes of a header, and what follows it.
-func (l *lengths) take(bytes []byte) {
-	for _, b := range bytes {
+func (l *lengths) take(header []byte) {
+	for len(header) > 0 && !l.over {
+		line, rest, isWhole := bytes.Cut(header, []byte("\n"))
+		if l.add(line); isWhole {
+			l.endLine()
+		}
+		header = rest
+	}
+}
+
+// add stores the begin of a line. Of most lines the first byte suffices.
+func (l *lengths) add(part []byte) {
+	for _, b := range part {
 		switch {
-		case l.over:
+		case l.used == len(l.line), l.used > 0 && l.line[0]|0x20 != 'c' && l.line[0]|0x20 != 't':
 			return
-		case b != '\n':
-			if l.used < len(l.line) && b != '\r' {
-				l.line[l.used] = b
-				l.used++
-			}
-		default:
-			name, _, _ := strings.Cut(string(l.line[:l.used]), ":")
-			l.content = l.content || strings.EqualFold(name, "Content-Length")
-			l.encoding = l.encoding || strings.EqualFold(name, "Transfer-Encoding")
-			l.over, l.used = l.used == 0, 0
+		case b != '\r':
+			l.line[l.used] = b
+			l.used++
 		}
 	}
+}
+
+// endLine ends a line. The header ends with an empty one.
+func (l *lengths) endLine() {
+	if l.used > 1 {
+		name, _, _ := strings.Cut(string(l.line[:l.used]), ":")
+		l.content = l.content || strings.EqualFold(name, "Content-Length")
+		l.encoding = l.encoding || strings.EqualFold(name, "Transfer-Encoding")
+	}
+	l.over, l.used = l.used == 0, 0
 }
 
 // Read reads bytes of the caller. If they don't come in time, and a header is begun, the caller gets an error.
