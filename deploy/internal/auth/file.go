@@ -101,7 +101,7 @@ func (t *Tokens) Add(path string) error {
 		return fmt.Errorf("%s: %w", path, wrong[0])
 	}
 	t.added = content
-	t.holders.Store(holdersOf(grants))
+	t.known.Store(knownOf(grants))
 	return nil
 }
 

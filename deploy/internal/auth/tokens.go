@@ -89,10 +89,10 @@ func (h Holder) holdsAny(now time.Time) bool {
 
 // Tokens are read from a file of lines (OPERATIONS.md).
 type Tokens struct {
-	path    string
-	holders atomic.Value // map[digest]Holder
-	isBad   atomic.Bool
-	short   sync.Once // logs that a short token was refused
+	path  string
+	known atomic.Pointer[known]
+	isBad atomic.Bool
+	short sync.Once // logs that a short token was refused
 
 	mu    sync.Mutex
 	taken []byte // the content that the tokens are from, or nil if the file must be taken again
@@ -117,7 +117,7 @@ func Open(path string) (*Tokens, error) {
 		return nil, fmt.Errorf("%s: %s", path, why)
 	}
 	t.taken, t.last = content, content
-	t.holders.Store(holdersOf(grants))
+	t.known.Store(knownOf(grants))
 	return t, nil
 }
 
@@ -163,9 +163,9 @@ func (t *Tokens) take(content []byte) {
 	}
 	t.isBad.Store(len(wrong) > 0)
 	t.taken = content
-	holders := holdersOf(grants)
-	t.holders.Store(holders)
-	log.Printf("tokens: read again: %d", len(holders))
+	now := knownOf(grants)
+	t.known.Store(now)
+	log.Printf("tokens: read again: %d", len(now.holders))
 }
 
 // stateOf returns a text that differs once a file is changed, or "" if nobody can know. A file that was changed less than some seconds
@@ -187,7 +187,7 @@ func othersMayWrite(path string) bool {
 
 // Find returns who has a token; the second result is false if nobody has it, it has expired, or it is too short.
 func (t *Tokens) Find(token string) (h Holder, ok bool) {
-	h, ok = t.holders.Load().(map[digest]Holder)[sha256.Sum256([]byte(token))]
+	h, ok = t.known.Load().find(token)
 	if ok && len(token) < LeastToken {
 		t.short.Do(func() {
 			log.Printf("tokens: %s is refused: it has fewer than %d characters; make another one", h.Name(), LeastToken)

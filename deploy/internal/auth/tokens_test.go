@@ -3,6 +3,7 @@ package auth
 import (
 	"crypto/sha256"
 	"encoding/hex"
+	"fmt"
 	"os"
 	"path/filepath"
 	"regexp"
@@ -76,6 +77,27 @@ func TestNamesOfApplications(t *testing.T) {
 		one := "a" + string([]byte{byte(b)})
 		harness.Equal(t, isApp(one), name.MatchString(one), b)
 	}
+}
+
+// TestManyTokens finds more tokens than are remembered, again and again, and none of them once they are revoked.
+func TestManyTokens(t *testing.T) {
+	var lines, all []string
+	for i := 0; i < 3*mostRecent; i++ {
+		all = append(all, fmt.Sprintf("a token of the test, number %d", i))
+		lines = append(lines, fmt.Sprintf("shop.%d read %s", i, hashOf(all[i])))
+	}
+	path := file(t, lines...)
+	tokens := open(t, path)
+	for i := 0; i < 3*len(all); i++ {
+		n := i % len(all)
+		if may(tokens, all[n], fmt.Sprint("shop.", n)) != Read || may(tokens, all[n]+"x", fmt.Sprint("shop.", n)) != 0 {
+			t.Fatal(i)
+		}
+	}
+	harness.Equal(t, testing.AllocsPerRun(100, func() { tokens.Find(all[0]) }), 0.0)
+	write(t, path, lines[1:]...)
+	tokens.Reload(true)
+	harness.ErrorIf(t, may(tokens, all[0], "shop.0") != 0 || may(tokens, all[1], "shop.1") != Read, "after the revocation")
 }
 
 func TestExpiry(t *testing.T) {
