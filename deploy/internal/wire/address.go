@@ -37,7 +37,7 @@ func Caller(r *http.Request, proxies []*net.IPNet) string {
 	if len(proxies) == 0 || !isOf(host, proxies) {
 		return host
 	}
-	forwarded := Tags(r.Header["X-Forwarded-For"])
+	forwarded := members(r.Header["X-Forwarded-For"])
 	for i := len(forwarded) - 1; i >= 0; i-- {
 		if net.ParseIP(forwarded[i]) == nil {
 			return host

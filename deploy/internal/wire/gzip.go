@@ -26,7 +26,7 @@ var zippers = sync.Pool{New: func() any {
 // TakesGzip returns true if the caller takes compressed replies (RFC 9110, 12.5.3).
 func TakesGzip(r *http.Request) bool {
 	weight := 0.0 // of `*`
-	for _, one := range Tags(r.Header["Accept-Encoding"]) {
+	for _, one := range members(r.Header["Accept-Encoding"]) {
 		member, parameters, _ := strings.Cut(one, ";")
 		switch member = strings.TrimSpace(member); {
 		case strings.EqualFold(member, "gzip"):

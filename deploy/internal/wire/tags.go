@@ -41,7 +41,7 @@ func BundleTag(digest manifest.Digest, suffix string) string {
 	return `"` + base64.RawURLEncoding.EncodeToString(whole[:tagBytes]) + suffix + `"`
 }
 
-// isTagOf returns true if a strong tag is one of a bundle, in whatever form.
+// isTagOf returns true if a tag is one of a bundle, in whatever form.
 func isTagOf(tag string, b *manifest.Bundle) bool {
 	if len(tag) < 2 || tag[0] != '"' || tag[len(tag)-1] != '"' {
 		return false
@@ -50,12 +50,22 @@ func isTagOf(tag string, b *manifest.Bundle) bool {
 	return `"`+hash+`"` == BundleTag(b.Digest, "")
 }
 
-// Tags returns the members of headers.
-func Tags(headers []string) (all []string) {
+// members returns those of headers that are lists.
+func members(headers []string) (all []string) {
 	for _, header := range headers {
 		for _, one := range strings.Split(header, ",") {
 			all = append(all, strings.TrimSpace(one))
 		}
+	}
+	return all
+}
+
+// tags returns the tags of headers. The gateway makes strong ones only: a weak one was strong until a proxy compressed its reply, so it
+// names the same bundle, also in If-Match.
+func tags(headers []string) []string {
+	all := members(headers)
+	for i, one := range all {
+		all[i] = strings.TrimPrefix(one, "W/")
 	}
 	return all
 }
@@ -66,13 +76,12 @@ func Has(r *http.Request, tag string) (reply string, has bool) {
 	if len(headers) == 0 {
 		return tag, false
 	}
-	for _, one := range Tags(headers) {
-		given := strings.TrimPrefix(one, "W/")
-		if one == "*" || given == tag {
+	for _, one := range tags(headers) {
+		if one == "*" || one == tag {
 			return tag, true
 		}
-		if strings.TrimSuffix(given, gzipTag+`"`)+`"` == tag {
-			return given, true
+		if strings.TrimSuffix(one, gzipTag+`"`)+`"` == tag {
+			return one, true
 		}
 	}
 	return tag, false
@@ -86,7 +95,7 @@ type Conditions struct {
 
 // ConditionsOf reads the headers of a request.
 func ConditionsOf(h http.Header) (c Conditions) {
-	c.match, c.noneMatch = Tags(h.Values("If-Match")), Tags(h.Values("If-None-Match"))
+	c.match, c.noneMatch = tags(h.Values("If-Match")), tags(h.Values("If-None-Match"))
 	if date, err := http.ParseTime(h.Get("If-Unmodified-Since")); err == nil && len(c.match) == 0 {
 		c.since = date
 	}
@@ -98,11 +107,8 @@ func (c Conditions) Any() bool { return len(c.match) > 0 || len(c.noneMatch) > 0
 
 // Hold returns true if all conditions hold for a bundle, or for nil if there is none.
 func (c Conditions) Hold(now *manifest.Bundle) bool {
-	one := func(all []string, weak bool) bool {
+	one := func(all []string) bool {
 		for _, tag := range all {
-			if weak {
-				tag = strings.TrimPrefix(tag, "W/")
-			}
 			if now != nil && (tag == "*" || isTagOf(tag, now)) {
 				return true
 			}
@@ -110,7 +116,7 @@ func (c Conditions) Hold(now *manifest.Bundle) bool {
 		return false
 	}
 	switch {
-	case len(c.match) > 0 && !one(c.match, false), one(c.noneMatch, true):
+	case len(c.match) > 0 && !one(c.match), one(c.noneMatch):
 		return false
 	case !c.since.IsZero() && (now == nil || At(now).Truncate(time.Second).After(c.since)):
 		return false
@@ -121,9 +127,9 @@ func (c Conditions) Hold(now *manifest.Bundle) bool {
 // At returns when a bundle was put.
 func At(b *manifest.Bundle) time.Time { return time.UnixMilli(b.At).UTC() }
 
-// IsOneOf returns true if headers with tags, which are strong, have one.
+// IsOneOf returns true if headers with tags have one.
 func IsOneOf(tag string, headers []string) bool {
-	for _, one := range Tags(headers) {
+	for _, one := range tags(headers) {
 		if one == "*" || one == tag || strings.TrimSuffix(one, gzipTag+`"`)+`"` == tag {
 			return true
 		}
