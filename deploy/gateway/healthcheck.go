@@ -14,21 +14,26 @@ import (
 const healthTime = 5 * time.Second
 
 // healthCommand asks a running gateway whether it is ready, and returns the status: `gateway -healthcheck ADDRESS`. An address without
-// a path is asked for /readyz. It may begin with https://; the certificate isn't checked, since the gateway's name needn't be that of
-// the address.
+// a path is asked for /readyz. It may begin with https://, and without a scheme it is asked over TLS if the gateway there needs that; the
+// certificate isn't checked, since the gateway's name needn't be that of the address.
 func healthCommand(arguments []string, said io.Writer) int {
 	if len(arguments) != 1 || arguments[0] == "" {
 		fmt.Fprintln(said, "usage: gateway -healthcheck ADDRESS, such as 127.0.0.1:6422 or https://127.0.0.1:6422/healthz")
 		return 2
 	}
-	address := arguments[0]
-	if !strings.Contains(address, "://") {
-		address = "http://" + address
+	address := strings.TrimSuffix(arguments[0], "/")
+	scheme, rest, hasScheme := strings.Cut(address, "://")
+	if !hasScheme {
+		scheme, rest = "http", address
 	}
-	if address = strings.TrimSuffix(address, "/"); strings.Count(address, "/") == 2 {
-		address += "/readyz"
+	if !strings.Contains(rest, "/") {
+		rest += "/readyz"
 	}
-	if err := checkHealth(address); err != nil {
+	err := checkHealth(scheme + "://" + rest)
+	if !hasScheme && err != nil && strings.Contains(err.Error(), "NeedsTLS") {
+		err = checkHealth("https://" + rest)
+	}
+	if err != nil {
 		fmt.Fprintln(said, "gateway:", err)
 		return 1
 	}

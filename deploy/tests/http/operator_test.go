@@ -192,6 +192,8 @@ func TestTLS(t *testing.T) {
 	if err != nil || got.StatusCode != 200 || got.TLS.PeerCertificates[0].SerialNumber.Int64() != 1 || got.Header.Get("Strict-Transport-Security") == "" {
 		t.Fatalf("%v, %v", err, got)
 	}
+	command(t, 0, "", "-healthcheck", s.Address)
+	command(t, 1, "https://", "-healthcheck", s.Address+"/none")
 	if text := s.raw("GET / HTTP/1.1\r\nHost: x\r\n\r\n"); !strings.HasPrefix(text, "HTTP/1.0 400 ") {
 		t.Errorf("without TLS: %q", text)
 	}
@@ -219,10 +221,6 @@ func TestTLS(t *testing.T) {
 			got, err := get()
 			return err == nil && got.TLS.PeerCertificates[0].SerialNumber.Int64() == serial
 		})
-	}
-	old := &tls.Config{InsecureSkipVerify: true, MaxVersion: tls.VersionTLS12, CipherSuites: []uint16{tls.TLS_RSA_WITH_AES_128_CBC_SHA}}
-	if _, err := tls.Dial("tcp", s.Address, old); err == nil {
-		t.Error("a key exchange without forward secrecy is taken")
 	}
 	must(t, os.WriteFile(filepath.Join(folder, "cert"), []byte("half"), 0o600))
 	time.Sleep(1500 * time.Millisecond)
