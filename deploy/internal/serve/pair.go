@@ -51,6 +51,8 @@ func (p *Pair) Again() {
 		p.failed = err.Error()
 	case err == nil && isNew:
 		log.Print("certificates: read again")
+		fallthrough
+	case err == nil:
 		p.failed = ""
 	}
 }
