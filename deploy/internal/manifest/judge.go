@@ -27,6 +27,10 @@ type Change struct {
 	At               int64
 	Edits            []Edit
 	Erase            bool
+	Until            int64 // when an erasure is final, or 0 for at once
+	IsUndo           bool  // of the erasure that removed these
+	Erased           []Bundle
+	Tokens           func(now []string) (next []string, refusal string) // changes the tokens; or nil
 }
 
 // A Refusal says why a change can't be made. Locale is that of the edit at fault, or "".
@@ -46,19 +50,33 @@ const (
 // Judge makes the next manifest from the present one, or refuses. It returns the present one itself if the change changes nothing.
 func Judge(now *Manifest, c *Change, l Limits) (*Manifest, *Refusal) {
 	next := &Manifest{App: c.App, Revision: now.Revision + 1, ID: c.ID, Before: now.ID, Op: c.Op, Who: c.Who, At: c.At, index: &index{}}
+	next.Tokens = now.Tokens
 	if c.Erase {
-		next.Erased = true
+		next.erase(now, c.Until)
 		return next, nil
 	}
 	next.Orders, next.Bytes, next.Compiled = now.Orders, now.Bytes, now.Compiled
+	if now.Erasure != nil && c.At < now.Erasure.Until+forgotten {
+		next.Erasure = now.Erasure
+	}
 	d := newDraft(now, next, c.Edits)
 	for i := range c.Edits {
 		if code := d.make(&c.Edits[i], c, l); code != "" {
 			return nil, &Refusal{code, c.Edits[i].Locale}
 		}
 	}
-	if len(next.Made) == 0 {
+	code := ""
+	switch {
+	case c.IsUndo:
+		next.Erasure = nil
+		code = d.bring(now, c.Erased, l)
+	case c.Tokens != nil:
+		next.Tokens, code = c.Tokens(now.Tokens)
+	case len(next.Made) == 0:
 		return now, nil
+	}
+	if code != "" {
+		return nil, &Refusal{code, ""}
 	}
 	d.close()
 	// A change that shrinks an application over a narrowed limit is never refused.
@@ -133,6 +151,24 @@ func (d *draft) make(e *Edit, c *Change, l Limits) string {
 		made.Op = Replace
 	}
 	d.Made = append(d.Made, made)
+	return ""
+}
+
+// bring adds bundles whose locales have none, or returns why it can't.
+func (d *draft) bring(now *Manifest, bundles []Bundle, l Limits) string {
+	for _, b := range bundles {
+		if now.Find(b.Locale) != nil {
+			continue
+		}
+		if l.Bundles > 0 && d.bundles >= l.Bundles {
+			return Full
+		}
+		d.Orders++
+		b.Order = d.Orders
+		d.count(&b, 1)
+		d.Bundles = append(d.Bundles, b)
+		d.Made = append(d.Made, Made{Install, b.Locale, b.Digest, b.Kind, b.Bytes, b.Compiled})
+	}
 	return ""
 }
 

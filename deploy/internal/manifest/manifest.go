@@ -64,6 +64,8 @@ type Manifest struct {
 	Who      string   `json:"who,omitempty"`
 	At       int64    `json:"at"`
 	Erased   bool     `json:"erased,omitempty"` // no earlier manifest is kept
+	Erasure  *Erasure `json:"erasure,omitempty"`
+	Tokens   []string `json:"tokens,omitempty"` // those that owners made, as lines of the file of tokens
 	Made     []Made   `json:"-"`                // what the change did, in the order of its edits
 	Bundles  []Bundle `json:"-"`                // in the order of their installation
 	Orders   int64    `json:"orders,omitempty"` // how many installations there were
@@ -72,8 +74,18 @@ type Manifest struct {
 
 	pages []page // of the bundles; nil if the head has them
 	log   page   // of Made; empty if the head has it
+	gone  page   // of what this manifest erased
 	index *index // nil if nobody made it
 }
+
+// An Erasure is one that can be undone until a time. What it removed is in a page like those of a manifest.
+type Erasure struct {
+	Page  Digest `json:"page"`
+	Until int64  `json:"until"` // in milliseconds since 1970
+}
+
+// forgotten is how long after its time the manifests have an erasure, so that what it removed is overwritten.
+const forgotten = 24 * 60 * 60 * 1000 // milliseconds
 
 // An index finds bundles. It is made when it is first needed.
 type index struct {

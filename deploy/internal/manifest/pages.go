@@ -51,9 +51,26 @@ func pageOf(locale string) int {
 // First returns the manifest as the first one that a store gets of its application, with all its pages.
 func (m *Manifest) First() *Manifest {
 	first := *m
-	first.Before, first.Made, first.pages, first.log = "", nil, nil, page{}
+	first.Before, first.Made, first.Erasure, first.pages, first.log = "", nil, nil, nil, page{}
 	first.seal(&Manifest{})
 	return &first
+}
+
+// erase makes the manifest that of an application without bundles. What the one before has can be brought back until a time, unless that is 0.
+func (m *Manifest) erase(before *Manifest, until int64) {
+	m.Erased = true
+	switch {
+	case until > 0 && len(before.Bundles) == 0: // a request that is repeated takes nothing from the earlier one
+		m.Erasure = before.Erasure
+	case until > 0:
+		m.gone = newPage(before.Bundles)
+		m.Erasure = &Erasure{m.gone.digest, until}
+	}
+}
+
+// ReadErased returns what an erasure removed.
+func ReadErased(e *Erasure, read func(Digest) ([]byte, error)) ([]Bundle, error) {
+	return appendPage(nil, e.Page, read)
 }
 
 // seal makes the pages. Those that no edit changed are those of the manifest before.
@@ -108,7 +125,7 @@ func (m *Manifest) Head() []byte {
 // Fresh returns the stored pages that the manifest before doesn't have.
 func (m *Manifest) Fresh() map[Digest][]byte {
 	all := map[Digest][]byte{}
-	for _, p := range append([]page{m.log}, m.pages...) {
+	for _, p := range append([]page{m.log, m.gone}, m.pages...) {
 		if p.stored != nil {
 			all[p.digest] = p.stored
 		}
@@ -198,8 +215,8 @@ func readPage(digest Digest, read func(Digest) ([]byte, error), to any) error {
 	return unpack(stored, to)
 }
 
-// A Sweep has what some manifests of an application name, the newest of which is added first. It reads each page once. Of the compiled files only
-// those of the newest manifest are needed.
+// A Sweep has what some manifests of an application name, the newest of which is added first, and what that one's erasure removed. It reads each page
+// once. Of the compiled files only those of the newest manifest and of its erasure are needed.
 type Sweep struct {
 	Named map[Digest]bool // bodies and pages
 }
@@ -223,6 +240,12 @@ func (s *Sweep) Add(m *Manifest, read func(Digest) ([]byte, error)) (fresh []Bun
 			return nil, err
 		}
 		s.Named[p.digest] = true
+	}
+	if isNewest && m.Erasure != nil {
+		if all, err = appendPage(all, m.Erasure.Page, read); err != nil {
+			return nil, err
+		}
+		s.Named[m.Erasure.Page] = true
 	}
 	for _, b := range all {
 		if isNewest && b.File != "" {

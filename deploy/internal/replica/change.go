@@ -24,6 +24,10 @@ type Edit struct {
 type Request struct {
 	App, Who, Op string
 	Erase        bool
+	Undoable     time.Duration // how long an erasure is
+	Undo         bool          // of the last erasure
+	// Tokens changes the tokens of the application, unless it is nil.
+	Tokens func(now []string) (next []string, refusal string)
 	// Make returns the edits against a view; it is called again if another change came first. The bundles are the request's to discard.
 	Make func(ctx context.Context, now *View) ([]Edit, error)
 	// IsGone tells whether the caller has gone; then nothing is stored any more.
@@ -44,7 +48,7 @@ func (r *Replica) Change(ctx context.Context, q Request) (made *manifest.Manifes
 		return nil, false, err
 	}
 	defer a.writing.leave()
-	c := manifest.Change{App: q.App, Who: q.Who, Op: q.Op, ID: newID(), Erase: q.Erase}
+	c := manifest.Change{App: q.App, Who: q.Who, Op: q.Op, ID: newID(), Erase: q.Erase, Tokens: q.Tokens}
 	confirmed := int64(-1) // the revision up to which the store had reported all when the change had come
 	for {
 		now := a.now.Load()
@@ -92,6 +96,15 @@ func (r *Replica) judge(ctx context.Context, q *Request, c *manifest.Change, now
 		edits = made
 	}
 	c.Edits, c.At = make([]manifest.Edit, len(edits)), time.Now().UnixMilli()
+	if q.Undoable > 0 {
+		c.Until = c.At + q.Undoable.Milliseconds()
+	}
+	if c.IsUndo = q.Undo; q.Undo {
+		var err error
+		if c.Erased, err = r.erased(ctx, now); err != nil {
+			return nil, nil, err
+		}
+	}
 	for i := range edits {
 		edits[i].File = r.stored(edits[i].Bundle)
 		c.Edits[i] = edits[i].Edit
@@ -101,6 +114,17 @@ func (r *Replica) judge(ctx context.Context, q *Request, c *manifest.Change, now
 		return nil, nil, refusal
 	}
 	return next, edits, r.fits(q, now, next)
+}
+
+// erased returns what the last erasure removed, if that can still be undone.
+func (r *Replica) erased(ctx context.Context, now *View) ([]manifest.Bundle, error) {
+	e := now.Erasure
+	if e == nil || time.Now().UnixMilli() >= e.Until {
+		return nil, store.ErrNoVersion
+	}
+	return manifest.ReadErased(e, func(d manifest.Digest) ([]byte, error) {
+		return r.store.Body(ctx, now.App, manifest.Bundle{Digest: d})
+	})
 }
 
 // stored returns the digest of a bundle's compiled file, if that is stored too. To make a long one counts as preparing it.

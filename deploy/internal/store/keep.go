@@ -12,6 +12,7 @@ import (
 type Plan struct {
 	First          int64 // the earliest revision that stays, or 0 if all do
 	IsFinal        bool  // only a change of the application can make another plan
+	IsErased       bool  // what it removes may be what was erased
 	manifest.Sweep       // what the manifests from there on name
 	keep           Keep
 	now            time.Time
@@ -19,6 +20,9 @@ type Plan struct {
 	last           int64 // the earliest revision so far that stays
 	bytes          int64 // of the bodies that the newest manifest doesn't name
 }
+
+// undoTime is how long what was erased stays after its time, as undoing it may have begun before.
+const undoTime = 15 * time.Minute
 
 // NewPlan plans with what a reader finds.
 func NewPlan(from Reader, keep Keep) (*Plan, error) {
@@ -36,6 +40,13 @@ func NewPlan(from Reader, keep Keep) (*Plan, error) {
 func (p *Plan) add(m *manifest.Manifest, from Reader) (stays bool, err error) {
 	if !p.permits(m) {
 		return false, nil
+	}
+	if e := m.Erasure; p.manifests == 0 && e != nil {
+		isOver := p.now.After(time.UnixMilli(e.Until).Add(undoTime))
+		if p.IsErased = true; isOver {
+			m.Erasure = nil // nothing of it stays
+		}
+		p.IsFinal = p.IsFinal && isOver
 	}
 	more, err := p.Sweep.Add(m, from.Page)
 	if err != nil {

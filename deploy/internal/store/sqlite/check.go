@@ -165,6 +165,9 @@ func (c *checked) checkApp(from reader, whole bool) error {
 	var sweep manifest.Sweep
 	if err == nil {
 		err = store.EachHead(from, func(m *manifest.Manifest) (more bool, err error) {
+			if !whole {
+				m.Erasure = nil // without what was erased all bundles can be read
+			}
 			bundles, err := sweep.Add(m, from.Page)
 			if err == nil && whole {
 				err = m.FillMade(from.Page)

@@ -15,6 +15,7 @@ type plan struct {
 	unnamed []manifest.Digest // bodies, and pages
 	swaps   int64             // the number of the last change when it was made
 	isFinal bool
+	wipes   bool // what is removed is overwritten
 }
 
 // Collect removes earlier manifests, and bodies that none names, of one application in each transaction. A swap stores its bodies itself, so they need
@@ -44,7 +45,7 @@ func (s *Store) Collect(ctx context.Context, keep store.Keep) (removed int, err 
 		p := &plan{app: app}
 		err = s.read(ctx, func(tx *sql.Tx) error { return p.make(tx, keep) })
 		if err == nil && (p.first > 0 || len(p.unnamed) > 0) {
-			err = s.submit(ctx, &job{shrinks: true, do: func(t *transaction) (err error) {
+			err = s.submit(ctx, &job{shrinks: true, wipes: p.wipes, do: func(t *transaction) (err error) {
 				removed, err = p.carryOut(t)
 				return err
 			}})
@@ -62,7 +63,7 @@ func (p *plan) make(tx *sql.Tx, keep store.Keep) error {
 	if err != nil {
 		return err
 	}
-	p.first, p.isFinal = stay.First, stay.IsFinal
+	p.first, p.isFinal, p.wipes = stay.First, stay.IsFinal, stay.IsErased
 	var d manifest.Digest
 	q := query{"select digest from bodies where app = ?", []any{p.app}}
 	return q.each(tx, func() error {

@@ -64,6 +64,24 @@ func TestAKillAfterErasing(t *testing.T) {
 	}
 }
 
+// TestACollectionOverwrites has a collection remove what was erased: no file has a part of it.
+func TestACollectionOverwrites(t *testing.T) {
+	folder := t.TempDir()
+	s := opened(t, folder)
+	now := Make(t, s, Empty("a"), Put("de", "a-secret"))
+	erased, _ := manifest.Judge(now, &manifest.Change{App: "a", ID: "gone", At: 1, Erase: true, Until: 1}, manifest.Limits{})
+	Must(t, s.Swap(Ctx, erased, nil))
+	n, err := s.Collect(Ctx, store.Keep{})
+	if err != nil || n == 0 {
+		t.Error(n, err)
+	}
+	for _, name := range files {
+		if content, err := os.ReadFile(filepath.Join(folder, name)); err == nil && bytes.Contains(content, []byte("a-secret")) {
+			t.Errorf("%s has what was erased", name)
+		}
+	}
+}
+
 // TestBodiesWithoutAManifest has a kill after a first release stored its bodies.
 func TestBodiesWithoutAManifest(t *testing.T) {
 	s := opened(t, t.TempDir())

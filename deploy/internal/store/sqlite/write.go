@@ -235,7 +235,10 @@ func (t *transaction) swap(next *manifest.Manifest, head []byte, blobs map[manif
 	}
 	t.revisions += next.Revision - revision
 	if next.Erased {
-		_, err = t.exec("delete from manifests where app = ?; delete from bodies where app = ?", next.App, next.App)
+		_, err = t.exec("delete from manifests where app = ?", next.App)
+	}
+	if err == nil && next.Erased && next.Erasure == nil { // else a collection deletes what need not stay
+		_, err = t.exec("delete from bodies where app = ?", next.App)
 	}
 	if err == nil {
 		err = t.put(next.App, blobs)

@@ -27,7 +27,7 @@ type Kind struct {
 // Suite runs all tests. Each gets separate data.
 func Suite(t *testing.T, fresh func(t *testing.T) Kind) {
 	for name, test := range map[string]func(*testing.T, Kind){
-		"Bodies": testBodies, "Conflicts": testConflicts, "Pages": testPages, "History": testHistory, "Erase": testErase, "Races": testRaces,
+		"Bodies": testBodies, "Conflicts": testConflicts, "Pages": testPages, "History": testHistory, "Erase": testErase, "Undo": testUndo, "Races": testRaces,
 		"Watch": testWatch, "Collect": testCollect, "CollectUnderWriters": testCollectUnderWriters, "Release": testRelease, "Copy": testCopy,
 		"GivenUp": testGivenUp, "Gone": testGone,
 	} {
@@ -242,6 +242,57 @@ func testErase(t *testing.T, k Kind) {
 		t.Error(four.Revision)
 	}
 	Check(t, s, four)
+}
+
+// testUndo has an erasure that can be undone: what it removed stays until its time, and earlier versions don't.
+func testUndo(t *testing.T, k Kind) {
+	s := k.Open(t)
+	now := Make(t, s, Empty("a"), Put("de", "earlier"), Put("fr", "french"))
+	now = Make(t, s, now, Put("de", "a-secret"))
+	change := func(c manifest.Change) *manifest.Manifest {
+		t.Helper()
+		c.App, c.ID, c.At = "a", fmt.Sprint("id", atomic.AddInt64(&ids, 1)), time.Now().UnixMilli()
+		next, refusal := manifest.Judge(now, &c, manifest.Limits{})
+		if refusal != nil {
+			t.Fatal(refusal)
+		}
+		Must(t, s.Swap(Ctx, next, nil))
+		return next
+	}
+	has := func(text string) bool {
+		_, err := s.Body(Ctx, "a", manifest.Bundle{Digest: manifest.DigestOf([]byte(text)), Bytes: int64(len(text))})
+		return err == nil
+	}
+	collect := func() {
+		t.Helper()
+		time.Sleep(2*k.Grace + 20*time.Millisecond)
+		for i := 0; i < 2; i++ {
+			_, err := s.Collect(Ctx, store.Keep{Manifests: 1, Bytes: 1, Grace: k.Grace})
+			Must(t, err)
+		}
+	}
+	now = change(manifest.Change{Erase: true, Until: time.Now().Add(time.Hour).UnixMilli()})
+	now = change(manifest.Change{Erase: true, Until: time.Now().Add(time.Hour).UnixMilli()})
+	now = Make(t, s, now, Put("fr", "new"))
+	collect()
+	if all, err := s.History(Ctx, "a", 0, 9); err != nil || len(all) > 2 || has("earlier") || !has("a-secret") || !has("french") {
+		t.Error(all, err, has("earlier"), has("a-secret"))
+	}
+	gone, err := manifest.ReadErased(now.Erasure, func(d manifest.Digest) ([]byte, error) { return s.Body(Ctx, "a", manifest.Bundle{Digest: d}) })
+	Must(t, err)
+	now = change(manifest.Change{IsUndo: true, Erased: gone})
+	Check(t, s, now)
+	if len(now.Bundles) != 2 || now.Find("de").Digest != manifest.DigestOf([]byte("a-secret")) || now.Find("fr").Bytes != 3 || now.Erasure != nil {
+		t.Errorf("%+v", now)
+	}
+	collect()
+	Check(t, s, now)
+	now = change(manifest.Change{Erase: true, Until: time.Now().Add(-time.Hour).UnixMilli()})
+	collect()
+	if has("a-secret") || has("new") {
+		t.Error("what was erased is there after its time")
+	}
+	Check(t, s, now)
 }
 
 // testRaces has four clients make the same revision, 50 times: exactly one succeeds, and its manifest is stored.
