@@ -55,7 +55,7 @@ func (s *settings) table() []option {
 		{"check-config", &s.checkOnly, false, "check the options and the files that they name, and end with status 0 or 2"},
 		{"listen", &s.listen, "127.0.0.1:6422", "the `address` to answer at"},
 		{"inside", &s.inside, "", "an `address` for the metrics and the health, which callers must not reach"},
-		{"tokens", &s.tokenFile, "", "the `file` of tokens: lines of APP, read or write, and the token's SHA-256"},
+		{"tokens", &s.tokenFile, "", "the `file` of tokens: lines of APP, rights such as read or write, and the token's SHA-256"},
 		{"add-tokens", &s.addTokens, "", "a `file` whose tokens are added to the file of tokens once lookups are answered; it is removed then"},
 		{"cert", &s.cert, "", "a `file` with the certificates, for TLS"},
 		{"key", &s.key, "", "a `file` with their key"},
@@ -75,6 +75,7 @@ func (s *settings) table() []option {
 		{"history", &s.replica.Keep.Manifests, 1000, "how many earlier changes of an application stay"},
 		{"history-age", &s.replica.Keep.Age, time.Duration(0), "how long earlier changes stay; 0 is no limit"},
 		{"history-bytes", (*bytesValue)(&s.replica.Keep.Bytes), int64(64 << 20), "the most `bytes` of earlier versions of an application's bundles"},
+		{"erase-after", &o.EraseAfter, 7 * 24 * time.Hour, "how long the erasure of an application can be undone; then what it removed is deleted"},
 
 		{"program", &s.program, "resb", "the `program`, which explains errors and warns of doubtful texts"},
 		{"icudata", &s.icuData, nil, "a `bundle` of ICUDATA, which all applications see, as LOCALE=FILE; may be there several times"},

@@ -4,17 +4,15 @@ import (
 	"flag"
 	"fmt"
 	"io"
-	"strconv"
-	"strings"
 	"time"
 
 	"luvdregan.example/resb/deploy/internal/auth"
 )
 
-const tokenUsage = `usage: gateway token add -tokens FILE [-name NAME] [-expires TIME] APP read|write
+const tokenUsage = `usage: gateway token add -tokens FILE [-name NAME] [-expires TIME] APP RIGHTS
        gateway token list -tokens FILE
        gateway token revoke -tokens FILE NAME
-APP may be as shop.*; TIME is as 90d, 2027-01-31 or 2027-01-31T12:00:00Z; NAME may be 8 or more digits of the token's hash
+APP may be as shop.* or shop/de; RIGHTS are read, write, own, or words as read,edit,release,erase; TIME is as 90d, 2027-01-31 or 2027-01-31T12:00:00Z; NAME may be 8 or more digits of the token's hash
 `
 
 // tokenCommand changes or lists a file of tokens, and returns the status. A gateway that runs reads the file again.
@@ -54,7 +52,7 @@ func tokenCommand(arguments []string, out, errors io.Writer) int {
 
 // addToken makes a token and prints it.
 func addToken(file, name, expires, app, right string, out io.Writer) error {
-	end, err := expiry(expires, time.Now())
+	end, err := auth.ParseExpiry(expires, time.Now())
 	if err != nil {
 		return err
 	}
@@ -65,22 +63,6 @@ func addToken(file, name, expires, app, right string, out io.Writer) error {
 	return err
 }
 
-// expiry reads a time, or a number of days from now on; an empty text is never.
-func expiry(text string, now time.Time) (end time.Time, err error) {
-	if text == "" {
-		return end, nil
-	}
-	if days, err := strconv.ParseUint(strings.TrimSuffix(text, "d"), 10, 16); err == nil && strings.HasSuffix(text, "d") {
-		end = now.AddDate(0, 0, int(days)).UTC().Truncate(time.Second)
-	} else if end, err = auth.ParseTime(text); err != nil {
-		return end, err
-	}
-	if !end.After(now) {
-		err = fmt.Errorf("%s is past", text)
-	}
-	return end, err
-}
-
 // listTokens prints a line for each line of the file: the name, the digits of the hash that stand for it, and what it may do.
 func listTokens(file string, out io.Writer) error {
 	all, wrong, err := auth.List(file)
@@ -88,7 +70,7 @@ func listTokens(file string, out io.Writer) error {
 		return err
 	}
 	for _, one := range all {
-		until, name, right := "never expires", one.Name, map[auth.Right]string{auth.Read: "read", auth.Write: "write"}[one.Right]
+		until, name, where := "never expires", one.Name, one.App
 		switch at := one.Expires.UTC().Format(time.RFC3339); {
 		case one.Expires.After(time.Now()):
 			until = "expires " + at
@@ -98,7 +80,10 @@ func listTokens(file string, out io.Writer) error {
 		if name == "" {
 			name = "-"
 		}
-		fmt.Fprintf(out, "%s\t%s\t%s\t%s\t%s\n", name, one.Hash()[:8], one.App, right, until)
+		if one.Locale != "" {
+			where += "/" + one.Locale
+		}
+		fmt.Fprintf(out, "%s\t%s\t%s\t%s\t%s\n", name, one.Hash()[:8], where, one.Right, until)
 	}
 	if len(wrong) > 0 {
 		return fmt.Errorf("%s: %w", file, wrong[0])

@@ -159,9 +159,18 @@ func prepareNow(edit *replica.Edit, kind string, body []byte) (err error) {
 
 // change has a change made. It tells the revision that it made, or against which it was judged.
 func change(c *call, op string, make func(context.Context, *replica.View) ([]replica.Edit, error)) (made *manifest.Manifest, same bool, err error) {
-	made, same, err = c.Backend.Change(c.Context(), replica.Request{App: c.App, Who: c.Who.Name(), Op: op, Erase: make == nil, Make: make,
-		IsGone: func() bool { return c.R.Context().Err() != nil },
-		Mine:   func(name string) bool { return c.Who.May(name, time.Now()) == auth.Write }})
+	return request(c, replica.Request{Op: op, Make: make})
+}
+
+// request does what change does for any request, which it completes.
+func request(c *call, q replica.Request) (made *manifest.Manifest, same bool, err error) {
+	q.App, q.Who = c.App, c.Who.Name()
+	q.IsGone = func() bool { return c.R.Context().Err() != nil }
+	counted := c.Tokens.Maker(c.Who)
+	q.Mine = func(name string) bool {
+		return counted.May(name, auth.AnyLocale, time.Now())&(auth.Edit|auth.Release) != 0
+	}
+	made, same, err = c.Backend.Change(c.Context(), q)
 	if made != nil {
 		c.Tell(made.Revision)
 	}
@@ -205,17 +214,6 @@ func remove(c *call) (err error) {
 		return err
 	}
 	return makeEdit(c, "remove", &edit, "")
-}
-
-// erase removes the bundles of the application and its history, if the query asks for it.
-func erase(c *call) error {
-	if asked, is := c.Query["erase"]; !is || len(asked) > 1 || asked[0] != "" && asked[0] != "true" {
-		return wire.BadQuery
-	}
-	if _, _, err := change(c, "erase", nil); err != nil {
-		return err
-	}
-	return done(c, &replica.Edit{}, false, "")
 }
 
 // explanations is how long the reason of a refusal may take.

@@ -7,6 +7,7 @@ import (
 	"strconv"
 	"time"
 
+	"luvdregan.example/resb/deploy/internal/auth"
 	"luvdregan.example/resb/deploy/internal/convert"
 	"luvdregan.example/resb/deploy/internal/manifest"
 	"luvdregan.example/resb/deploy/internal/names"
@@ -70,6 +71,9 @@ func history(c *call) error {
 	if name, ok := names.Canonical(locale); ok && locale != "" {
 		locale = name
 	}
+	if err := c.Permit(auth.Edit, locale); err != nil {
+		return err
+	}
 	c.W.Header()["Resb-Revision"] = c.Backend.Now(c.App).Header()
 	all := []version{}
 	err = c.Work(c.Context(), func() (err error) {
@@ -121,7 +125,8 @@ func find(c *call, id int64) (b manifest.Bundle, err error) {
 		return b, err
 	}
 	made := some[0].Made[place]
-	return manifest.Bundle{Locale: made.Locale, Digest: made.Digest, Kind: made.Kind, Bytes: made.Bytes, Compiled: made.Compiled, At: some[0].At}, nil
+	b = manifest.Bundle{Locale: made.Locale, Digest: made.Digest, Kind: made.Kind, Bytes: made.Bytes, Compiled: made.Compiled, At: some[0].At}
+	return b, c.Permit(auth.Edit, made.Locale)
 }
 
 // idOf reads the number of a change.

@@ -5,6 +5,7 @@ import (
 	"errors"
 	"mime"
 
+	"luvdregan.example/resb/deploy/internal/auth"
 	"luvdregan.example/resb/deploy/internal/convert"
 	"luvdregan.example/resb/deploy/internal/engine"
 	"luvdregan.example/resb/deploy/internal/manifest"
@@ -79,6 +80,9 @@ func readRelease(c *call) (entries []release.Entry, err error) {
 // prepareEntry makes the edit of an entry, which without a kind is a removal.
 func prepareEntry(c *call, edit *replica.Edit, e release.Entry) (err error) {
 	c.Asked(e.Locale, e.Body)
+	if err := c.Permit(auth.Release, e.Locale); err != nil {
+		return err
+	}
 	if edit.Locale = e.Locale; e.Kind == "" {
 		return nil
 	}

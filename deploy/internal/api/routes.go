@@ -33,47 +33,61 @@ var addresses = []front.Address{
 	{Pattern: "", Operations: []front.Operation{
 		{Method: "GET", ID: "list", Summary: "Returns the names of the bundles, in the order of installation.", Right: auth.Read, Kind: front.KindList,
 			Do: list, Gives: asJSON, Statuses: []int{200, 304, 412}},
-		{Method: "DELETE", ID: "erase", Summary: "Removes all bundles, the history, and what was submitted.", Right: auth.Write, Kind: front.KindChange,
+		{Method: "DELETE", ID: "erase", Summary: "Removes all bundles, the history, and what was submitted.", Right: auth.Erase, Kind: front.KindChange,
 			Action: "erase", Do: erase, Gives: asJSON, Statuses: []int{200, 507}, Query: []string{"erase"}},
+	}},
+	{Pattern: "/_erasure/undo", Operations: []front.Operation{
+		{Method: "POST", ID: "undoErase", Summary: "Brings back what the last erasure removed, except bundles that are there again.", Right: auth.Erase,
+			Kind: front.KindChange, Action: "undo", Do: undoErase, Gives: asJSON, Statuses: []int{200, 404, 409, 507}},
+	}},
+	{Pattern: "/_tokens", Operations: []front.Operation{
+		{Method: "GET", ID: "tokens", Summary: "Returns the tokens that owners made.", Right: auth.Own, Kind: front.KindOther,
+			Do: listTokens, Gives: asJSON, Statuses: []int{200}},
+		{Method: "POST", ID: "makeToken", Summary: "Makes a token, and returns it once.", Right: auth.Own, Kind: front.KindChange, Action: "token",
+			Do: makeToken, Gives: asJSON, Statuses: []int{201, 409, 507}, Query: []string{"rights", "name", "scope", "expires"}},
+	}},
+	{Pattern: "/_tokens/{token}", Operations: []front.Operation{
+		{Method: "DELETE", ID: "revoke", Summary: "Revokes a token that an owner made.", Right: auth.Own, Kind: front.KindChange, Action: "revoke",
+			Do: revokeToken, Gives: asJSON, Statuses: []int{200, 404, 507}},
 	}},
 	{Pattern: "/look", Operations: []front.Operation{
 		{Method: "POST", ID: "lookMany", Summary: "Makes many lookups, a line of JSON each, and writes a line of the reply or error each.",
 			Right: auth.Read, Kind: front.KindLooks, Do: lookMany, Takes: asLines, Gives: asLines, Statuses: []int{200, 408, 413}},
 	}},
 	{Pattern: "/_releases", Operations: []front.Operation{
-		{Method: "POST", ID: "release", Summary: "Makes several changes, all or none.", Right: auth.Write, Kind: front.KindChange, Action: "release",
-			Do: makeRelease, Takes: release.Types, Gives: asJSON, Statuses: []int{200, 404, 408, 409, 413, 415, 507}},
+		{Method: "POST", ID: "release", Summary: "Makes several changes, all or none.", Right: auth.Release, AnyLocale: true,
+			Kind: front.KindChange, Action: "release", Do: makeRelease, Takes: release.Types, Gives: asJSON, Statuses: []int{200, 404, 408, 409, 413, 415, 507}},
 	}},
 	{Pattern: "/_check/{locale}", Operations: []front.Operation{
 		{Method: "POST", ID: "check", Summary: "Returns the error and the warnings of a bundle, and stores nothing.", Right: auth.Read,
 			Kind: front.KindCheck, Do: check, Takes: asBundle, Gives: asJSON, Statuses: []int{200, 408, 413, 415}},
 	}},
 	{Pattern: "/_history", Operations: []front.Operation{
-		{Method: "GET", ID: "history", Summary: "Returns the last changes, the newest first.", Right: auth.Write, Kind: front.KindHistory,
+		{Method: "GET", ID: "history", Summary: "Returns the last changes, the newest first.", Right: auth.Edit, AnyLocale: true, Kind: front.KindHistory,
 			Do: history, Gives: asJSON, Statuses: []int{200}, Query: []string{"last", "before", "of"}},
 	}},
 	{Pattern: "/_history/{id}", Operations: []front.Operation{
-		{Method: "GET", ID: "version", Forms: "getVersion", Summary: "Returns the bundle as it was after a change.", Right: auth.Write,
+		{Method: "GET", ID: "version", Forms: "getVersion", Summary: "Returns the bundle as it was after a change.", Right: auth.Edit, AnyLocale: true,
 			Kind: front.KindFetch, Do: answerVersion, Gives: inAnyForm, Statuses: []int{200, 304, 404, 412, 413}},
 	}},
 	{Pattern: "/_history/{id}/diff", Operations: []front.Operation{
-		{Method: "GET", ID: "diff", Summary: "Returns the items that differ between two versions.", Right: auth.Write, Kind: front.KindFetch,
+		{Method: "GET", ID: "diff", Summary: "Returns the items that differ between two versions.", Right: auth.Edit, AnyLocale: true, Kind: front.KindFetch,
 			Do: differences, Gives: asJSON, Statuses: []int{200, 404, 413}, Query: []string{"with"}},
 	}},
 	{Pattern: "/_history/{id}/restore", Operations: []front.Operation{
-		{Method: "POST", ID: "restore", Summary: "Makes the bundle what it was after a change.", Right: auth.Write, Kind: front.KindChange, Action: "restore",
+		{Method: "POST", ID: "restore", Summary: "Makes the bundle what it was after a change.", Right: auth.Edit, AnyLocale: true, Kind: front.KindChange, Action: "restore",
 			Do: restore, Gives: asJSON, Statuses: []int{200, 201, 404, 409, 412, 507}},
 	}},
 	{Pattern: "/{locale}", Operations: []front.Operation{
 		{Method: "GET", ID: "lookRoot", Forms: "get", Summary: "Returns the bundle's table; with .txt, .res or .json the bundle; with ?tree all that it inherits.",
 			Right: auth.Read, Kind: front.KindLook, Do: readBundle, Gives: inAnyForm, Statuses: []int{200, 304, 404, 412, 413}, Query: []string{"tree"}},
-		{Method: "PUT", ID: "put", Summary: "Installs or replaces the bundle.", Right: auth.Write, Kind: front.KindChange, Action: "put",
+		{Method: "PUT", ID: "put", Summary: "Installs or replaces the bundle.", Right: auth.Edit, Kind: front.KindChange, Action: "put",
 			Do: put, Takes: asBundle, Gives: asJSON, Statuses: []int{200, 201, 408, 409, 412, 413, 415, 507}, Query: []string{"strict"}},
-		{Method: "POST", ID: "install", Summary: "Installs the bundle if there is none.", Right: auth.Write, Kind: front.KindChange, Action: "install",
+		{Method: "POST", ID: "install", Summary: "Installs the bundle if there is none.", Right: auth.Edit, Kind: front.KindChange, Action: "install",
 			Do: put, Takes: asBundle, Gives: asJSON, Statuses: []int{201, 408, 409, 412, 413, 415, 507}, Query: []string{"strict"}},
-		{Method: "PATCH", ID: "patch", Summary: "Changes items of the bundle by a JSON merge patch (RFC 7396).", Right: auth.Write, Kind: front.KindChange,
+		{Method: "PATCH", ID: "patch", Summary: "Changes items of the bundle by a JSON merge patch (RFC 7396).", Right: auth.Edit, Kind: front.KindChange,
 			Action: "patch", Do: patch, Takes: asPatch, Gives: asJSON, Statuses: []int{200, 404, 408, 412, 413, 415, 507}},
-		{Method: "DELETE", ID: "remove", Summary: "Removes the bundle.", Right: auth.Write, Kind: front.KindChange, Action: "remove",
+		{Method: "DELETE", ID: "remove", Summary: "Removes the bundle.", Right: auth.Edit, Kind: front.KindChange, Action: "remove",
 			Do: remove, Gives: asJSON, Statuses: []int{200, 404, 412, 507}},
 	}},
 	{Pattern: "/{locale}/{path}", Operations: []front.Operation{

@@ -48,32 +48,41 @@ func join(content, more []byte) []byte {
 }
 
 // lineOf returns the line of a token. It expires never if the time is zero.
-func lineOf(token, app, right, name string, expires time.Time) (string, error) {
+func lineOf(token, where, rights, name string, expires time.Time) (string, error) {
 	if len(token) < LeastToken {
 		return "", fmt.Errorf("a token has at least %d characters", LeastToken)
 	}
-	if len(strings.Fields(app)) != 1 || strings.HasPrefix(app, "#") {
-		return "", fmt.Errorf("%q is no application's name", app)
+	if len(strings.Fields(where)) != 1 || strings.HasPrefix(where, "#") {
+		return "", fmt.Errorf("%q is no application's name", where)
 	}
-	text := fmt.Sprintf("%s %s %x", app, right, sha256.Sum256([]byte(token)))
+	text := fmt.Sprintf("%s %s %x", where, rights, sha256.Sum256([]byte(token)))
 	if name != "" {
 		text += " name=" + name
 	}
 	if !expires.IsZero() {
 		text += " expires=" + expires.UTC().Format(time.RFC3339)
 	}
-	_, err := parseLine(text)
-	return text + "\n", err
+	_, err := ParseLine(text)
+	return text, err
 }
 
-// Create adds a new token of 192 random bits to a file, which is made if it is missing, and returns it.
-func Create(path, app, right, name string, expires time.Time) (token string, err error) {
+// Make returns a new token of 192 random bits, and its line without a line feed.
+func Make(where, rights, name string, expires time.Time) (token, line string, err error) {
 	random := make([]byte, 24)
 	if _, err := rand.Read(random); err != nil {
-		return "", err
+		return "", "", err
 	}
 	token = hex.EncodeToString(random)
-	line, err := lineOf(token, app, right, name, expires)
+	line, err = lineOf(token, where, rights, name, expires)
+	return token, line, err
+}
+
+// MadeBy returns a line with the account of a holder, who makes its token.
+func MadeBy(line string, h Holder) string { return fmt.Sprintf("%s by=%x", line, h.by) }
+
+// Create adds a new token to a file, which is made if it is missing, and returns it.
+func Create(path, where, rights, name string, expires time.Time) (token string, err error) {
+	token, line, err := Make(where, rights, name, expires)
 	if err != nil {
 		return "", err
 	}
@@ -84,7 +93,7 @@ func Create(path, app, right, name string, expires time.Time) (token string, err
 				return nil, fmt.Errorf("another token has the name %s", name)
 			}
 		}
-		return join(content, []byte(line)), nil
+		return join(content, []byte(line+"\n")), nil
 	})
 }
 
@@ -134,7 +143,7 @@ func Revoke(path, token string) (removed int, err error) {
 	err = edit(path, func(content []byte) ([]byte, error) {
 		lines, revoked := bytes.SplitAfter(content, []byte("\n")), map[digest]bool{}
 		for _, line := range lines { // also one that has another name in another line
-			g, _ := parseLine(string(line))
+			g, _ := ParseLine(string(line))
 			isIts := g != nil && len(hash) >= 8 && strings.HasPrefix(g.Hash(), hash)
 			if g != nil && token != "" && (g.Name == token || isIts) {
 				revoked[g.digest] = true
@@ -148,7 +157,7 @@ func Revoke(path, token string) (removed int, err error) {
 		}
 		var left []byte
 		for _, line := range lines {
-			if g, _ := parseLine(string(line)); g != nil && revoked[g.digest] {
+			if g, _ := ParseLine(string(line)); g != nil && revoked[g.digest] {
 				removed++
 			} else {
 				left = append(left, line...)

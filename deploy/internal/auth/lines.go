@@ -5,18 +5,21 @@ import (
 	"encoding/hex"
 	"errors"
 	"fmt"
+	"strconv"
 	"strings"
 	"time"
+
+	"luvdregan.example/resb/deploy/internal/names"
 )
 
-// A Grant is a line of the file: `APP read HASH` or `APP write HASH`, then perhaps `name=NAME` and
-// `expires=TIME`. The hash is the SHA-256 of the token in hexadecimal. `shop.*` in the place of APP
-// stands for all applications whose names begin with `shop.`. One token may have several lines.
+// A Grant is a line of the file: `APP RIGHTS HASH`, then perhaps `name=NAME`, `expires=TIME`, and for a token that an owner made `by=HASH` of
+// that one's. The hash is the SHA-256 of the token in hexadecimal. RIGHTS are words such as `read,edit`. `shop.*` in the place of APP stands
+// for all applications whose names begin with `shop.`, `shop/de` for one locale. One token may have several lines.
 type Grant struct {
-	App, Name string
-	Right     Right
-	Expires   time.Time // or zero
-	digest    digest
+	App, Locale, Name string
+	Right             Right
+	Expires           time.Time // or zero
+	digest, by        digest
 }
 
 func (g *Grant) holds(now time.Time) bool { return g.Expires.IsZero() || now.Before(g.Expires) }
@@ -24,11 +27,29 @@ func (g *Grant) holds(now time.Time) bool { return g.Expires.IsZero() || now.Bef
 // covers returns true if the line is about an application.
 func (g *Grant) covers(app string) bool {
 	begin := strings.TrimSuffix(g.App, "*")
-	return app == g.App || begin != g.App && strings.HasPrefix(app, begin) && isApp(app)
+	if begin == g.App {
+		return app == g.App
+	}
+	return strings.HasPrefix(app, begin) && isApp(app)
+}
+
+// isFor returns true if the locale of the line is the one of an address.
+func (g *Grant) isFor(given string) bool {
+	given, _, _ = strings.Cut(given, ".") // the form of a bundle
+	locale, _ := names.Canonical(given)
+	return given == AnyLocale || given != "" && locale == g.Locale
 }
 
 // Hash returns the digest in hexadecimal.
 func (g *Grant) Hash() string { return hex.EncodeToString(g.digest[:]) }
+
+// By returns the hash of the owner's token that made this one, or "".
+func (g *Grant) By() string {
+	if g.by == g.digest {
+		return ""
+	}
+	return hex.EncodeToString(g.by[:])
+}
 
 // mostApp is the most bytes of an application's name.
 const mostApp = 64
@@ -47,15 +68,15 @@ func isApp(name string) bool {
 
 // parse reads the content of a file, without the lines that are wrong.
 func parse(content []byte) (grants []Grant, wrong []error) {
-	names := map[digest]string{}
+	known := map[digest]string{}
 	for n, text := range strings.Split(string(content), "\n") {
-		g, err := parseLine(text)
+		g, err := ParseLine(text)
 		if g != nil {
-			if g.Name != "" && names[g.digest] == "" {
-				names[g.digest] = g.Name
+			if g.Name != "" && known[g.digest] == "" {
+				known[g.digest] = g.Name
 			}
-			if known := names[g.digest]; g.Name != "" && g.Name != known {
-				err = fmt.Errorf("the token has the name %s in another line", known)
+			if name := known[g.digest]; g.Name != "" && g.Name != name {
+				err = fmt.Errorf("the token has the name %s in another line", name)
 			} else {
 				grants = append(grants, *g)
 			}
@@ -67,26 +88,35 @@ func parse(content []byte) (grants []Grant, wrong []error) {
 	return grants, wrong
 }
 
-// parseLine reads a line. The grant is nil if the line is wrong, empty, or a comment, which begins with #.
-func parseLine(text string) (*Grant, error) {
+// ParseLine reads a line. The grant is nil if the line is wrong, empty, or a comment, which begins with #.
+func ParseLine(text string) (*Grant, error) {
 	words := strings.Fields(text)
 	if len(words) == 0 || strings.HasPrefix(words[0], "#") {
 		return nil, nil
 	}
 	if len(words) < 3 {
-		return nil, errors.New("not APP read|write HASH")
+		return nil, errors.New("not APP RIGHTS HASH")
 	}
-	g := &Grant{App: words[0], Right: rights[words[1]]}
-	hash, err := hex.DecodeString(words[2])
-	copy(g.digest[:], hash)
+	app, locale, isOne := strings.Cut(words[0], "/")
+	locale, isLocale := names.Canonical(locale)
+	g := &Grant{App: app, Right: parseRight(words[1])}
 	switch {
-	case !isApp(strings.TrimSuffix(g.App, "*")):
+	case !isApp(strings.TrimSuffix(g.App, "*")) || strings.HasSuffix(words[0], "/"):
 		return nil, fmt.Errorf("%.80q is no application's name", words[0])
+	case isOne && !isLocale:
+		return nil, fmt.Errorf("%.80q is no locale's name", locale)
 	case g.Right == 0:
-		return nil, fmt.Errorf("%.80q is neither read nor write", words[1])
-	case err != nil || len(hash) != sha256.Size:
-		return nil, errors.New("the hash is not 64 hexadecimal digits")
+		return nil, fmt.Errorf("%.80q is neither read nor write, nor words out of read, edit, release, erase, own", words[1])
+	case isOne && g.Right&Own != 0:
+		return nil, errors.New("the owner of a locale must be the application's")
+	case isOne:
+		g.Locale = locale
 	}
+	var err error
+	if g.digest, err = parseHash(words[2]); err != nil {
+		return nil, err
+	}
+	g.by = g.digest
 	for _, word := range words[3:] {
 		if err := g.set(word); err != nil {
 			return nil, err
@@ -95,12 +125,23 @@ func parseLine(text string) (*Grant, error) {
 	return g, nil
 }
 
+func parseHash(text string) (d digest, err error) {
+	hash, err := hex.DecodeString(text)
+	if err != nil || len(hash) != sha256.Size {
+		err = errors.New("the hash is not 64 hexadecimal digits")
+	}
+	copy(d[:], hash)
+	return d, err
+}
+
 // set reads what may follow the hash.
 func (g *Grant) set(word string) (err error) {
 	key, value, _ := strings.Cut(word, "=")
 	switch {
 	case key == "expires":
 		g.Expires, err = ParseTime(value)
+	case key == "by":
+		g.by, err = parseHash(value)
 	case key == "name" && !isApp(value):
 		err = fmt.Errorf("%.80q is no name", value)
 	case key == "name":
@@ -109,6 +150,22 @@ func (g *Grant) set(word string) (err error) {
 		err = fmt.Errorf("%.80q is neither name=NAME nor expires=TIME", word)
 	}
 	return err
+}
+
+// ParseExpiry reads a time after now, or a number of days such as 90d; an empty text is never.
+func ParseExpiry(text string, now time.Time) (end time.Time, err error) {
+	if text == "" {
+		return end, nil
+	}
+	if days, err := strconv.ParseUint(strings.TrimSuffix(text, "d"), 10, 16); err == nil && strings.HasSuffix(text, "d") {
+		end = now.AddDate(0, 0, int(days)).UTC().Truncate(time.Second)
+	} else if end, err = ParseTime(text); err != nil {
+		return end, err
+	}
+	if !end.After(now) {
+		err = fmt.Errorf("%s is past", text)
+	}
+	return end, err
 }
 
 // ParseTime reads a time: as in 2027-01-31T12:00:00Z, or a date, which is the end of that day in UTC.

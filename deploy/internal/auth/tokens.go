@@ -16,16 +16,55 @@ import (
 	"time"
 )
 
-// A Right is what a token allows for an application. Write includes Read.
+// A Right is what a token allows for an application, or for one locale of it.
 type Right int
 
-// The rights.
+// The rights. No one includes another one.
 const (
-	Read Right = iota + 1
-	Write
+	Read    Right = 1 << iota
+	Edit          // changes bundles one by one, and reads their history
+	Release       // changes several bundles at once
+	Erase         // removes all with the history, and takes that back
+	Own           // makes, lists and revokes tokens
 )
 
-var rights = map[string]Right{"read": Read, "write": Write}
+// Write is what the word `write` stands for.
+const Write = Read | Edit | Release | Erase
+
+// words are those of a line. The earlier ones stand for several rights.
+var words = []struct {
+	name  string
+	right Right
+}{{"own", Own | Write}, {"write", Write}, {"read", Read}, {"edit", Edit}, {"release", Release}, {"erase", Erase}}
+
+// parseRight reads words with commas between them. It returns 0 if one is unknown.
+func parseRight(text string) (all Right) {
+	for _, given := range strings.Split(text, ",") {
+		right := Right(0)
+		for _, w := range words {
+			if w.name == given {
+				right = w.right
+			}
+		}
+		if right == 0 {
+			return 0
+		}
+		all |= right
+	}
+	return all
+}
+
+// String returns the words of a right.
+func (r Right) String() string {
+	var names []string
+	for _, w := range words {
+		if r&w.right == w.right {
+			names = append(names, w.name)
+			r &^= w.right
+		}
+	}
+	return strings.Join(names, ",")
+}
 
 // LeastToken is how many characters a token has at least. A token is hashed once and without salt, so a shorter one could be found
 // from its hash.
@@ -36,10 +75,11 @@ type digest [sha256.Size]byte
 
 // A Holder is who has a token.
 type Holder struct {
-	digest digest
-	id     string // the bytes of the digest
-	name   string // in the file, or ""
-	grants []Grant
+	digest  digest
+	by      digest // of whose limits it is a part
+	account string // the bytes of that one
+	name    string // in the file, or ""
+	grants  []Grant
 }
 
 // holdersOf returns who has the tokens of some lines.
@@ -50,7 +90,7 @@ func holdersOf(grants []Grant) map[digest]Holder {
 		if g.Name != "" {
 			h.name = g.Name
 		}
-		h.digest, h.id, h.grants = g.digest, string(g.digest[:]), append(h.grants, g)
+		h.digest, h.by, h.account, h.grants = g.digest, g.by, string(g.by[:]), append(h.grants, g)
 		all[g.digest] = h
 	}
 	return all
@@ -64,17 +104,21 @@ func (h Holder) Name() string {
 	return h.name
 }
 
-// ID returns a text that differs for each token.
-func (h *Holder) ID() string { return h.id }
+// Account returns a text that differs for each token of the file, and is that of the owner for a token that an owner made.
+func (h *Holder) Account() string { return h.account }
 
-// May returns what the holder may do now for an application; 0 is nothing.
-func (h Holder) May(app string, now time.Time) (most Right) {
+// AnyLocale stands for whichever locale a holder has.
+const AnyLocale = "*"
+
+// May returns what the holder may do now in a locale of an application, which may be the name of a file, or with the whole application if the locale is
+// ""; 0 is nothing.
+func (h Holder) May(app, locale string, now time.Time) (all Right) {
 	for i := range h.grants {
-		if g := &h.grants[i]; g.Right > most && g.covers(app) && g.holds(now) {
-			most = g.Right
+		if g := &h.grants[i]; g.covers(app) && g.holds(now) && (g.Locale == "" || g.isFor(locale)) {
+			all |= g.Right
 		}
 	}
-	return most
+	return all
 }
 
 // holdsAny returns true if a right of the holder hasn't expired.
@@ -195,6 +239,30 @@ func (t *Tokens) Find(token string) (h Holder, ok bool) {
 		return Holder{}, false
 	}
 	return h, ok && h.holdsAny(time.Now())
+}
+
+// FindIn returns who has a token among the lines of an application.
+func FindIn(lines []string, token string) (h Holder, ok bool) {
+	if len(lines) == 0 {
+		return Holder{}, false
+	}
+	hash := fmt.Sprintf(" %x", sha256.Sum256([]byte(token)))
+	for _, line := range lines {
+		if strings.Contains(line, hash) {
+			if g, _ := ParseLine(line); g != nil {
+				return holdersOf([]Grant{*g})[g.digest], g.holds(time.Now())
+			}
+		}
+	}
+	return Holder{}, false
+}
+
+// Maker returns who has the limits of a holder: the owner who made its token, as long as the file has that one, or itself.
+func (t *Tokens) Maker(h Holder) Holder {
+	if maker, there := t.known.Load().holders[h.by]; there {
+		return maker
+	}
+	return h
 }
 
 // Bad returns 1 if the file could not be read again, or has a wrong line, else 0.

@@ -51,18 +51,18 @@ func may(tokens *Tokens, token, app string) Right {
 	if !ok {
 		return 0
 	}
-	return h.May(app, time.Now())
+	return h.May(app, "", time.Now())
 }
 
 func TestPrefixesAndNames(t *testing.T) {
 	tokens := open(t, file(t, "# all", "shop.* write "+hashOf(one)+" name=ci", "bank read "+hashOf(one), "shop.a read "+hashOf(two)))
-	for app, want := range map[string]Right{"shop.a": Write, "shop.": Write, "shop": 0, "shopx": 0, "bank": Read, "bank.a": 0, "shop.a/b": 0, "*": 0, "": 0} {
+	for app, want := range map[string]Right{"shop.a": Write, "shop.": Write, "shop": 0, "shopx": 0, "bank": Read, "bank.a": 0, "shop.a/b": 0, "shop.*": 0, "*": 0, "": 0} {
 		harness.Equal(t, may(tokens, one, app), want, app)
 	}
 	if h, _ := tokens.Find(one); h.Name() != "ci" {
 		t.Error(h.Name())
 	}
-	if h, _ := tokens.Find(two); h.Name() != hashOf(two)[:8] || h.May("shop.a", time.Now()) != Read {
+	if h, _ := tokens.Find(two); h.Name() != hashOf(two)[:8] || h.May("shop.a", "", time.Now()) != Read {
 		t.Error(h.Name())
 	}
 }
@@ -100,6 +100,26 @@ func TestManyTokens(t *testing.T) {
 	harness.ErrorIf(t, may(tokens, all[0], "shop.0") != 0 || may(tokens, all[1], "shop.1") != Read, "after the revocation")
 }
 
+// TestRights has each right by itself, for an application or one locale of it.
+func TestRights(t *testing.T) {
+	tokens := open(t, file(t, "shop read,release "+hashOf(one), "shop/de-at edit "+hashOf(one), "shop.* erase "+hashOf(one), "bank own "+hashOf(two), "shop/fr write "+hashOf(two)))
+	for _, c := range []struct {
+		token, app, locale string
+		want               Right
+		words              string
+	}{
+		{one, "shop", "", Read | Release, "read,release"}, {one, "shop", "de_AT", Read | Edit | Release, "read,edit,release"},
+		{one, "shop", "DE-at.txt", Read | Edit | Release, "read,edit,release"}, {one, "shop", "de", Read | Release, "read,release"}, {one, "shop", "-", Read | Release, "read,release"},
+		{one, "shop", AnyLocale, Read | Edit | Release, "read,edit,release"}, {one, "shop.a", "", Erase, "erase"}, {one, "bank", "", 0, ""},
+		{two, "bank", "", Own | Write, "own"}, {two, "shop", "", 0, ""}, {two, "shop", "fr", Write, "write"}, {two, "shop", "fr_CA", 0, ""},
+	} {
+		h, _ := tokens.Find(c.token)
+		got := h.May(c.app, c.locale, time.Now())
+		harness.Equal(t, []string{got.String()}, []string{c.words}, c.app, c.locale)
+		harness.Equal(t, got, c.want, c.app, c.locale)
+	}
+}
+
 func TestExpiry(t *testing.T) {
 	past, future := time.Now().Add(-time.Hour).UTC().Format(time.RFC3339), time.Now().Add(time.Hour).UTC().Format(time.RFC3339)
 	tokens := open(t, file(t, "shop write "+hashOf(one)+" expires="+past, "shop read "+hashOf(one)+" expires="+future,
@@ -116,7 +136,10 @@ func TestExpiry(t *testing.T) {
 func TestWrongLines(t *testing.T) {
 	for text, want := range map[string]string{
 		"shop write": "line 1: not APP", "shop sing " + hashOf(one): "neither read nor write", "shop read 12": "64 hexadecimal digits",
-		"* read " + hashOf(one): "no application", "sh*p read " + hashOf(one): "no application", "shop read " + hashOf(one) + " until=x": "neither name=NAME",
+		"* read " + hashOf(one): "no application", "shop/ read " + hashOf(one): "no application", "shop/d read " + hashOf(one): "no locale",
+		"shop/de own " + hashOf(one): "the owner", "shop read,sing " + hashOf(one): "neither read nor write", "shop read, " + hashOf(one): "neither read nor write",
+		"shop read " + hashOf(one) + " by=12": "64 hexadecimal digits",
+		"sh*p read " + hashOf(one):            "no application", "shop read " + hashOf(one) + " until=x": "neither name=NAME",
 		"\nshop read " + hashOf(one) + " expires=soon": "line 2", "shop read " + hashOf(one) + " name=": "no name",
 		"shop read " + hashOf(one) + " name=a\nbank read " + hashOf(one) + " name=b": "has the name a",
 	} {

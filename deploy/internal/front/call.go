@@ -25,7 +25,7 @@ import (
 type Options struct {
 	TextBytes, FileBytes, LookBytes, ReleaseBytes int64
 	Limits                                        limits.Options
-	ReadTime, Patience                            time.Duration
+	ReadTime, Patience, EraseAfter                time.Duration
 	Version, Commit                               string          // of the gateway
 	Leaving                                       context.Context // is done when the gateway ends
 	Access, Audit                                 Journal         // or nil
@@ -68,6 +68,7 @@ type Call struct {
 	Operation *Operation
 	Ticket    limits.Ticket
 	Code      string // of a refusal
+	TokenID   string // of the token that a change makes or revokes
 	Status    int
 	Sent      int // bytes of the reply
 
@@ -170,20 +171,21 @@ func pathIn(escaped string, parts []string) string {
 
 // application does what an application's address names, if the token allows it.
 func (c *Call) application() error {
-	do, allow := c.find(c.Parts, c.R.Method)
-	if token, ok := auth.Bearer(c.R.Header["Authorization"]); ok {
-		c.Who, c.known = c.Tokens.Find(token)
+	do, locale, allow := c.find(c.Parts, c.R.Method)
+	if do.AnyLocale {
+		locale = auth.AnyLocale
 	}
+	c.identify()
 	may := auth.Right(0)
 	if c.known {
-		may = c.Who.May(c.App, c.began)
+		may = c.Who.May(c.App, locale, c.began)
 	}
 	c.Operation = do
 	switch {
 	case !c.known:
 		c.W.Header().Set("WWW-Authenticate", `Bearer realm="resb"`)
 		return wire.Unauthorized
-	case may == 0 || do.Do != nil && may < do.Right:
+	case may == 0 || do.Do != nil && may&do.Right == 0:
 		return wire.Forbidden
 	case hasEmpty(c.Parts):
 		return wire.BadPath
@@ -199,6 +201,25 @@ func (c *Call) application() error {
 	return wire.NotAllowed
 }
 
+// identify finds who asks: in the file of tokens, or among the tokens that owners of the application made.
+func (c *Call) identify() {
+	token, ok := auth.Bearer(c.R.Header["Authorization"])
+	if !ok {
+		return
+	}
+	if c.Who, c.known = c.Tokens.Find(token); !c.known {
+		c.Who, c.known = auth.FindIn(c.Backend.Now(c.App).Tokens, token)
+	}
+}
+
+// Permit returns an error unless the token has a right for a locale, or for the whole application if that is "".
+func (c *Call) Permit(right auth.Right, locale string) error {
+	if c.Who.May(c.App, locale, c.began)&right == 0 {
+		return wire.Forbidden
+	}
+	return nil
+}
+
 // hasEmpty returns true if a part is empty: joined again, a path of one empty part would be none.
 func hasEmpty(parts []string) bool {
 	for _, part := range parts {
@@ -211,7 +232,7 @@ func hasEmpty(parts []string) bool {
 
 // limited does a request within the limits, once the gateway has the revision that the query names.
 func (c *Call) limited(do *Operation) error {
-	err := c.limits.Begin(&c.Ticket, c.App, c.Who.ID(), c.began)
+	err := c.limits.Begin(&c.Ticket, c.App, c.Who.Account(), c.began)
 	if err != nil {
 		c.Ticket = limits.Ticket{} // none to end
 		return err

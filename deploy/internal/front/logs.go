@@ -33,6 +33,7 @@ type audited struct {
 	App    string `json:"app"`
 	Action string `json:"action"`
 	Locale string `json:"locale,omitempty"`
+	ID     string `json:"id,omitempty"` // of a token that is made or revoked
 	Bytes  int    `json:"bytes,omitempty"`
 	SHA256 string `json:"sha256,omitempty"`
 	Result string `json:"result"`
@@ -91,7 +92,7 @@ func (c *Call) logAudit(now time.Time) {
 	}
 	for _, line := range c.edits {
 		line.Time, line.From, line.Token = now.UTC().Format(time.RFC3339Nano), wire.Caller(c.R, c.Options.Proxies), c.name()
-		line.App, line.Action, line.Result = clip(c.App), c.Operation.Action, c.Code
+		line.App, line.Action, line.Result, line.ID = clip(c.App), c.Operation.Action, c.Code, clip(c.TokenID)
 		if line.Result == "" {
 			line.Result = "ok"
 		}

@@ -29,6 +29,7 @@ type Operation struct {
 	Method, ID, Summary string
 	Forms               string // what the ID of the reading of a form begins with, if there are forms
 	Right               auth.Right
+	AnyLocale           bool // the right may be one for a locale, which Do asks for
 	Kind                Kind
 	Action              string // the name of a change in the audit log
 	Do                  func(*Call) error
@@ -54,9 +55,20 @@ func (a *Address) Parts() []string {
 	return strings.Split(a.Pattern[1:], "/")
 }
 
+// locale returns which part of the pattern is a locale, or -1.
+func (a *Address) locale() int {
+	for i, part := range a.Parts() {
+		if part == "{locale}" {
+			return i
+		}
+	}
+	return -1
+}
+
 // A route is an address that is ready to be found.
 type route struct {
 	parts      []string
+	locale     int                   // which part is one, or -1
 	operations map[string]*Operation // by method
 	allow      string
 }
@@ -64,7 +76,7 @@ type route struct {
 func routesOf(addresses []Address) (all []route) {
 	for i := range addresses {
 		a := &addresses[i]
-		one := route{a.Parts(), map[string]*Operation{}, ""}
+		one := route{a.Parts(), a.locale(), map[string]*Operation{}, ""}
 		for j := range a.Operations {
 			o := &a.Operations[j]
 			one.operations[o.Method] = o
@@ -93,9 +105,9 @@ func (r *route) matches(parts []string) bool {
 	return true
 }
 
-// find returns the operation of a method at an address after the application, and the methods that the address has, or "" if there is no such
-// address. If it hasn't the method, the operation does nothing.
-func (h *Handler) find(parts []string, method string) (o *Operation, allow string) {
+// find returns the operation of a method at an address after the application, the locale there, and the methods that the address has, or "" if there is
+// no such address. If it hasn't the method, the operation does nothing.
+func (h *Handler) find(parts []string, method string) (o *Operation, locale, allow string) {
 	for i := range h.routes {
 		r := &h.routes[i]
 		if !r.matches(parts) {
@@ -104,9 +116,12 @@ func (h *Handler) find(parts []string, method string) (o *Operation, allow strin
 		if allow == "" {
 			allow = r.allow
 		}
+		if r.locale >= 0 {
+			locale = parts[r.locale]
+		}
 		if o := r.operations[method]; o != nil {
-			return o, r.allow
+			return o, locale, r.allow
 		}
 	}
-	return &Other, allow
+	return &Other, locale, allow
 }

@@ -84,7 +84,7 @@ func operationItem(o *front.Operation, id string, gives []string) object {
 	for _, name := range o.Query {
 		given = append(given, reference("parameters", name))
 	}
-	if o.Method != http.MethodGet && o.Right == auth.Write {
+	if o.Method != http.MethodGet && o.Right&(auth.Read|auth.Own) == 0 {
 		given = append(given, reference("parameters", "ifMatch"))
 	}
 	all := object{}
@@ -104,7 +104,7 @@ func operationItem(o *front.Operation, id string, gives []string) object {
 
 // replies names the schemas of operations' replies. Other replies are any JSON.
 var replies = map[string]string{"list": "Names", "look": "Item", "put": "Done", "install": "Done", "remove": "Done", "patch": "Done", "erase": "Done",
-	"restore": "Done", "release": "Released", "history": "History", "diff": "Differences", "check": "Checked"}
+	"restore": "Done", "undoErase": "Done", "revoke": "Done", "tokens": "Tokens", "makeToken": "Token", "release": "Released", "history": "History", "diff": "Differences", "check": "Checked"}
 
 func contents(types []string, schema string) object {
 	all := object{}

@@ -238,6 +238,7 @@ func TestAFullDisk(t *testing.T) {
 		}
 	}
 	s.run(step{"w DELETE /v1/shop?erase", "", "", 200, "", ""})
+	s.run(step{"w DELETE /v1/shop?erase=now", "", "", 200, "", ""})
 	_ = os.Remove(filler)
 	s.writez(200)
 	s.put("fr", `fr{a{"F"}}`)
@@ -248,7 +249,7 @@ func TestAFullDisk(t *testing.T) {
 	if all := s.past("?locale=de"); last != 507 || len(all) < 3 || !all[len(all)-1].Kept {
 		t.Errorf("%d %+v", last, all)
 	}
-	s.run([]step{{"b GET /v1/bank/_history", "", "", 200, `"op":"install"`, ""}, {"w DELETE /v1/shop?erase", "", "", 200, "", ""}}...)
+	s.run([]step{{"b GET /v1/bank/_history", "", "", 200, `"op":"install"`, ""}, {"w DELETE /v1/shop?erase=now", "", "", 200, "", ""}}...)
 	eventually(t, "there is space again", func() bool { return s.ask("PUT", "/v1/shop/de.txt", shopWrites, `de{a{"D"}}`).Status < 300 })
 }
 

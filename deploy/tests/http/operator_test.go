@@ -105,13 +105,15 @@ func TestTheExampleHasEveryOption(t *testing.T) {
 // TestTokenCommands make, list and revoke tokens under a running gateway.
 func TestTokenCommands(t *testing.T) {
 	s := beside(t)
-	made := strings.TrimSpace(command(t, 0, "", "token", "add", "-tokens", s.Tokens, "-name", "ci", "-expires", "90d", "shop", "read"))
+	made := strings.TrimSpace(command(t, 0, "", "token", "add", "-tokens", s.Tokens, "-name", "ci", "-expires", "90d", "shop", "read,release"))
 	status := func(token string) int { return s.ask("GET", "/v1/shop", token, "").Status }
 	eventually(t, "the token is known", func() bool { return status(made) == 200 })
-	if text := command(t, 0, "ci\t", "token", "list", "-tokens", s.Tokens); len(made) != 48 || !strings.Contains(text, "\tshop\tread\texpires 20") || strings.Contains(text, made) {
+	if text := command(t, 0, "ci\t", "token", "list", "-tokens", s.Tokens); len(made) != 48 || !strings.Contains(text, "\tshop\tread,release\texpires 20") || strings.Contains(text, made) {
 		t.Error(made, text)
 	}
 	command(t, 0, "1 removed", "token", "revoke", "-tokens", s.Tokens, "ci")
+	owner := strings.TrimSpace(command(t, 0, "", "token", "add", "-tokens", s.Tokens, "-name", "anna", "shop", "own"))
+	eventually(t, "the owner's token is known", func() bool { return s.ask("GET", "/v1/shop/_tokens", owner, "").Status == 200 })
 	eventually(t, "the token is revoked", func() bool { return status(made) == 401 })
 	const fresh = "fresh-0123456789-0123456789"
 	lines := harness.TokenLine("shop", "read", fresh) + "shop read abc\n"
@@ -119,7 +121,7 @@ func TestTokenCommands(t *testing.T) {
 	eventually(t, "the line without a fault is read", func() bool { return status(fresh) == 200 })
 	errorIf(t, status(shopReads) != 401 || s.measured()["resb_tokens_file_bad"] != 1,
 		"after a wrong line")
-	for _, wrong := range []string{"revoke|ci", "add|shop|sing", "add|sh/op|read", "add|-expires|2001-01-01|shop|read", "add|-name|a b|shop|read", "add|shop read|read", "add|#shop|read"} {
+	for _, wrong := range []string{"revoke|ci", "add|shop|sing", "add|sh/o|read", "add|shop|read,", "add|-expires|2001-01-01|shop|read", "add|-name|a b|shop|read", "add|shop read|read", "add|#shop|read"} {
 		words := strings.Split(wrong, "|")
 		command(t, 1, "", append([]string{"token", words[0], "-tokens", s.Tokens}, words[1:]...)...)
 	}

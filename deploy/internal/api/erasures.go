@@ -1,0 +1,30 @@
+package api
+
+import (
+	"luvdregan.example/resb/deploy/internal/replica"
+	"luvdregan.example/resb/deploy/internal/wire"
+)
+
+// erase removes the bundles of the application and its history, if the query asks for it: for good, or until that is undone.
+func erase(c *call) error {
+	asked, is := c.Query["erase"]
+	if !is || len(asked) > 1 || asked[0] != "" && asked[0] != "true" && asked[0] != "now" {
+		return wire.BadQuery
+	}
+	q := replica.Request{Op: "erase", Erase: true}
+	if asked[0] != "now" {
+		q.Undoable = c.Options.EraseAfter
+	}
+	if _, _, err := request(c, q); err != nil {
+		return err
+	}
+	return done(c, &replica.Edit{}, false, "")
+}
+
+// undoErase makes what the last erasure removed, except bundles that are there again.
+func undoErase(c *call) error {
+	if _, _, err := request(c, replica.Request{Op: "undo", Undo: true}); err != nil {
+		return err
+	}
+	return done(c, &replica.Edit{}, false, "")
+}

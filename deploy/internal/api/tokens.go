@@ -1,0 +1,116 @@
+package api
+
+import (
+	"net/http"
+	"time"
+
+	"luvdregan.example/resb/deploy/internal/auth"
+	"luvdregan.example/resb/deploy/internal/convert"
+	"luvdregan.example/resb/deploy/internal/front"
+	"luvdregan.example/resb/deploy/internal/manifest"
+	"luvdregan.example/resb/deploy/internal/replica"
+	"luvdregan.example/resb/deploy/internal/wire"
+)
+
+// mostTokens is how many tokens an application has beside those of the operator's file.
+const mostTokens = 100
+
+// idDigits is how many digits of its hash name a token.
+const idDigits = 16
+
+// A madeToken describes a token of an application, but not the token itself unless it was made by this request.
+type madeToken struct {
+	By      string `json:"by,omitempty"` // the owner's token, by the first digits of its hash
+	Expires string `json:"expires,omitempty"`
+	ID      string `json:"id"`
+	Locale  string `json:"locale,omitempty"`
+	Name    string `json:"name,omitempty"`
+	Rights  string `json:"rights"`
+	Token   string `json:"token,omitempty"`
+}
+
+func madeTokenOf(line string) madeToken {
+	g, err := auth.ParseLine(line)
+	if g == nil || err != nil {
+		return madeToken{}
+	}
+	m := madeToken{ID: g.Hash()[:idDigits], Locale: g.Locale, Name: g.Name, Rights: g.Right.String()}
+	if by := g.By(); by != "" {
+		m.By = by[:idDigits]
+	}
+	if !g.Expires.IsZero() {
+		m.Expires = g.Expires.UTC().Format(time.RFC3339)
+	}
+	return m
+}
+
+// listTokens answers with the tokens that owners of the application made.
+func listTokens(c *call) error {
+	now := c.Backend.Now(c.App)
+	c.W.Header()["Resb-Revision"] = now.Header()
+	all := make([]madeToken, len(now.Tokens))
+	for i, line := range now.Tokens {
+		all[i] = madeTokenOf(line)
+	}
+	return c.Reply(map[string][]madeToken{"tokens": all})
+}
+
+// makeToken makes a token as the query says, and answers with it.
+func makeToken(c *call) error {
+	where, problem := c.App, wire.BadQuery
+	if locale := c.Query.Get("locale"); locale != "" {
+		where += "/" + locale
+	}
+	expires, err := auth.ParseExpiry(c.Query.Get("expires"), time.Now())
+	if err != nil {
+		problem.Message = err.Error()
+		return problem
+	}
+	token, line, err := auth.Make(where, c.Query.Get("rights"), c.Query.Get("name"), expires)
+	if err != nil {
+		problem.Message = err.Error()
+		return problem
+	}
+	made := madeTokenOf(auth.MadeBy(line, c.Who))
+	c.TokenID, made.Token = made.ID, token
+	_, _, err = request(c, replica.Request{Op: "token", Tokens: func(now []string) ([]string, string) {
+		switch {
+		case len(now) >= mostTokens:
+			return nil, manifest.Full
+		case made.Name != "" && findToken(now, func(m madeToken) bool { return m.Name == made.Name }) >= 0:
+			return nil, manifest.Exists
+		}
+		return append(now[:len(now):len(now)], auth.MadeBy(line, c.Who)), ""
+	}})
+	if err != nil {
+		return err
+	}
+	c.NoStore()
+	return c.Write(http.StatusCreated, front.JSONType, append(convert.Marshal(made), '\n'))
+}
+
+// findToken returns which line is the first that a function accepts, or -1.
+func findToken(lines []string, is func(madeToken) bool) int {
+	for i, line := range lines {
+		if is(madeTokenOf(line)) {
+			return i
+		}
+	}
+	return -1
+}
+
+// revokeToken removes a token that an owner made.
+func revokeToken(c *call) error {
+	c.TokenID = c.Parts[1]
+	_, _, err := request(c, replica.Request{Op: "revoke", Tokens: func(now []string) ([]string, string) {
+		at := findToken(now, func(m madeToken) bool { return m.ID == c.TokenID })
+		if at < 0 {
+			return nil, manifest.Absent
+		}
+		return append(now[:at:at], now[at+1:]...), ""
+	}})
+	if err != nil {
+		return err
+	}
+	return done(c, &replica.Edit{}, false, "")
+}
