@@ -166,9 +166,9 @@ func change(c *call, op string, make func(context.Context, *replica.View) ([]rep
 func request(c *call, q replica.Request) (made *manifest.Manifest, same bool, err error) {
 	q.App, q.Who = c.App, c.Who.Name()
 	q.IsGone = func() bool { return c.R.Context().Err() != nil }
-	counted := c.Tokens.Maker(c.Who)
+	maker := c.Tokens.Maker(c.Who)
 	q.Mine = func(name string) bool {
-		return counted.May(name, auth.AnyLocale, time.Now())&(auth.Edit|auth.Release) != 0
+		return (c.Who.Somewhere(name, time.Now())|maker.Somewhere(name, time.Now()))&(auth.Edit|auth.Release) != 0
 	}
 	made, same, err = c.Backend.Change(c.Context(), q)
 	if made != nil {

@@ -37,7 +37,7 @@ func (g *Grant) covers(app string) bool {
 func (g *Grant) isFor(given string) bool {
 	given, _, _ = strings.Cut(given, ".") // the form of a bundle
 	locale, _ := names.Canonical(given)
-	return given == AnyLocale || given != "" && locale == g.Locale
+	return given != "" && locale == g.Locale
 }
 
 // Hash returns the digest in hexadecimal.

@@ -107,14 +107,21 @@ func (h Holder) Name() string {
 // Account returns a text that differs for each token of the file, and is that of the owner for a token that an owner made.
 func (h *Holder) Account() string { return h.account }
 
-// AnyLocale stands for whichever locale a holder has.
-const AnyLocale = "*"
-
 // May returns what the holder may do now in a locale of an application, which may be the name of a file, or with the whole application if the locale is
 // ""; 0 is nothing.
 func (h Holder) May(app, locale string, now time.Time) (all Right) {
 	for i := range h.grants {
 		if g := &h.grants[i]; g.covers(app) && g.holds(now) && (g.Locale == "" || g.isFor(locale)) {
+			all |= g.Right
+		}
+	}
+	return all
+}
+
+// Somewhere returns what the holder may do now in whichever locales of an application.
+func (h Holder) Somewhere(app string, now time.Time) (all Right) {
+	for i := range h.grants {
+		if g := &h.grants[i]; g.covers(app) && g.holds(now) {
 			all |= g.Right
 		}
 	}

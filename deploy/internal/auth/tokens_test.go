@@ -110,13 +110,14 @@ func TestRights(t *testing.T) {
 	}{
 		{one, "shop", "", Read | Release, "read,release"}, {one, "shop", "de_AT", Read | Edit | Release, "read,edit,release"},
 		{one, "shop", "DE-at.txt", Read | Edit | Release, "read,edit,release"}, {one, "shop", "de", Read | Release, "read,release"}, {one, "shop", "-", Read | Release, "read,release"},
-		{one, "shop", AnyLocale, Read | Edit | Release, "read,edit,release"}, {one, "shop.a", "", Erase, "erase"}, {one, "bank", "", 0, ""},
+		{one, "shop", "*", Read | Release, "read,release"}, {one, "shop", "de_AT@x", Read | Edit | Release, "read,edit,release"}, {one, "shop.a", "", Erase, "erase"}, {one, "bank", "", 0, ""},
 		{two, "bank", "", Own | Write, "own"}, {two, "shop", "", 0, ""}, {two, "shop", "fr", Write, "write"}, {two, "shop", "fr_CA", 0, ""},
 	} {
 		h, _ := tokens.Find(c.token)
 		got := h.May(c.app, c.locale, time.Now())
 		harness.Equal(t, []string{got.String()}, []string{c.words}, c.app, c.locale)
 		harness.Equal(t, got, c.want, c.app, c.locale)
+		harness.ErrorIf(t, h.Somewhere(c.app, time.Now())&got != got, "%s: somewhere", c.app)
 	}
 }
 

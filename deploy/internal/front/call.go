@@ -172,12 +172,13 @@ func pathIn(escaped string, parts []string) string {
 // application does what an application's address names, if the token allows it.
 func (c *Call) application() error {
 	do, locale, allow := c.find(c.Parts, c.R.Method)
-	if do.AnyLocale {
-		locale = auth.AnyLocale
+	if err := c.identify(); err != nil {
+		return err
 	}
-	c.identify()
 	may := auth.Right(0)
-	if c.known {
+	if c.known && do.AnyLocale {
+		may = c.Who.Somewhere(c.App, c.began)
+	} else if c.known {
 		may = c.Who.May(c.App, locale, c.began)
 	}
 	c.Operation = do
@@ -201,15 +202,19 @@ func (c *Call) application() error {
 	return wire.NotAllowed
 }
 
-// identify finds who asks: in the file of tokens, or among the tokens that owners of the application made.
-func (c *Call) identify() {
+// identify finds who asks: in the file of tokens, or among the tokens that owners of the application made. Before these are read it returns an error.
+func (c *Call) identify() error {
 	token, ok := auth.Bearer(c.R.Header["Authorization"])
 	if !ok {
-		return
+		return nil
 	}
-	if c.Who, c.known = c.Tokens.Find(token); !c.known {
-		c.Who, c.known = auth.FindIn(c.Backend.Now(c.App).Tokens, token)
+	if c.Who, c.known = c.Tokens.Find(token); c.known {
+		return nil
 	}
+	if c.Who, c.known = auth.FindIn(c.Backend.Now(c.App).Tokens, token); c.known {
+		return nil
+	}
+	return c.Backend.Ready()
 }
 
 // Permit returns an error unless the token has a right for a locale, or for the whole application if that is "".

@@ -26,6 +26,8 @@ func TestReadyOnceAllIsRead(t *testing.T) {
 	first := start()
 	time.Sleep(12 * time.Second)
 	errorIf(t, first.Healthy(), "ready without its store")
+	equal(t, first.ask("GET", "/v1/shop", "perhaps-an-owner-made-it", "").Error(), "Replaying")
+	equal(t, first.ask("GET", "/v1/shop", "", "").Status, 401)
 	harness.StartAll(c.Members)
 	first.Await(generous)
 	for i := 0; i < 80; i++ {

@@ -40,7 +40,8 @@ func TestEachRight(t *testing.T) {
 	s.put("fr", `fr{a{"F"}}`)
 	all := s.past("")
 	for _, c := range []struct{ method, path, body, may string }{
-		{"GET", "/de/a", "", "read own /read"}, {"GET", "/de.txt", "", "read own /read"}, {"GET", "/fr/a", "", "read own"}, {"GET", "/-/a", "", "read own"}, {"GET", "", "", "read own"},
+		{"GET", "/de/a", "", "read own /read"}, {"GET", "/de.txt", "", "read own /read"}, {"GET", "/fr/a", "", "read own"}, {"GET", "/-/a", "", "read own"}, {"GET", "", "", "read own"}, {"GET", "/*/a", "", "read own"},
+		{"GET", "/_history?locale=*", "", "edit own"}, {"GET", "/_history?locale=/", "", "edit own"},
 		{"POST", "/look", "{}", "read own"}, {"POST", "/_check/de.txt", "de{}", "read own /read"}, {"POST", "/_check/fr.txt", "fr{}", "read own"},
 		{"PUT", "/DE.txt", `de{a{"A"}}`, "edit own /edit"}, {"PUT", "/fr.txt", `fr{a{"F"}}`, "edit own"}, {"DELETE", "/de_AT", "", "edit own"},
 		{"GET", "/_history", "", "edit own"}, {"GET", "/_history?locale=de", "", "edit own /edit"}, {"GET", "/_history?locale=fr", "", "edit own"},
