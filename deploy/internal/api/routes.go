@@ -75,8 +75,8 @@ var addresses = []front.Address{
 			Do: differences, Gives: asJSON, Statuses: []int{200, 404, 413}, Query: []string{"with"}},
 	}},
 	{Pattern: "/_history/{id}/restore", Operations: []front.Operation{
-		{Method: "POST", ID: "restore", Summary: "Makes the bundle what it was after a change.", Right: auth.Edit, AnyLocale: true, Kind: front.KindChange, Action: "restore",
-			Do: restore, Gives: asJSON, Statuses: []int{200, 201, 404, 409, 412, 507}},
+		{Method: "POST", ID: "restore", Summary: "Makes the bundle what it was after a change.", Right: auth.Edit, AnyLocale: true,
+			Kind: front.KindChange, Action: "restore", Do: restore, Gives: asJSON, Statuses: []int{200, 201, 404, 409, 412, 507}},
 	}},
 	{Pattern: "/{locale}", Operations: []front.Operation{
 		{Method: "GET", ID: "lookRoot", Forms: "get", Summary: "Returns the bundle's table; with .txt, .res or .json the bundle; with ?tree all that it inherits.",

@@ -104,7 +104,8 @@ func operationItem(o *front.Operation, id string, gives []string) object {
 
 // replies names the schemas of operations' replies. Other replies are any JSON.
 var replies = map[string]string{"list": "Names", "look": "Item", "put": "Done", "install": "Done", "remove": "Done", "patch": "Done", "erase": "Done",
-	"restore": "Done", "undoErase": "Done", "revoke": "Done", "tokens": "Tokens", "makeToken": "Token", "release": "Released", "history": "History", "diff": "Differences", "check": "Checked"}
+	"undoErase": "Done", "revoke": "Done", "tokens": "Tokens", "makeToken": "Token", "restore": "Done", "release": "Released", "history": "History",
+	"diff": "Differences", "check": "Checked"}
 
 func contents(types []string, schema string) object {
 	all := object{}

@@ -157,7 +157,8 @@ func TestCollectsAfterAStart(t *testing.T) {
 	})
 }
 
-// TestErasures erases an application beside its writers and readers, and beside the collector. Nobody finds what was erased.
+// TestErasures erases an application and undoes that, beside its writers and readers, and beside the collector. Nobody finds what was erased, and what
+// came back has its bodies.
 func TestErasures(t *testing.T) {
 	g := open(t, t.TempDir(), asIs)
 	defer g.Close()
@@ -181,10 +182,18 @@ func TestErasures(t *testing.T) {
 			t.Error(err)
 		}
 	})
+	change := func(q Request) error {
+		q.App, q.Who, q.IsGone, q.Mine = "shop", "me", func() bool { return false }, func(string) bool { return true }
+		_, _, err := g.Change(ctx, q)
+		return err
+	}
+	work(1, func(_, i int) {
+		if err := change(Request{Op: "erase", Erase: true, Undoable: time.Duration(i%4) * time.Hour}); err != nil {
+			t.Error(err)
+		}
+	})
 	work(1, func(int, int) {
-		_, _, err := g.Change(ctx, Request{App: "shop", Who: "me", Op: "erase", Erase: true,
-			IsGone: func() bool { return false }, Mine: func(string) bool { return true }})
-		if err != nil {
+		if err := change(Request{Op: "undo", Undo: true}); err != nil && !errors.Is(err, store.ErrNoVersion) {
 			t.Error(err)
 		}
 	})
@@ -209,6 +218,11 @@ func TestErasures(t *testing.T) {
 		}
 	})
 	all.Wait()
+	for _, b := range g.Now("shop").Bundles {
+		if _, err := g.Body(ctx, "shop", b); err != nil {
+			t.Error(err)
+		}
+	}
 }
 
 // TestWriters has changes of some applications at once. Each is found once it is acknowledged, and none is lost.

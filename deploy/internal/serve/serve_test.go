@@ -87,23 +87,23 @@ func TestForwardSecrecy(t *testing.T) {
 	harness.Must(t, err)
 	p := &Pair{}
 	p.now.Store(&tls.Certificate{Certificate: [][]byte{cert}, PrivateKey: key})
-	agrees := func(caller tls.Config) bool {
+	agrees := func(caller *tls.Config) bool {
 		here, there := net.Pipe()
 		defer here.Close()
 		go func() { _ = tls.Server(there, p.Configuration()).Handshake() }()
 		caller.InsecureSkipVerify = true
-		return tls.Client(here, &caller).Handshake() == nil
+		return tls.Client(here, caller).Handshake() == nil
 	}
 	for _, suite := range append(tls.CipherSuites(), tls.InsecureCipherSuites()...) {
 		is12, isRSA := suite.SupportedVersions[0] != tls.VersionTLS13, strings.Contains(suite.Name, "ECDHE_RSA")
 		isNew := !strings.Contains(suite.Name, "RC4") && !strings.Contains(suite.Name, "3DES") && !strings.Contains(suite.Name, "CBC_SHA256")
 		if is12 {
-			got := agrees(tls.Config{MaxVersion: tls.VersionTLS12, CipherSuites: []uint16{suite.ID}})
+			got := agrees(&tls.Config{MaxVersion: tls.VersionTLS12, CipherSuites: []uint16{suite.ID}})
 			harness.Equal(t, got, isRSA && isNew, suite.Name)
 		}
 	}
 	for version, want := range map[uint16]bool{tls.VersionTLS10: false, tls.VersionTLS11: false, tls.VersionTLS12: true, tls.VersionTLS13: true} {
-		harness.Equal(t, agrees(tls.Config{MinVersion: version, MaxVersion: version}), want, version)
+		harness.Equal(t, agrees(&tls.Config{MinVersion: version, MaxVersion: version}), want, version)
 	}
 }
 
