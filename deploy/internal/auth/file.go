@@ -56,6 +56,9 @@ func lineOf(token, where, rights, name string, expires time.Time) (string, error
 		return "", fmt.Errorf("%q is no application's name", where)
 	}
 	text := fmt.Sprintf("%s %s %x", where, rights, sha256.Sum256([]byte(token)))
+	if name != "" && !isApp(name) {
+		return "", fmt.Errorf("%.80q is no name", name)
+	}
 	if name != "" {
 		text += " name=" + name
 	}

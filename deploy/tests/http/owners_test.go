@@ -100,7 +100,7 @@ func TestOwnersMakeTokens(t *testing.T) {
 		t.Errorf("%+v", all)
 	}
 	equal(t, s.past("?locale=de_AT")[0].Token, "anna")
-	for query, want := range map[string]string{"": "BadQuery", "rights=sing": "BadQuery", "rights=read&name=a%20b": "BadQuery", "rights=read&locale=d": "BadQuery", "rights=own&locale=de": "BadQuery",
+	for query, want := range map[string]string{"": "BadQuery", "rights=sing": "BadQuery", "rights=read&name=a%20b": "BadQuery", "rights=read&name=a%20expires=2090-01-01": "BadQuery", "rights=read&locale=d": "BadQuery", "rights=own&locale=de": "BadQuery",
 		"rights=read&expires=2001-01-01": "BadQuery", "rights=read&expires=soon": "BadQuery", "rights=read&name=app": "Exists", "rights=read%20x": "BadQuery"} {
 		if got := s.ask("POST", "/v1/shop/_tokens?"+query, shopOwner, ""); got.Error() != want {
 			t.Errorf("%q: %d %s", query, got.Status, got.Body)
