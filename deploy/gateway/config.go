@@ -6,71 +6,64 @@ import (
 	"errors"
 	"flag"
 	"fmt"
-	"net"
 	"os"
-	"os/exec"
 	"strings"
 	"time"
-
-	"luvdregan.example/resb/deploy/internal/auth"
-	"luvdregan.example/resb/deploy/internal/engine"
-	"luvdregan.example/resb/deploy/internal/serve"
 )
 
 // notInFile are the options that only a command line has.
 var notInFile = map[string]bool{"config": true, "check-config": true, "version": true}
 
 // readConfig sets the options that a file of JSON has and the command line hasn't.
-func readConfig(f *flag.FlagSet, path string) error {
-	content, err := os.ReadFile(path)
+func (s *settings) readConfig(f *flag.FlagSet) error {
+	content, err := os.ReadFile(s.config)
 	if err != nil {
-		return err
+		return s.wrong("config", ": %w", err)
 	}
-	at, err := setOptions(f, content)
-	if err != nil {
-		return fmt.Errorf("%s: line %d: %w", path, 1+bytes.Count(content[:at], []byte("\n")), err)
+	s.lines = map[string]int{}
+	if line, err := s.setOptions(f, content); err != nil {
+		return fmt.Errorf("%s: line %d: %w", s.config, line, err)
 	}
 	return nil
 }
 
-// setOptions sets the options of a file. It returns where the error is.
-func setOptions(f *flag.FlagSet, content []byte) (at int64, err error) {
+// setOptions sets the options of a file. It returns the line of the error.
+func (s *settings) setOptions(f *flag.FlagSet, content []byte) (line int, err error) {
+	lineAt := func(at int64) int { return 1 + bytes.Count(content[:at], []byte("\n")) }
 	var whole map[string]json.RawMessage
 	var syntax *json.SyntaxError
 	err = json.Unmarshal(content, &whole)
 	switch {
 	case errors.As(err, &syntax) && syntax.Offset > 0:
-		return syntax.Offset - 1, err // the offset is after the character that is wrong
+		return lineAt(syntax.Offset - 1), err // the offset is after the character that is wrong
 	case errors.As(err, &syntax):
-		return 0, err
+		return 1, err
 	case err != nil || whole == nil:
-		return 0, errors.New("the file must be a JSON object")
+		return 1, errors.New("the file must be a JSON object")
 	}
-	given, seen := map[string]bool{}, map[string]bool{}
-	f.Visit(func(one *flag.Flag) { given[one.Name] = true })
 	d := json.NewDecoder(bytes.NewReader(content))
 	d.UseNumber()
 	for _, err = d.Token(); err == nil && d.More(); {
 		var key json.Token
 		var value any
 		key, err = d.Token()
-		at = d.InputOffset()
 		name := fmt.Sprint(key)
 		of := f.Lookup(name)
+		line = lineAt(d.InputOffset())
 		switch {
 		case err != nil:
-		case seen[name]:
+		case s.lines[name] > 0:
 			err = fmt.Errorf("%q is there twice", name)
 		case of == nil || notInFile[name]:
 			err = fmt.Errorf("there is no option %q", name)
 		default:
-			seen[name] = true
+			s.lines[name] = line
 			if err = d.Decode(&value); err == nil {
-				err = setOption(of, value, !given[name])
+				err = setOption(of, value, !s.given[name])
 			}
 		}
 	}
-	return at, err
+	return line, err
 }
 
 // setOption checks the value of an option, and sets it.
@@ -118,30 +111,4 @@ func textsOf(of flag.Value, value any) (texts []string, wants string) {
 		wants = ""
 	}
 	return texts, wants
-}
-
-// checkFiles finds what the settings name and isn't there or isn't as it must be. It changes nothing, so a gateway may run meanwhile.
-func (s settings) checkFiles() error {
-	checks := []func() error{
-		func() error { _, err := auth.Open(s.tokenFile); return err },
-		func() error { _, err := serve.OpenPair(s.cert, s.key); return err },
-		func() error { _, err := net.ResolveTCPAddr("tcp", s.listen); return err },
-		s.sources,
-		func() error { _, err := engine.Open(s.engine); return err },
-		func() error { _, err := exec.LookPath(s.program); return err },
-	}
-	if s.inside != "" {
-		checks = append(checks, func() error { _, err := net.ResolveTCPAddr("tcp", s.inside); return err })
-	}
-	if s.etcd != "" {
-		checks = append(checks, func() error { _, err := s.etcdOptions(); return err })
-	} else if !s.create {
-		checks = append(checks, func() error { _, err := os.Stat(s.state); return err })
-	}
-	for _, check := range checks {
-		if err := check(); err != nil {
-			return err
-		}
-	}
-	return nil
 }

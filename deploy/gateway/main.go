@@ -20,9 +20,7 @@ import (
 	"github.com/coreos/go-systemd/daemon"
 
 	"luvdregan.example/resb/deploy/internal/api"
-	"luvdregan.example/resb/deploy/internal/auth"
 	"luvdregan.example/resb/deploy/internal/convert"
-	"luvdregan.example/resb/deploy/internal/engine"
 	"luvdregan.example/resb/deploy/internal/front"
 	"luvdregan.example/resb/deploy/internal/replica"
 	"luvdregan.example/resb/deploy/internal/serve"
@@ -65,7 +63,7 @@ func main() {
 	case s.version:
 		fmt.Printf("resb-gateway %s (%s)\n", version, commit)
 	case s.checkOnly:
-		if err := s.checkFiles(); err != nil {
+		if _, err := s.open(); err != nil {
 			status = s.fail(err, 2)
 		} else {
 			fmt.Println("the configuration can be used")
@@ -99,33 +97,37 @@ func run(s settings) error {
 	}
 	leaving, stop := signal.NotifyContext(context.Background(), os.Interrupt, syscall.SIGTERM)
 	defer stop()
-	if s.addTokens != "" {
-		defer os.Remove(s.addTokens) // of a gateway that fails to start
-	}
-	pair, err := serve.OpenPair(s.cert, s.key)
+	p, err := s.open()
 	if err != nil {
 		return err
 	}
 	outer, err := net.Listen("tcp", s.listen)
 	if err != nil {
-		return err
+		return s.wrong("listen", ": %w", err)
 	}
-	g, err := newGateway(leaving, s)
+	opened := make(chan *replica.Replica, 1)
+	go func() {
+		if err := announce(leaving, opened); err != nil {
+			log.Printf("gateway: NOTIFY_SOCKET: %v", err)
+		}
+	}()
+	g, err := newGateway(leaving, s, p)
 	if err != nil {
 		return err
 	}
+	opened <- g.Backend
 	defer g.close()
-	go g.refresh(leaving, pair)
+	go g.refresh(leaving, p.pair)
 	if s.inside != "" {
 		inner, err := net.Listen("tcp", s.inside)
 		if err != nil {
-			return err
+			return s.wrong("inside", ": %w", err)
 		}
 		inside := g.server(g.Handler.Inside()) // the metrics, and whether the gateway is ready
 		go func() { _ = inside.Serve(inner) }()
 		defer inside.Close()
 	}
-	return g.listenOn(outer, pair)
+	return g.listenOn(outer, p.pair)
 }
 
 // A gateway is a handler with the settings of its listeners.
@@ -138,39 +140,26 @@ type gateway struct {
 	audit     *serve.Journal
 }
 
-// newGateway reads the tokens and begins to follow the store.
-func newGateway(leaving context.Context, s settings) (*gateway, error) {
-	known, err := auth.Open(s.tokenFile)
-	if err != nil {
-		return nil, err
-	}
-	if s.addTokens != "" {
-		if err := known.Add(s.addTokens); err != nil {
-			return nil, err
-		}
-	}
-	g := &gateway{settings: s, leaving: leaving, refreshed: make(chan struct{})}
+// newGateway opens the logs, and begins to follow the store.
+func newGateway(leaving context.Context, s settings, p parts) (g *gateway, err error) {
+	g = &gateway{settings: s, leaving: leaving, refreshed: make(chan struct{})}
 	if g.access, err = serve.OpenJournal(s.accessLog); err != nil {
-		return nil, err
+		return nil, s.wrong("access-log", ": %w", err)
 	}
 	if g.audit, err = serve.OpenJournal(s.auditLog); err != nil {
-		return nil, err
+		return nil, s.wrong("audit-log", ": %w", err)
 	}
-	if err := s.sources(); err != nil {
-		return nil, err
-	}
-	e, err := engine.Open(s.engine)
+	of, refusal, err := s.findStore()
 	if err != nil {
 		return nil, err
 	}
-	of, err := s.openStore()
-	if err != nil {
-		return nil, err
+	if refusal != nil {
+		log.Print(refusal)
 	}
 	options := s.options
 	options.Access, options.Audit = serve.JournalOf(g.access), serve.JournalOf(g.audit)
 	options.Version, options.Commit, options.Leaving = version, commit, leaving
-	g.Handler = api.New(&front.Handler{Backend: replica.Open(of, e, s.replica), Engine: e, Tokens: known,
+	g.Handler = api.New(&front.Handler{Backend: replica.Open(of, p.engine, s.replica), Engine: p.engine, Tokens: p.tokens,
 		Convert: convert.New(s.program, conversions), Options: options})
 	g.Metrics.Gauge("log_lines_dropped_total", "Lines of logs that were left out, as nobody took them.", serve.Dropped)
 	return g, nil
@@ -257,11 +246,6 @@ func (g *gateway) listenOn(outer net.Listener, p *serve.Pair) error {
 	ended := make(chan error, 1)
 	go func() { ended <- server.Serve(l) }()
 	log.Printf("gateway: answers at %s", outer.Addr())
-	go func() {
-		if err := announce(g.leaving, g.Backend.Ready); err != nil {
-			log.Printf("gateway: NOTIFY_SOCKET: %v", err)
-		}
-	}()
 	select {
 	case err := <-ended:
 		return err

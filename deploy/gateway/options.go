@@ -6,6 +6,7 @@ import (
 	"flag"
 	"fmt"
 	"io"
+	"math"
 	"net"
 	"net/url"
 	"os"
@@ -36,6 +37,9 @@ type settings struct {
 	options                                       front.Options
 	connections                                   int64
 	headerTime, writeTime, idleTime, leave, drain time.Duration
+
+	lines map[string]int  // of the file, by option
+	given map[string]bool // on the command line
 }
 
 // An option is a flag of the command line, and a member of the file.
@@ -43,67 +47,84 @@ type option struct {
 	name string
 	to   any // where its value is stored
 	is   any // the value if nobody gives one
+	has  any // the span of a number, the use of a file, or nil
 	help string
 }
+
+// A span has the least and the greatest value of a number, of bytes, or of a duration in nanoseconds.
+type span struct{ least, most int64 }
+
+// atLeast is a span without an end.
+func atLeast(n int64) span { return span{n, math.MaxInt64} }
+
+// A use says what the gateway does with a file.
+type use int
+
+const (
+	reads use = iota + 1
+	appends
+	removes
+)
 
 // table returns all options. The command line, the file of the configuration and the page follow from it.
 func (s *settings) table() []option {
 	o, l := &s.options, &s.options.Limits
+	aSecond := atLeast(int64(time.Second))
 	return []option{
-		{"version", &s.version, false, "print the version and the commit, and end"},
-		{"config", &s.config, "", "a `file` of JSON with further options; those of the command line win"},
-		{"check-config", &s.checkOnly, false, "check the options and the files that they name, and end with status 0 or 2"},
-		{"listen", &s.listen, "127.0.0.1:6422", "the `address` to answer at"},
-		{"inside", &s.inside, "", "an `address` for the metrics and the health, which callers must not reach"},
-		{"tokens", &s.tokenFile, "", "the `file` of tokens: lines of APP, rights such as read or write, and the token's SHA-256"},
-		{"add-tokens", &s.addTokens, "", "a `file` whose tokens are added to the file of tokens once lookups are answered; it is removed then"},
-		{"cert", &s.cert, "", "a `file` with the certificates, for TLS"},
-		{"key", &s.key, "", "a `file` with their key"},
-		{"origins", &s.origins, "", "the `origins` whose scripts may ask, such as https://shop.example, with commas between them; * is all"},
-		{"proxies", &s.proxies, "", "the `networks` of proxies whose X-Forwarded-For logs believe, such as 10.0.0.0/8, with commas between them"},
-		{"log", &s.log, "text", "the `form` of the log: text, or json for a JSON object in each line"},
-		{"access-log", &s.accessLog, "", "a `file` to append a line of JSON to for each request, or - for standard error"},
-		{"audit-log", &s.auditLog, "", "a `file` to append a line of JSON to for each change that is asked for, or -"},
+		{"version", &s.version, false, nil, "print the version and the commit, and end"},
+		{"config", &s.config, "", reads, "a `file` of JSON with further options; those of the command line win"},
+		{"check-config", &s.checkOnly, false, nil, "check the options and the files that they name, and end with status 0 or 2"},
+		{"listen", &s.listen, "127.0.0.1:6422", nil, "the `address` to answer at"},
+		{"inside", &s.inside, "", nil, "an `address` for the metrics and the health, which callers must not reach"},
+		{"tokens", &s.tokenFile, "", reads, "the `file` of tokens: lines of APP, rights such as read or write, and the token's SHA-256"},
+		{"add-tokens", &s.addTokens, "", removes, "a `file` whose tokens are added to the file of tokens once lookups are answered; it is removed then"},
+		{"cert", &s.cert, "", reads, "a `file` with the certificates, for TLS"},
+		{"key", &s.key, "", reads, "a `file` with their key"},
+		{"origins", &s.origins, "", nil, "the `origins` whose scripts may ask, such as https://shop.example, with commas between them; * is all"},
+		{"proxies", &s.proxies, "", nil, "the `networks` of proxies whose X-Forwarded-For logs believe, such as 10.0.0.0/8, with commas between them"},
+		{"log", &s.log, "text", nil, "the `form` of the log: text, or json for a JSON object in each line"},
+		{"access-log", &s.accessLog, "", appends, "a `file` to append a line of JSON to for each request, or - for standard error"},
+		{"audit-log", &s.auditLog, "", appends, "a `file` to append a line of JSON to for each change that is asked for, or -"},
 
-		{"state", &s.state, "", "the `folder` of the store on this machine"},
-		{"init", &s.create, false, "make the store if the folder has none"},
-		{"etcd", &s.etcd, "", "the `addresses` of the members of etcd, with commas between them, whose store several gateways share"},
-		{"etcd-login", &s.etcdLogin, "", "a `file` with a user of etcd and a password, with a blank between them"},
-		{"etcd-ca", &s.etcdCA, "", "a `file` with the certificates of etcd's authority, for TLS"},
-		{"etcd-cert", &s.etcdCert, "", "a `file` with a certificate for etcd"},
-		{"etcd-key", &s.etcdKey, "", "a `file` with its key"},
-		{"history", &s.replica.Keep.Manifests, 1000, "how many earlier changes of an application stay"},
-		{"history-age", &s.replica.Keep.Age, time.Duration(0), "how long earlier changes stay; 0 is no limit"},
-		{"history-bytes", (*bytesValue)(&s.replica.Keep.Bytes), int64(64 << 20), "the most `bytes` of earlier versions of an application's bundles"},
-		{"erase-after", &o.EraseAfter, 7 * 24 * time.Hour, "how long the erasure of an application can be undone; then what it removed is deleted"},
+		{"state", &s.state, "", nil, "the `folder` of the store on this machine"},
+		{"init", &s.create, false, nil, "make the store if the folder has none"},
+		{"etcd", &s.etcd, "", nil, "the `addresses` of the members of etcd, with commas between them, whose store several gateways share"},
+		{"etcd-login", &s.etcdLogin, "", reads, "a `file` with a user of etcd and a password, with a blank between them"},
+		{"etcd-ca", &s.etcdCA, "", reads, "a `file` with the certificates of etcd's authority, for TLS"},
+		{"etcd-cert", &s.etcdCert, "", reads, "a `file` with a certificate for etcd"},
+		{"etcd-key", &s.etcdKey, "", reads, "a `file` with its key"},
+		{"history", &s.replica.Keep.Manifests, 1000, atLeast(0), "how many earlier changes of an application stay"},
+		{"history-age", &s.replica.Keep.Age, time.Duration(0), atLeast(0), "how long earlier changes stay; 0 is no limit"},
+		{"history-bytes", (*bytesValue)(&s.replica.Keep.Bytes), int64(64 << 20), atLeast(0), "the most `bytes` of earlier versions of an application's bundles"},
+		{"erase-after", &o.EraseAfter, 7 * 24 * time.Hour, atLeast(0), "how long the erasure of an application can be undone; then what it removed is deleted"},
 
-		{"program", &s.program, "resb", "the `program`, which explains errors and warns of doubtful texts"},
-		{"icudata", &s.icuData, nil, "a `bundle` of ICUDATA, which all applications see, as LOCALE=FILE; may be there several times"},
-		{"parents", &s.parents, "", "a `file` with the explicit parents of locales"},
+		{"program", &s.program, "resb", nil, "the `program`, which explains errors and warns of doubtful texts"},
+		{"icudata", &s.icuData, nil, reads, "a `bundle` of ICUDATA, which all applications see, as LOCALE=FILE; may be there several times"},
+		{"parents", &s.parents, "", reads, "a `file` with the explicit parents of locales"},
 
-		{"apps", &s.replica.Apps, 1024, "the most applications with bundles; one token may have half of what others leave"},
-		{"app-bytes", (*bytesValue)(&s.replica.Limits.Compiled), int64(128 << 20), "the most `bytes` of an application's compiled bundles"},
-		{"app-stored-bytes", (*bytesValue)(&s.replica.Limits.Bytes), int64(128 << 20), "the most `bytes` of what was submitted for an application's bundles"},
-		{"bundles-bytes", (*bytesValue)(&s.replica.Bytes), int64(0), "the most `bytes` of all compiled bundles; one token may have half of what others leave. 0 is half of the machine's memory, or of the control group's"},
-		{"text-bytes", (*bytesValue)(&o.TextBytes), int64(mostText), "the most `bytes` of a bundle text"},
-		{"file-bytes", (*bytesValue)(&o.FileBytes), int64(mostFile), "the most `bytes` of a bundle's file"},
-		{"look-bytes", (*bytesValue)(&o.LookBytes), int64(8 << 20), "the most `bytes` of the lookups in one request"},
-		{"release-bytes", (*bytesValue)(&o.ReleaseBytes), int64(64 << 20), "the most `bytes` of a release, and of what is in it"},
-		{"reply-bytes", (*bytesValue)(&s.engine.ReplyBytes), int64(8 << 20), "the most `bytes` of a found item"},
-		{"steps", &s.engine.Steps, uint64(10_000), "the most `steps` of a lookup"},
-		{"body-bytes", (*bytesValue)(&l.Bytes), int64(512 << 20), "the most `bytes` of all requests at once; an application or a token may have half of what others leave"},
-		{"each", &l.Each, 512, "the most requests of an application, or with a token, at once"},
-		{"all", &l.All, 4096, "the most requests at once; an application or a token may have half of what others leave"},
-		{"rate", &l.Rate, 0, "the most requests and lookups of an application, or with a token, a second; 0 is no limit"},
-		{"day-bytes", (*bytesValue)(&l.DayBytes), int64(0), "the most `bytes` of requests and replies of an application, or with a token, in a day of UTC; 0 is no limit"},
-		{"connections", &s.connections, int64(16384), "the most connections"},
-		{"header-time", &s.headerTime, 10 * time.Second, "how long a header may take to come"},
-		{"read-time", &o.ReadTime, 2 * time.Minute, "how long a request may take to come"},
-		{"write-time", &s.writeTime, 5 * time.Minute, "how long a request may take altogether"},
-		{"idle-time", &s.idleTime, 2 * time.Minute, "how long a connection may wait for its next request"},
-		{"patience", &o.Patience, 30 * time.Second, "how long a change, a conversion or ?after= may take"},
-		{"drain", &s.drain, time.Duration(0), "how long the gateway still answers after a signal to end, while /readyz says that it ends"},
-		{"leave", &s.leave, 30 * time.Second, "how long requests on their way may take when the gateway ends"},
+		{"apps", &s.replica.Apps, 1024, atLeast(1), "the most applications with bundles; one token may have half of what others leave"},
+		{"app-bytes", (*bytesValue)(&s.replica.Limits.Compiled), int64(128 << 20), atLeast(1000), "the most `bytes` of an application's compiled bundles"},
+		{"app-stored-bytes", (*bytesValue)(&s.replica.Limits.Bytes), int64(128 << 20), atLeast(1000), "the most `bytes` of what was submitted for an application's bundles"},
+		{"bundles-bytes", (*bytesValue)(&s.replica.Bytes), int64(0), atLeast(0), "the most `bytes` of all compiled bundles; one token may have half of what others leave. 0 is half of the machine's memory, or of the control group's"},
+		{"text-bytes", (*bytesValue)(&o.TextBytes), int64(mostText), span{100, mostText}, "the most `bytes` of a bundle text"},
+		{"file-bytes", (*bytesValue)(&o.FileBytes), int64(mostFile), span{100, mostFile}, "the most `bytes` of a bundle's file"},
+		{"look-bytes", (*bytesValue)(&o.LookBytes), int64(8 << 20), atLeast(100), "the most `bytes` of the lookups in one request"},
+		{"release-bytes", (*bytesValue)(&o.ReleaseBytes), int64(64 << 20), atLeast(1000), "the most `bytes` of a release, and of what is in it"},
+		{"reply-bytes", (*bytesValue)(&s.engine.ReplyBytes), int64(8 << 20), atLeast(100), "the most `bytes` of a found item"},
+		{"steps", &s.engine.Steps, uint64(10_000), atLeast(1), "the most `steps` of a lookup"},
+		{"body-bytes", (*bytesValue)(&l.Bytes), int64(512 << 20), atLeast(10_000), "the most `bytes` of all requests at once; an application or a token may have half of what others leave"},
+		{"each", &l.Each, 512, atLeast(1), "the most requests of an application, or with a token, at once"},
+		{"all", &l.All, 4096, atLeast(1), "the most requests at once; an application or a token may have half of what others leave"},
+		{"rate", &l.Rate, 0, atLeast(0), "the most requests and lookups of an application, or with a token, a second; 0 is no limit"},
+		{"day-bytes", (*bytesValue)(&l.DayBytes), int64(0), atLeast(0), "the most `bytes` of requests and replies of an application, or with a token, in a day of UTC; 0 is no limit"},
+		{"connections", &s.connections, int64(16384), atLeast(1), "the most connections"},
+		{"header-time", &s.headerTime, 10 * time.Second, aSecond, "how long a header may take to come"},
+		{"read-time", &o.ReadTime, 2 * time.Minute, aSecond, "how long a request may take to come"},
+		{"write-time", &s.writeTime, 5 * time.Minute, aSecond, "how long a request may take altogether"},
+		{"idle-time", &s.idleTime, 2 * time.Minute, aSecond, "how long a connection may wait for its next request"},
+		{"patience", &o.Patience, 30 * time.Second, aSecond, "how long a change, a conversion or ?after= may take"},
+		{"drain", &s.drain, time.Duration(0), atLeast(0), "how long the gateway still answers after a signal to end, while /readyz says that it ends"},
+		{"leave", &s.leave, 30 * time.Second, atLeast(0), "how long requests on their way may take when the gateway ends"},
 	}
 }
 
@@ -177,48 +198,61 @@ func describeOptions(arguments []string, out io.Writer) int {
 // readSettings reads the command line, and the file that it names for what it doesn't say. Errors of the command line and the usage are also
 // printed to `said`.
 func readSettings(arguments []string, said io.Writer) (settings, error) {
-	s := settings{}
+	s := settings{given: map[string]bool{}}
 	f := s.flags()
 	f.SetOutput(said)
 	if err := f.Parse(arguments); err != nil {
 		return s, err
 	}
+	f.Visit(func(one *flag.Flag) { s.given[one.Name] = true })
 	switch {
 	case s.version:
 		return s, nil
 	case f.NArg() > 0:
 		return s, fmt.Errorf("%q is no option", f.Arg(0))
 	case s.config != "":
-		if err := readConfig(f, s.config); err != nil {
+		if err := s.readConfig(f); err != nil {
 			return s, err
 		}
 	}
 	return s, s.complete()
 }
 
-// complete finds what doesn't go together, and sets what follows from other options.
-func (s *settings) complete() (err error) {
-	o := &s.options
-	switch {
-	case s.log != "text" && s.log != "json":
-		return errors.New("-log is text or json")
-	case s.tokenFile == "":
-		return errors.New("-tokens is missing")
-	case (s.state == "") == (s.etcd == ""):
-		return errors.New("one of -state and -etcd is needed")
-	case s.replica.Apps < 1 || s.engine.ReplyBytes < 1 || s.engine.Steps < 1:
-		return errors.New("-apps, -reply-bytes and -steps are at least 1")
-	case o.Limits.Rate < 0 || o.Limits.DayBytes < 0:
-		return errors.New("-rate and -day-bytes are at least 0")
-	case o.TextBytes > mostText || o.FileBytes > mostFile:
-		return errors.New("the library takes texts of 8 MB and files of 64 MB")
-	case (s.cert == "") != (s.key == "") || (s.etcdCert == "") != (s.etcdKey == ""):
-		return errors.New("a certificate and its key go together")
+// wrong returns an error about an option, which begins with where it was given.
+func (s *settings) wrong(name, format string, about ...any) error {
+	place := "-" + name
+	if line := s.lines[name]; line > 0 && !s.given[name] {
+		place = fmt.Sprintf("%s: line %d: %q", s.config, line, name)
+	} else if s.config != "" && !s.given[name] {
+		place = fmt.Sprintf("%s: %q", s.config, name)
 	}
-	if o.Origins, err = origins(s.origins); err != nil {
+	return fmt.Errorf("%s"+format, append([]any{place}, about...)...)
+}
+
+// complete finds what doesn't go together, and sets what follows from other options.
+func (s *settings) complete() error {
+	o := &s.options
+	if err := s.inSpans(); err != nil {
 		return err
 	}
-	if o.Proxies, err = networks(s.proxies); err != nil {
+	switch {
+	case s.log != "text" && s.log != "json":
+		return s.wrong("log", " is text or json")
+	case s.tokenFile == "":
+		return s.wrong("tokens", " is missing")
+	case s.state == "" && s.etcd == "":
+		return s.wrong("state", " is missing: one of -state and -etcd is needed")
+	case s.state != "" && s.etcd != "":
+		return s.wrong("etcd", " is too much: one of -state and -etcd is needed")
+	}
+	for _, pair := range [][4]string{{"cert", s.cert, "key", s.key}, {"etcd-cert", s.etcdCert, "etcd-key", s.etcdKey}} {
+		if pair[1] != "" && pair[3] == "" {
+			return s.wrong(pair[2], " is missing: a certificate and its key go together")
+		} else if pair[1] == "" && pair[3] != "" {
+			return s.wrong(pair[0], " is missing: a certificate and its key go together")
+		}
+	}
+	if err := s.readLists(); err != nil {
 		return err
 	}
 	o.IsTLS, o.Alone = s.cert != "", s.etcd == ""
@@ -235,59 +269,107 @@ func (s *settings) complete() (err error) {
 	return nil
 }
 
+// inSpans returns an error unless each number is in its span.
+func (s *settings) inSpans() error {
+	for _, one := range s.table() {
+		in, is := one.has.(span)
+		if !is {
+			continue
+		}
+		switch value, text := numberIn(one.to); {
+		case value < in.least:
+			return s.wrong(one.name, " can't be %s: it is at least %s", text(value), text(in.least))
+		case value > in.most:
+			return s.wrong(one.name, " can't be %s: it is at most %s", text(value), text(in.most))
+		}
+	}
+	return nil
+}
+
+// numberIn returns the number that an option has, and how one is written.
+func numberIn(to any) (value int64, text func(int64) string) {
+	text = func(n int64) string { return fmt.Sprint(n) }
+	switch to := to.(type) {
+	case *int:
+		value = int64(*to)
+	case *int64:
+		value = *to
+	case *uint64:
+		if value = int64(*to); value < 0 {
+			value = math.MaxInt64
+		}
+	case *bytesValue:
+		value, text = int64(*to), func(n int64) string { return (*bytesValue)(&n).String() }
+	case *time.Duration:
+		value, text = int64(*to), func(n int64) string { return time.Duration(n).String() }
+	}
+	return value, text
+}
+
+// readLists reads the options that are lists of texts.
+func (s *settings) readLists() error {
+	for _, one := range split(s.origins) {
+		if u, err := url.Parse(one); one != "*" && (err != nil || u.Host == "" || u.Scheme+"://"+u.Host != one) {
+			return s.wrong("origins", ": %q is no origin as https://shop.example", one)
+		}
+	}
+	s.options.Origins = split(s.origins)
+	for _, one := range split(s.proxies) {
+		network, err := networkOf(one)
+		if err != nil {
+			return s.wrong("proxies", ": %q is neither an address nor a network as 10.0.0.0/8", one)
+		}
+		s.options.Proxies = append(s.options.Proxies, network)
+	}
+	for _, one := range split(s.etcd) {
+		u, err := url.Parse(one)
+		if !strings.Contains(one, "://") {
+			u, err = url.Parse("http://" + one)
+		}
+		if err != nil || u.Port() == "" || u.Hostname() == "" || u.Path != "" || u.Scheme != "http" && u.Scheme != "https" {
+			return s.wrong("etcd", ": %q is no address as 10.0.0.1:2379 or https://10.0.0.1:2379", one)
+		}
+	}
+	for _, one := range s.icuData {
+		if locale, file, _ := strings.Cut(one, "="); locale == "" || file == "" {
+			return s.wrong("icudata", ": %q isn't LOCALE=FILE", one)
+		}
+	}
+	return nil
+}
+
 func split(list string) []string {
 	return strings.FieldsFunc(list, func(r rune) bool { return r == ',' || r == ' ' })
 }
 
-// origins reads the origins whose scripts may ask, which have a scheme and a host and no path.
-func origins(list string) ([]string, error) {
-	for _, one := range split(list) {
-		u, err := url.Parse(one)
-		if one != "*" && (err != nil || u.Host == "" || u.Scheme+"://"+u.Host != one) {
-			return nil, fmt.Errorf("-origins: %q is no origin as https://shop.example", one)
-		}
+// networkOf reads a network, or an address as the network of itself.
+func networkOf(text string) (*net.IPNet, error) {
+	if ip := net.ParseIP(text); ip.To4() != nil {
+		text += "/32"
+	} else if ip != nil {
+		text += "/128"
 	}
-	return split(list), nil
-}
-
-// networks reads addresses and networks.
-func networks(list string) (all []*net.IPNet, err error) {
-	for _, one := range split(list) {
-		text := one
-		if ip := net.ParseIP(one); ip.To4() != nil {
-			text += "/32"
-		} else if ip != nil {
-			text += "/128"
-		}
-		_, network, err := net.ParseCIDR(text)
-		if err != nil {
-			return nil, fmt.Errorf("-proxies: %q is neither an address nor a network as 10.0.0.0/8", one)
-		}
-		all = append(all, network)
-	}
-	return all, nil
+	_, network, err := net.ParseCIDR(text)
+	return network, err
 }
 
 // sources reads the bundles of ICUDATA and the parents.
-func (s *settings) sources() error {
+func (s *settings) sources() (err error) {
 	s.engine.ICUData = nil
 	for _, one := range s.icuData {
-		locale, file, found := strings.Cut(one, "=")
-		if !found {
-			return fmt.Errorf("-icudata: %q isn't LOCALE=FILE", one)
-		}
+		locale, file, _ := strings.Cut(one, "=")
 		body, err := os.ReadFile(file)
 		if err != nil {
-			return err
+			return s.wrong("icudata", ": %w", err)
 		}
 		s.engine.ICUData = append(s.engine.ICUData, engine.Source{Locale: locale, Body: body, IsText: strings.HasSuffix(strings.ToLower(file), ".txt")})
 	}
-	if s.parents == "" {
-		return nil
+	if s.parents != "" {
+		if s.engine.Parents, err = os.ReadFile(s.parents); err != nil {
+			return s.wrong("parents", ": %w", err)
+		}
 	}
-	var err error
-	s.engine.Parents, err = os.ReadFile(s.parents)
-	return err
+	return nil
 }
 
 // bytesValue is a flag of a number of bytes, perhaps with K, M or G.
@@ -306,11 +388,11 @@ func (b *bytesValue) Set(text string) error {
 	digits := strings.TrimRight(text, "KMG")
 	shift, known := map[string]int{"": 0, "K": 10, "M": 20, "G": 30}[text[len(digits):]]
 	n, err := strconv.ParseInt(digits, 10, 64)
-	if err == nil && (!known || n < 0 || n > 1<<62>>shift) {
-		err = errors.New("not a number of bytes")
+	if err != nil || !known || n < 0 || n > 1<<62>>shift {
+		return errors.New("not a number of bytes")
 	}
 	*b = bytesValue(n << shift)
-	return err
+	return nil
 }
 
 // A listValue is a flag that may be there several times.

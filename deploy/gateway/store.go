@@ -1,6 +1,10 @@
 package main
 
 import (
+	"context"
+	"crypto/tls"
+	"crypto/x509"
+	"errors"
 	"fmt"
 	"log"
 	"os"
@@ -13,35 +17,81 @@ import (
 	"luvdregan.example/resb/deploy/internal/store/sqlite"
 )
 
-// openStore opens the store that the settings name.
-func (s settings) openStore() (store.Store, error) {
+// folder returns the options of a store on this machine.
+func (s *settings) folder() sqlite.Options { return sqlite.Options{Folder: s.state, Create: s.create} }
+
+// openStore opens the store that the settings name. etcd must answer.
+func (s *settings) openStore() (store.Store, error) {
+	of, refusal, err := s.findStore()
+	if err == nil {
+		err = refusal
+	}
+	return of, err
+}
+
+// findStore opens the store that the settings name. The refusal says why etcd doesn't answer yet; what it will never answer is an error.
+func (s *settings) findStore() (of store.Store, refusal, err error) {
 	if s.etcd == "" {
-		return sqlite.Open(sqlite.Options{Folder: s.state, Create: s.create})
+		of, err = sqlite.Open(s.folder())
+		return of, nil, err
 	}
 	options, err := s.etcdOptions()
 	if err != nil {
-		return nil, err
+		return nil, nil, err
 	}
-	return etcd.Open(options)
+	shared, err := etcd.Open(options)
+	if err != nil {
+		name := "etcd"
+		if s.etcdLogin != "" && !errors.Is(err, context.DeadlineExceeded) {
+			name = "etcd-login"
+		}
+		return nil, nil, s.wrong(name, ": %w", err)
+	}
+	ctx, cancel := context.WithTimeout(context.Background(), checkTime)
+	defer cancel()
+	if refusal = shared.Reach(ctx); refusal != nil {
+		refusal = s.wrong("etcd", ": %w", refusal)
+		if ctx.Err() == nil {
+			_ = shared.Close()
+			return nil, nil, refusal
+		}
+	}
+	return shared, refusal, nil
 }
 
 // etcdOptions reads the files that say how etcd is reached.
-func (s settings) etcdOptions() (o etcd.Options, err error) {
+func (s *settings) etcdOptions() (o etcd.Options, err error) {
 	o = etcd.Options{Endpoints: split(s.etcd), Logf: log.Printf}
 	if s.etcdLogin != "" {
 		text, err := os.ReadFile(s.etcdLogin)
-		words := strings.Fields(string(text))
-		if err == nil && len(words) != 2 {
-			err = fmt.Errorf("%s: a user and a password are missing", s.etcdLogin)
-		}
 		if err != nil {
-			return o, err
+			return o, s.wrong("etcd-login", ": %w", err)
+		}
+		words := strings.Fields(string(text))
+		if len(words) != 2 {
+			return o, s.wrong("etcd-login", ": %s: a user and a password are missing", s.etcdLogin)
 		}
 		o.User, o.Password = words[0], words[1]
 	}
+	if s.etcdCert != "" {
+		if _, err := tls.LoadX509KeyPair(s.etcdCert, s.etcdKey); err != nil {
+			return o, s.wrongPair("etcd-cert", "etcd-key", err)
+		}
+	}
+	if s.etcdCA != "" {
+		text, err := os.ReadFile(s.etcdCA)
+		if err == nil && !x509.NewCertPool().AppendCertsFromPEM(text) {
+			err = fmt.Errorf("%s: there is no certificate in it", s.etcdCA)
+		}
+		if err != nil {
+			return o, s.wrong("etcd-ca", ": %w", err)
+		}
+	}
 	if s.etcdCA != "" || s.etcdCert != "" {
 		files := transport.TLSInfo{TrustedCAFile: s.etcdCA, CertFile: s.etcdCert, KeyFile: s.etcdKey}
-		o.TLS, err = files.ClientConfig()
+		if o.TLS, err = files.ClientConfig(); err != nil {
+			err = s.wrong("etcd-ca", ": %w", err)
+		}
 	}
 	return o, err
 }

@@ -108,8 +108,9 @@ func (t *Tokens) Add(path string) error {
 	}
 	t.mu.Lock()
 	defer t.mu.Unlock()
-	grants, wrong := parse(join(t.taken, content))
-	if len(wrong) > 0 {
+	_, wrong := parse(content) // with the lines of this file
+	grants, together := parse(join(t.taken, content))
+	if wrong = append(wrong, together...); len(wrong) > 0 {
 		return fmt.Errorf("%s: %w", path, wrong[0])
 	}
 	t.added = content

@@ -54,6 +54,7 @@ type Replica struct {
 	reading   places // taken by each bundle that is read from the store
 	preparing places // taken while it is prepared
 	ready     atomic.Bool
+	read      atomic.Int64 // bodies of the store
 	madeRoom  atomic.Int64 // when, in seconds
 	long      sync.Map     // of places by holder, taken while a long change is stored
 
@@ -207,6 +208,9 @@ func (r *Replica) Ready() error {
 	}
 	return nil
 }
+
+// Read returns how many bodies of the store were read, so that a caller sees whether a start moves on.
+func (r *Replica) Read() int64 { return r.read.Load() }
 
 // Writable returns nil if changes are stored, as far as is known.
 func (r *Replica) Writable(ctx context.Context) error {
@@ -426,6 +430,7 @@ func (r *Replica) prepareBody(ctx context.Context, name, kind string, b manifest
 	if err != nil {
 		return nil, err
 	}
+	r.read.Add(1)
 	if err := r.preparing.take(ctx); err != nil {
 		return nil, err
 	}

@@ -3,10 +3,13 @@ package serve
 import (
 	"bytes"
 	"encoding/json"
+	"errors"
 	"fmt"
 	"io"
+	"io/fs"
 	"log"
 	"os"
+	"path/filepath"
 	"strings"
 	"sync"
 	"sync/atomic"
@@ -56,6 +59,22 @@ func OpenJournal(path string) (*Journal, error) {
 		}
 	}()
 	return j, nil
+}
+
+// CanAppend returns an error if OpenJournal couldn't open a file. It makes none.
+func CanAppend(path string) error {
+	info, err := os.Stat(path)
+	how := uint32(2) // access(2): writing
+	switch {
+	case errors.Is(err, fs.ErrNotExist):
+		path, how = filepath.Dir(path), how|1
+	case err == nil && !info.Mode().IsRegular():
+		return fmt.Errorf("%s: not a regular file", path)
+	}
+	if err := syscall.Access(path, how); err != nil {
+		return &fs.PathError{Op: "write to", Path: path, Err: err}
+	}
+	return nil
 }
 
 // Again opens the file again, which must be a regular one: a FIFO would need a reader. The earlier one is closed by the collector, once no

@@ -1,6 +1,7 @@
 package http
 
 import (
+	"context"
 	"crypto/ecdsa"
 	"crypto/elliptic"
 	"crypto/rand"
@@ -17,6 +18,7 @@ import (
 	"net/http"
 	"net/http/httptest"
 	"os"
+	"os/exec"
 	"path/filepath"
 	"strings"
 	"syscall"
@@ -43,24 +45,104 @@ func fileOf(t *testing.T, text string) string {
 	return path
 }
 
-// TestErrorsOfTheConfiguration names the line and what is wrong there.
+// version is a program that prints its version as resb does.
+const version = "#!/bin/sh\necho resb 1.0.0\n"
+
+// configured makes the files that rows of testdata/config name, and returns their folder.
+func configured(t *testing.T) string {
+	t.Helper()
+	dir := t.TempDir()
+	const hash = " 0123456789012345678901234567890123456789012345678901234567890123"
+	for name, text := range map[string]string{"tokens": harness.Tokens, "words": "shop", "words.txt": "shop", "empty": "", "login": "gateway password",
+		"tokens.words": "shop", "tokens.right": "\nshop own" + hash, "tokens.hash": "shop read 12", "tokens.name": "shop read" + hash + " name=a/b",
+		"tokens.expires": "shop read" + hash + " expires=soon", "tokens.app": "sh/op read" + hash, "tokens.open": "", "de.txt": `de{a{"A"}}`,
+		"resb": version, "sleeps": "#!/bin/sh\nsleep 1000 &\nsleep 1000\n", "earlier/changes.db": "x", "folder/file": ""} {
+		path := filepath.Join(dir, name)
+		_ = os.Mkdir(filepath.Dir(path), 0o700)
+		must(t, os.WriteFile(path, []byte(text), 0o600))
+	}
+	for name, mode := range map[string]os.FileMode{"tokens.open": 0o666, "resb": 0o700, "sleeps": 0o700} {
+		must(t, os.Chmod(filepath.Join(dir, name), mode))
+	}
+	must(t, os.Symlink("tokens", filepath.Join(dir, "link")))
+	must(t, syscall.Mkfifo(filepath.Join(dir, "fifo"), 0o600))
+	writePair(t, dir, 1, time.Now())
+	must(t, os.Rename(filepath.Join(dir, "key"), filepath.Join(dir, "key.other")))
+	writePair(t, dir, 2, time.Now())
+	return dir
+}
+
+// whole returns a file of the configuration that has some members, and what else a usable one has.
+func whole(members string) string {
+	for _, member := range []string{`"tokens": "DIR/tokens"`, `"state": "DIR/state"`, `"listen": "127.0.0.1:0"`, `"program": "DIR/resb"`, `"init": true`} {
+		if name, _, _ := strings.Cut(member, " "); !strings.Contains(members, name) {
+			members += ",\n " + member
+		}
+	}
+	return "{\n" + strings.TrimPrefix(members, ",\n") + "\n}\n"
+}
+
+// starts runs a gateway that must end by itself, and returns its status and what it printed.
+func starts(t *testing.T, arguments ...string) (status int, text string) {
+	t.Helper()
+	ctx, cancel := context.WithTimeout(context.Background(), generous)
+	defer cancel()
+	c := exec.CommandContext(ctx, harness.Program(t), arguments...)
+	printed, _ := c.CombinedOutput()
+	errorIf(t, ctx.Err() != nil, "%q doesn't end: %s", arguments, printed)
+	return c.ProcessState.ExitCode(), string(printed)
+}
+
+// TestErrorsOfTheConfiguration names the file, the line, the option and what is wrong there, with -check-config and at a start alike. No file
+// is changed.
 func TestErrorsOfTheConfiguration(t *testing.T) {
 	t.Parallel()
-	for _, line := range sectionOf(t, "config", "errors") {
-		text, want, _ := strings.Cut(line, "⇒ ")
-		command(t, 2, want, "-config", fileOf(t, unescaped(strings.TrimSuffix(text, " "))))
-	}
-	command(t, 2, "no such file", "-config", filepath.Join(t.TempDir(), "none"))
+	dir := configured(t)
+	before := contentOf(t, dir)
+	rows := sectionOf(t, "config", "files")
+	files := len(rows)
+	rows = append(rows, sectionOf(t, "config", "members")...)
+	harness.Together(4, func(w int) {
+		for i := w; i < len(rows); i += 4 {
+			text, want, _ := strings.Cut(rows[i], "⇒ ")
+			if text = unescaped(strings.TrimSuffix(text, " ")); i >= files {
+				text = whole(" " + text)
+			}
+			file := filepath.Join(t.TempDir(), "gateway.json")
+			named := strings.NewReplacer("DIR", dir, "THIS", file)
+			must(t, os.WriteFile(file, []byte(named.Replace(text)), 0o600))
+			want = "gateway: " + file + ": " + named.Replace(strings.TrimPrefix(want, "file: "))
+			status, said := starts(t, "-check-config", "-config", file)
+			errorIf(t, status != 2 || !strings.HasPrefix(said, want), "%s: -check-config: status %d: %s, and not %s", text, status, said, want)
+			status, again := starts(t, "-config", file)
+			errorIf(t, status < 1 || again != said, "%s: a start: status %d: %s, and not %s", text, status, again, said)
+		}
+	})
+	equal(t, contentOf(t, dir), before)
+	command(t, 2, "no such file", "-config", filepath.Join(dir, "none"))
+	command(t, 0, "can be used", "-check-config", "-config", fileOf(t, strings.ReplaceAll(whole(""), "DIR", dir)))
+}
+
+// contentOf returns the regular files below a folder.
+func contentOf(t *testing.T, folder string) map[string]string {
+	t.Helper()
+	all := map[string]string{}
+	must(t, filepath.WalkDir(folder, func(path string, entry os.DirEntry, err error) error {
+		if err == nil && entry.Type().IsRegular() {
+			content, _ := os.ReadFile(path)
+			all[path] = string(content)
+		}
+		return err
+	}))
+	return all
 }
 
 // TestCheckConfig ends with 0 or 2, and makes nothing. The command line wins over the file.
 func TestCheckConfig(t *testing.T) {
 	t.Parallel()
 	state, tokens, wrong := filepath.Join(t.TempDir(), "state"), fileOf(t, harness.Tokens), fileOf(t, "shop")
-	program := os.Getenv("RESB")
-	if program == "" {
-		program = os.Args[0]
-	}
+	program := fileOf(t, version)
+	must(t, os.Chmod(program, 0o700))
 	check := func(status int, want string, more ...string) {
 		t.Helper()
 		command(t, status, want, append([]string{"-check-config", "-init", "-state", state, "-tokens", tokens, "-program", program}, more...)...)
@@ -139,11 +221,12 @@ func TestAGatewayThatFailsLeavesNoToken(t *testing.T) {
 	const added = "a-token-that-is-added-later"
 	more := fileOf(t, harness.TokenLine("post", "write", added))
 	s := prepare(t, "-add-tokens", more)
-	command(t, 1, "", append(append([]string{}, s.Args[1:]...), "-listen", taken.Addr().String())...)
+	for _, option := range []string{"-listen", "-inside"} {
+		command(t, 1, option+": listen tcp ", append(append([]string{}, s.Args[1:]...), option, taken.Addr().String())...)
+	}
 	if content, _ := os.ReadFile(s.Tokens); string(content) != harness.Tokens {
 		t.Errorf("%s", content)
 	}
-	must(t, os.WriteFile(more, []byte(harness.TokenLine("post", "write", added)), 0o600))
 	s.Restart()
 	eventually(t, "the token is stored", func() bool {
 		content, _ := os.ReadFile(s.Tokens)
@@ -273,7 +356,7 @@ func TestHealthCheck(t *testing.T) {
 func TestTheServiceManagerIsNotified(t *testing.T) {
 	t.Parallel()
 	for _, name := range []string{filepath.Join(t.TempDir(), "n"), fmt.Sprintf("@gateway-test-%d", os.Getpid())} {
-		socket, err := net.ListenUnixgram("unixgram", &net.UnixAddr{Name: strings.Replace(name, "@", "\x00", 1), Net: "unixgram"})
+		socket, err := net.ListenUnixgram("unixgram", &net.UnixAddr{Name: name, Net: "unixgram"})
 		must(t, err)
 		defer socket.Close()
 		_ = socket.SetReadDeadline(time.Now().Add(generous))

@@ -74,6 +74,12 @@ func Open(o Options) (*Store, error) {
 	return &Store{Client: c, logf: o.Logf, grace: leastGrace, moved: make(chan struct{}), again: make(chan struct{}, 1)}, nil
 }
 
+// Reach returns an error unless etcd answers a read: at once if it refuses this client, or when the context ends.
+func (s *Store) Reach(ctx context.Context) error {
+	_, err := s.get(ctx, "m/")
+	return err
+}
+
 // finalError returns what an error of etcd is for a caller if the same request again can't help, or nil.
 func finalError(err error) error {
 	switch rpctypes.Error(err) {

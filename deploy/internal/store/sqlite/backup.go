@@ -30,7 +30,7 @@ func Backup(folder, file string) (Summary, error) {
 
 // Restore makes the store of a folder that has none from a copy, which it checks.
 func Restore(folder, file string) (Summary, error) {
-	if err := os.MkdirAll(folder, 0o700); err != nil {
+	if err := makeFolder(folder); err != nil {
 		return Summary{}, err
 	}
 	lock, err := takeLock(folder)

@@ -42,7 +42,7 @@ func (s *Store) reserve() {
 		bytes = size / 4
 	}
 	s.spare = bytes / 4
-	path := filepath.Join(s.folder, "reserve")
+	path := filepath.Join(s.folder, reserved)
 	f, err := os.OpenFile(path, os.O_CREATE|os.O_RDWR, 0o600)
 	if err != nil {
 		return
@@ -54,7 +54,7 @@ func (s *Store) reserve() {
 
 // withReserve calls a function with the space of the reserve, moves the WAL into the database, and takes the space again.
 func (s *Store) withReserve(do func()) {
-	_ = os.Truncate(filepath.Join(s.folder, "reserve"), 0)
+	_ = os.Truncate(filepath.Join(s.folder, reserved), 0)
 	do()
 	_ = s.checkpoint("truncate")
 	s.reserve()

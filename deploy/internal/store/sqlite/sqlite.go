@@ -7,6 +7,7 @@ import (
 	"database/sql"
 	"errors"
 	"fmt"
+	"io/fs"
 	"log"
 	"math"
 	"os"
@@ -26,8 +27,15 @@ import (
 const (
 	database = "manifests.db"
 	earlier  = "changes.db" // of earlier versions
+	locked   = "lock"       // the file of the process that has the folder
+	reserved = "reserve"    // the file with the space of a full disk
 	readers  = 4            // connections that read at once
 )
+
+// Owns returns true for the name of a file that the store has, or had, in its folder.
+func Owns(name string) bool {
+	return strings.HasPrefix(name, database) || name == earlier || name == marker || name == reserved || name == locked
+}
 
 // ErrMissing is the error of a folder that has no store.
 var ErrMissing = errors.New("there is no store in this folder")
@@ -75,10 +83,11 @@ type blob struct {
 // Open opens the store of a folder. If something in it isn't what was acknowledged it returns an error that wraps store.ErrDamaged and names the
 // place; what is damaged and not needed for the present bundles is only logged.
 func Open(o Options) (*Store, error) {
-	if o.Create {
-		if err := os.MkdirAll(o.Folder, 0o700); err != nil {
-			return nil, err
-		}
+	if err := Look(o); err != nil {
+		return nil, err
+	}
+	if err := makeFolder(o.Folder); err != nil {
+		return nil, err
 	}
 	lock, err := takeLock(o.Folder)
 	if err != nil {
@@ -86,7 +95,7 @@ func Open(o Options) (*Store, error) {
 	}
 	s := &Store{folder: o.Folder, lock: lock, short: make(chan *job), long: make(chan *job),
 		closing: make(chan struct{}), ended: make(chan struct{}), watched: make(chan struct{})}
-	if err := s.open(o); err != nil {
+	if err := s.open(); err != nil {
 		s.release()
 		return nil, err
 	}
@@ -95,12 +104,58 @@ func Open(o Options) (*Store, error) {
 	return s, nil
 }
 
+// Look returns an error if no store can be in the folder, or if there must be one and isn't. It changes nothing.
+func Look(o Options) error {
+	_, err := os.Stat(o.Folder)
+	if err != nil && !o.Create {
+		return fmt.Errorf("%w: %v", ErrMissing, err)
+	}
+	if err := takesFiles(filepath.Clean(o.Folder)); err != nil {
+		return err
+	}
+	if _, err := os.Stat(filepath.Join(o.Folder, earlier)); err == nil {
+		return fmt.Errorf("%s: %s is the store of an earlier version, which isn't read; take an empty folder, and send all bundles again", o.Folder, earlier)
+	}
+	if info, err := os.Stat(filepath.Join(o.Folder, database)); !o.Create && (err != nil || info.Size() == 0) {
+		return fmt.Errorf("%s: %w; -init makes an empty one", o.Folder, ErrMissing)
+	}
+	return nil
+}
+
+// takesFiles returns an error unless files can be made in a folder, or in the nearest one around it if it is missing.
+func takesFiles(folder string) error {
+	const mayWrite = 2 | 1 // of access(2)
+	info, err := os.Stat(folder)
+	switch {
+	case errors.Is(err, fs.ErrNotExist):
+		return takesFiles(filepath.Dir(folder))
+	case err == nil && !info.IsDir():
+		err = syscall.ENOTDIR
+	case err == nil:
+		err = syscall.Access(folder, mayWrite)
+	}
+	if err != nil {
+		err = &fs.PathError{Op: "write to", Path: folder, Err: err}
+	}
+	return err
+}
+
+// makeFolder makes a folder with those around it, if they are missing. Each belongs to the owner of the one around it, whose gateway is to use it.
+func makeFolder(path string) error {
+	path = filepath.Clean(path)
+	around := filepath.Dir(path)
+	if _, err := os.Stat(path); err == nil || around == path {
+		return err
+	}
+	return inTurn(
+		func() error { return makeFolder(around) },
+		func() error { return os.Mkdir(path, 0o700) },
+		func() error { return own(around, path) })
+}
+
 // takeLock keeps a second process from the folder.
 func takeLock(folder string) (*os.File, error) {
-	if _, err := os.Stat(folder); err != nil {
-		return nil, fmt.Errorf("%w: %v", ErrMissing, err)
-	}
-	path := filepath.Join(folder, "lock")
+	path := filepath.Join(folder, locked)
 	lock, err := os.OpenFile(path, os.O_CREATE|os.O_RDWR, 0o600)
 	if err != nil {
 		return nil, err
@@ -112,19 +167,13 @@ func takeLock(folder string) (*os.File, error) {
 	return lock, own(folder, path)
 }
 
-func (s *Store) open(o Options) error {
+func (s *Store) open() error {
 	path := filepath.Join(s.folder, database)
-	if _, err := os.Stat(filepath.Join(s.folder, earlier)); err == nil {
-		return fmt.Errorf("%s: %s is the store of an earlier version, which isn't read; take an empty folder, and send all bundles again", s.folder, earlier)
-	}
 	unfinished, _ := filepath.Glob(path + ".new*") // of processes that were killed
 	for _, one := range unfinished {
 		_ = os.Remove(one)
 	}
 	if info, err := os.Stat(path); err != nil || info.Size() == 0 {
-		if !o.Create {
-			return fmt.Errorf("%s: %w; -init makes an empty one", s.folder, ErrMissing)
-		}
 		if err := create(path); err != nil {
 			return err
 		}

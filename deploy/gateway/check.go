@@ -1,0 +1,262 @@
+package main
+
+import (
+	"context"
+	"errors"
+	"fmt"
+	"net"
+	"os"
+	"os/exec"
+	"path/filepath"
+	"strings"
+	"time"
+
+	"luvdregan.example/resb/deploy/internal/auth"
+	"luvdregan.example/resb/deploy/internal/engine"
+	"luvdregan.example/resb/deploy/internal/serve"
+	"luvdregan.example/resb/deploy/internal/store/sqlite"
+)
+
+// checkTime is how long a name, a program or etcd may take to answer.
+const checkTime = 5 * time.Second
+
+// Parts are what the files of the settings give to a gateway.
+type parts struct {
+	tokens *auth.Tokens
+	pair   *serve.Pair
+	engine *engine.Engine
+}
+
+// open reads the files that the settings name, and returns an error if one isn't as it must be. It changes and binds nothing, so a gateway may
+// run meanwhile. A start and -check-config have the same errors from it.
+func (s *settings) open() (p parts, err error) {
+	for _, step := range []func(*parts) error{
+		s.checkUses, s.openTokens, s.openPair, s.checkAddresses, s.checkLogs, s.openEngine, s.checkProgram, s.checkStore} {
+		if err := step(&p); err != nil {
+			return p, err
+		}
+	}
+	return p, nil
+}
+
+// A named is a file that an option names.
+type named struct {
+	option, path string
+	use          use
+}
+
+// files returns the files that options name.
+func (s *settings) files() (all []named) {
+	for _, one := range s.table() {
+		of, _ := one.has.(use)
+		switch to := one.to.(type) {
+		case *string:
+			if of != 0 && *to != "" && *to != "-" {
+				all = append(all, named{one.name, *to, of})
+			}
+		case *listValue:
+			for _, text := range *to {
+				_, path, _ := strings.Cut(text, "=")
+				all = append(all, named{one.name, path, of})
+			}
+		}
+	}
+	return all
+}
+
+// checkUses finds a file that isn't one, and one that the gateway would write or remove though another option names it, or the store has it.
+func (s *settings) checkUses(*parts) error {
+	files := s.files()
+	for i, a := range files {
+		if info, err := os.Stat(a.path); err == nil && !info.Mode().IsRegular() && a.option != "config" {
+			return s.wrong(a.option, ": %s: not a regular file", a.path) // it might never end
+		}
+		if s.state != "" && sqlite.Owns(filepath.Base(a.path)) && isSame(filepath.Dir(a.path), s.state) {
+			return s.wrong(a.option, ": %s is a file of the store", a.path)
+		}
+		for j, b := range files {
+			if i != j && a.use != reads && (a.use != appends || b.use != appends) && isSame(a.path, b.path) {
+				return s.wrong(a.option, ": %s is the file of -%s too", a.path, b.option)
+			}
+		}
+	}
+	return nil
+}
+
+// isSame returns true if two paths lead to one file or folder, whether or not it is there.
+func isSame(a, b string) bool {
+	there, errThere := os.Stat(a)
+	other, errOther := os.Stat(b)
+	if errThere == nil && errOther == nil {
+		return os.SameFile(there, other)
+	}
+	a, errThere = filepath.Abs(a)
+	b, errOther = filepath.Abs(b)
+	return errThere == nil && errOther == nil && a == b
+}
+
+func (s *settings) openTokens(p *parts) (err error) {
+	if p.tokens, err = auth.Open(s.tokenFile); err != nil {
+		return s.wrong("tokens", ": %w", err)
+	}
+	if s.addTokens != "" {
+		if err := p.tokens.Add(s.addTokens); err != nil {
+			return s.wrong("add-tokens", ": %w", err)
+		}
+	}
+	return nil
+}
+
+func (s *settings) openPair(p *parts) (err error) {
+	p.pair, err = serve.OpenPair(s.cert, s.key)
+	return s.wrongPair("cert", "key", err)
+}
+
+// wrongPair returns the error of a certificate with its key, or nil.
+func (s *settings) wrongPair(cert, key string, err error) error {
+	var at *os.PathError
+	switch {
+	case err == nil:
+		return nil
+	case errors.As(err, &at) && at.Path != s.cert && at.Path != s.etcdCert,
+		at == nil && strings.Contains(err.Error(), "key") && !strings.Contains(err.Error(), "certificate input"):
+		cert = key
+	}
+	return s.wrong(cert, ": %w", err)
+}
+
+// checkAddresses finds addresses at which this machine can never listen. Whether another process has one, a start finds out.
+func (s *settings) checkAddresses(*parts) error {
+	listen, err := s.address("listen", s.listen)
+	if err != nil || s.inside == "" {
+		return err
+	}
+	inside, err := s.address("inside", s.inside)
+	isAll := func(ip net.IP) bool { return ip == nil || ip.IsUnspecified() }
+	if err == nil && inside.Port == listen.Port && inside.Port != 0 &&
+		(inside.IP.Equal(listen.IP) || isAll(inside.IP) || isAll(listen.IP)) {
+		err = s.wrong("inside", " can't be %q: -listen has this address", s.inside)
+	}
+	return err
+}
+
+// address returns where an option has the gateway listen.
+func (s *settings) address(name, text string) (*net.TCPAddr, error) {
+	ctx, cancel := context.WithTimeout(context.Background(), checkTime)
+	defer cancel()
+	at := &net.TCPAddr{}
+	host, port, err := net.SplitHostPort(text)
+	if err == nil {
+		at.Port, err = net.DefaultResolver.LookupPort(ctx, "tcp", port)
+	}
+	if err == nil && host != "" {
+		var found []net.IPAddr
+		if found, err = net.DefaultResolver.LookupIPAddr(ctx, host); err == nil {
+			at.IP = found[0].IP
+		}
+	}
+	if err == nil && !isLocal(at.IP) {
+		err = errors.New("this machine hasn't the address")
+	}
+	if err != nil {
+		return nil, s.wrong(name, " can't be %q: %w", text, err)
+	}
+	return at, nil
+}
+
+// isLocal returns true if the machine can listen at an address: it has it, or the system needn't have it.
+func isLocal(ip net.IP) bool {
+	if ip == nil || ip.IsUnspecified() || ip.IsLoopback() {
+		return true
+	}
+	addresses, err := net.InterfaceAddrs()
+	for _, one := range addresses {
+		if network, is := one.(*net.IPNet); is && network.IP.Equal(ip) {
+			return true
+		}
+	}
+	version := map[bool]string{true: "ipv4", false: "ipv6"}[ip.To4() != nil]
+	foreign, _ := os.ReadFile("/proc/sys/net/" + version + "/ip_nonlocal_bind")
+	return err != nil || strings.HasPrefix(string(foreign), "1")
+}
+
+func (s *settings) checkLogs(*parts) error {
+	for _, one := range s.files() {
+		if one.use == appends {
+			if err := serve.CanAppend(one.path); err != nil {
+				return s.wrong(one.option, ": %w", err)
+			}
+		}
+	}
+	return nil
+}
+
+func (s *settings) openEngine(p *parts) (err error) {
+	if err := s.sources(); err != nil {
+		return err
+	}
+	p.engine, err = engine.Open(s.engine)
+	switch {
+	case err != nil && strings.HasPrefix(err.Error(), "parents"):
+		return s.wrong("parents", ": %w", err)
+	case err != nil && len(s.icuData) > 0:
+		return s.wrong("icudata", ": %w", err)
+	}
+	return err
+}
+
+// checkProgram has the program print its version. A gateway starts without the one that is looked for if no option names one, and explains
+// nothing then.
+func (s *settings) checkProgram(*parts) error {
+	path, err := exec.LookPath(s.program)
+	if err == nil {
+		err = printsVersion(path)
+	}
+	if err == nil || !s.checkOnly && !s.given["program"] && s.lines["program"] == 0 {
+		return nil
+	}
+	return s.wrong("program", ": %w", err)
+}
+
+// printsVersion returns an error unless a program is resb. It waits for no process that the program leaves.
+func printsVersion(path string) error {
+	out, to, err := os.Pipe()
+	if err != nil {
+		return err
+	}
+	defer out.Close()
+	command := exec.Command(path, "--version")
+	command.Stdout = to
+	err = command.Start()
+	_ = to.Close()
+	if err != nil {
+		return err
+	}
+	_ = out.SetReadDeadline(time.Now().Add(checkTime))
+	said := make([]byte, 100)
+	n, _ := out.Read(said)
+	_ = command.Process.Kill()
+	_ = command.Wait()
+	if !strings.HasPrefix(string(said[:n]), "resb ") {
+		return fmt.Errorf("%s isn't resb: with --version it prints %.40q", path, said[:n])
+	}
+	return nil
+}
+
+// checkStore looks at the folder of the store, or reads the files for etcd. Whether etcd answers, a start finds out by itself: it waits for it.
+func (s *settings) checkStore(*parts) error {
+	if s.etcd == "" {
+		if err := sqlite.Look(s.folder()); err != nil {
+			return s.wrong("state", ": %w", err)
+		}
+		return nil
+	}
+	if _, err := s.etcdOptions(); err != nil || !s.checkOnly {
+		return err
+	}
+	of, err := s.openStore()
+	if err == nil {
+		err = of.Close()
+	}
+	return err
+}
