@@ -48,7 +48,7 @@ func main() {
 		os.Exit(tokenCommand(os.Args[2:], os.Stdout, os.Stderr))
 	case "options":
 		os.Exit(describeOptions(os.Args[2:], os.Stdout))
-	case "backup", "restore", "copy", "list":
+	case "backup", "restore", "copy", "export", "list":
 		os.Exit(operatorCommand(command, os.Args[2:], os.Stdout, os.Stderr))
 	}
 	s, err := readSettings(os.Args[1:], os.Stderr)

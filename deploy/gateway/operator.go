@@ -5,9 +5,13 @@ import (
 	"flag"
 	"fmt"
 	"io"
+	"os"
+	"path/filepath"
 	"sort"
 	"time"
 
+	"luvdregan.example/resb/deploy/internal/convert"
+	"luvdregan.example/resb/deploy/internal/manifest"
 	"luvdregan.example/resb/deploy/internal/store"
 	"luvdregan.example/resb/deploy/internal/store/sqlite"
 )
@@ -16,6 +20,7 @@ const operatorUsage = `usage: gateway backup -state FOLDER FILE
        gateway restore -state FOLDER FILE
        gateway copy -state FOLDER -etcd ADDRESSES [-etcd-login FILE ..] to|from
        gateway list -state FOLDER | -etcd ADDRESSES [-etcd-login FILE ..]
+       gateway export -state FOLDER | -etcd ADDRESSES [-etcd-login FILE ..] TO
 `
 
 // operatorCommand does a command over a store and returns the status: backup also while a gateway runs, the others before one does.
@@ -29,8 +34,9 @@ func operatorCommand(name string, arguments []string, out, said io.Writer) int {
 		one := all.Lookup(option)
 		f.Var(one.Value, option, one.Usage)
 	}
-	wants := map[string]int{"backup": 1, "restore": 1, "copy": 1}[name]
-	if f.Parse(arguments) != nil || f.NArg() != wants || s.state == "" && (s.etcd == "" || name != "list") || name == "copy" && s.etcd == "" {
+	wants := map[string]int{"backup": 1, "restore": 1, "copy": 1, "export": 1}[name]
+	isEither := name == "list" || name == "export"
+	if f.Parse(arguments) != nil || f.NArg() != wants || s.state == "" && (s.etcd == "" || !isEither) || name == "copy" && s.etcd == "" {
 		f.Usage()
 		return 2
 	}
@@ -42,6 +48,8 @@ func operatorCommand(name string, arguments []string, out, said io.Writer) int {
 		err = report(out, s.state)(sqlite.Restore(s.state, file))
 	case "copy":
 		err = copyStore(s, file, out)
+	case "export":
+		err = exportStore(s, file, out)
 	default:
 		err = listStore(s, out)
 	}
@@ -90,8 +98,8 @@ func copyStore(s settings, direction string, out io.Writer) error {
 	return err
 }
 
-// listStore writes a line for each bundle: what it is, and who changed it when.
-func listStore(s settings, out io.Writer) error {
+// eachBundle opens the store, and calls a function for each bundle, by application.
+func eachBundle(s settings, do func(of store.Store, app string, b manifest.Bundle) error) error {
 	of, err := s.openStore()
 	if err != nil {
 		return err
@@ -104,12 +112,58 @@ func listStore(s settings, out io.Writer) error {
 	sort.Strings(names)
 	for _, app := range names {
 		m, err := of.Manifest(context.Background(), app, 0, nil)
+		for i := 0; err == nil && i < len(m.Bundles); i++ {
+			err = do(of, app, m.Bundles[i])
+		}
 		if err != nil {
 			return err
 		}
-		for _, b := range m.Bundles {
-			fmt.Fprintf(out, "%s\t%s\t%d bytes\t%s\t%s\n", app, b.Locale, b.Bytes, time.UnixMilli(b.At).UTC().Format(time.RFC3339), b.Who)
-		}
 	}
 	return nil
+}
+
+// listStore writes a line for each bundle: what it is, and who changed it when.
+func listStore(s settings, out io.Writer) error {
+	return eachBundle(s, func(_ store.Store, app string, b manifest.Bundle) error {
+		at := time.UnixMilli(b.At).UTC().Format(time.RFC3339)
+		_, err := fmt.Fprintf(out, "%s\t%s\t%d bytes\t%s\t%s\n", app, b.Locale, b.Bytes, at, b.Who)
+		return err
+	})
+}
+
+// exportStore writes the bundles as files APP/LOCALE.txt below a folder, and replaces none. One that has no text is written as LOCALE.res.
+func exportStore(s settings, to string, out io.Writer) error {
+	runner, bundles := convert.New(s.program, conversions), 0
+	err := eachBundle(s, func(of store.Store, app string, b manifest.Bundle) error {
+		body, err := of.Body(context.Background(), app, b)
+		if err != nil {
+			return err
+		}
+		end := ".txt"
+		if text, err := runner.Text(b.Locale, b.Kind, body); err == nil {
+			body = text
+		} else {
+			end = ".res"
+		}
+		bundles++
+		return writeNew(filepath.Join(to, app, b.Locale+end), body)
+	})
+	fmt.Fprintf(out, "%s: %d bundles\n", to, bundles)
+	return err
+}
+
+// writeNew writes a file, which must be missing, and makes the folders around it.
+func writeNew(path string, content []byte) error {
+	if err := os.MkdirAll(filepath.Dir(path), 0o777); err != nil {
+		return err
+	}
+	f, err := os.OpenFile(path, os.O_WRONLY|os.O_CREATE|os.O_EXCL, 0o666)
+	if err != nil {
+		return err
+	}
+	_, err = f.Write(content)
+	if closed := f.Close(); err == nil {
+		err = closed
+	}
+	return err
 }

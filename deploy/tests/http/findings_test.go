@@ -172,28 +172,35 @@ func TestSmallFindings(t *testing.T) {
 	s.is("de/a", "A")
 }
 
-// TestListAsAnotherUser lists a store whose files belong to somebody else: they stay theirs.
-func TestListAsAnotherUser(t *testing.T) {
+// TestCommandsOfRoot does the commands of an operator as root, over a folder that belongs to the user of the service, with a copy that is
+// restored into a new folder: what they make belongs to that user too, and the service starts.
+func TestCommandsOfRoot(t *testing.T) {
 	s := beside(t)
 	s.put("de", `de{a{"A"}}`)
 	s.leave()
-	const other = 12345
-	if os.Chown(s.State, other, other) != nil {
+	const user = 12345
+	home := t.TempDir()
+	if os.Chown(home, user, user) != nil {
 		t.Skip("skipped: only root changes owners")
 	}
-	files := func() []string {
-		all, _ := filepath.Glob(s.State + "/*")
-		return all
-	}
-	for _, file := range files() {
-		_ = os.Chown(file, other, other)
-	}
-	command(t, 0, "shop\tde\t", "list", "-state", s.State)
-	for _, file := range files() {
-		if info, err := os.Stat(file); err == nil && info.Sys().(*syscall.Stat_t).Uid != other {
-			t.Errorf("%s belongs to %d", file, info.Sys().(*syscall.Stat_t).Uid)
-		}
-	}
+	must(t, os.Chmod(filepath.Dir(home), 0o755))
+	state, copied := filepath.Join(home, "new", "state"), filepath.Join(home, "copy")
+	command(t, 0, "", "backup", "-state", s.State, "--", copied)
+	command(t, 0, "", "restore", "-state", state, "--", copied)
+	command(t, 0, "shop\tde\t", "list", "-state", state)
+	command(t, 0, "1 bundles", "export", "-state", state, "--", filepath.Join(t.TempDir(), "out"))
+	command(t, 0, "", "backup", "-state", state, "--", copied+".again")
+	must(t, filepath.WalkDir(home, func(path string, entry os.DirEntry, err error) error {
+		info, failed := entry.Info()
+		errorIf(t, failed != nil || info.Sys().(*syscall.Stat_t).Uid != user, "%s doesn't belong to the user", path)
+		return err
+	}))
+	g := harness.New(t, harness.Setup{Folder: filepath.Dir(state)})
+	must(t, os.Chown(g.Tokens, user, user))
+	g.Args = append([]string{"setpriv", "--reuid=12345", "--regid=12345", "--clear-groups"}, g.Args...)
+	g.Start()
+	g.Await(generous)
+	(&site{g, t}).is("de/a", "A")
 }
 
 // writez waits until /writez has a status.

@@ -440,20 +440,82 @@ func TestBackups(t *testing.T) {
 	command(t, 2, "usage:", "restore", "-state", folder)
 }
 
-// TestACopyToEtcd copies a store to etcd and back into a folder, with the revisions.
+// TestExport writes each bundle as a text, in the form in which it was submitted or converted, which resb-put would send, and replaces nothing.
+func TestExport(t *testing.T) {
+	s := beside(t)
+	const text = "// a comment\nde{a{\"A\"}}\n"
+	s.put("de", text)
+	file := s.get("/v1/shop/de.res").Body
+	s.run([]step{{"w PUT /v1/shop/fr.res", "", file, 201, "", ""}, {"b PUT /v1/bank/de_AT.txt", "", `de_AT{a{"B"}}`, 201, "", ""}}...)
+	converted := s.get("/v1/shop/fr.txt").Body
+	s.leave()
+	to := t.TempDir()
+	command(t, 0, to+": 3 bundles", "export", "-state", s.State, "--", to)
+	equal(t, contentOf(t, to), map[string]string{to + "/shop/de.txt": text, to + "/shop/fr.txt": converted, to + "/bank/de_AT.txt": `de_AT{a{"B"}}`})
+	command(t, 1, "file exists", "export", "-state", s.State, "--", to)
+	command(t, 1, "no store", "export", "-state", t.TempDir(), "--", to)
+	command(t, 2, "usage:", "export", "-state", s.State)
+}
+
+// TestACopyToEtcd copies a store to etcd and back into a folder, with the revisions, while a gateway runs over etcd. A backup of that folder is
+// restored on one machine, and into a new etcd.
 func TestACopyToEtcd(t *testing.T) {
-	c := harness.NewCluster(t, t.TempDir(), 1, nil)
-	harness.StartAll(c.Members)
+	c, anew := harness.NewCluster(t, t.TempDir(), 1, nil), harness.NewCluster(t, t.TempDir(), 1, nil)
+	harness.StartAll(append(c.Members, anew.Members...))
 	members, folder := c.From(0), t.TempDir()
-	other := filepath.Join(folder, "state")
+	other, copied := filepath.Join(folder, "state"), filepath.Join(t.TempDir(), "copy")
 	s := beside(t)
 	s.put("de", `de{a{"A"}}`)
 	s.put("de", `de{a{"B"}}`)
 	s.leave()
 	command(t, 0, "", "copy", "-state", s.State, "-etcd", members, "to")
 	command(t, 0, "shop\tde\t", "list", "-etcd", members)
+	shared := &site{harness.Open(t, harness.Setup{Etcd: members}), t}
 	command(t, 0, "", "copy", "-state", other, "-etcd", members, "from")
-	again := &site{harness.Open(t, harness.Setup{Folder: folder}), t}
-	again.run(step{"r GET /v1/shop/de/a", "", "", 200, `"B"`, "Resb-Revision: 2"})
-	again.run(step{"w PUT /v1/shop/de.txt", "", `de{a{"C"}}`, 200, "", "Resb-Revision: 3"})
+	shared.put("de", `de{a{"later"}}`)
+	command(t, 0, "", "backup", "-state", other, "--", copied)
+	third := t.TempDir()
+	command(t, 0, "", "restore", "-state", filepath.Join(third, "state"), "--", copied)
+	command(t, 0, "", "copy", "-state", filepath.Join(third, "state"), "-etcd", anew.From(0), "to")
+	for _, of := range []harness.Setup{{Folder: folder}, {Folder: third}, {Etcd: anew.From(0)}} {
+		again := &site{harness.Open(t, of), t}
+		again.run(step{"r GET /v1/shop/de/a", "", "", 200, `"B"`, "Resb-Revision: 2"})
+		again.run(step{"w PUT /v1/shop/de.txt", "", `de{a{"C"}}`, 200, "", "Resb-Revision: 3"})
+	}
+	to := filepath.Join(folder, "out")
+	command(t, 0, "1 bundles", "export", "-etcd", members, to)
+	equal(t, contentOf(t, to), map[string]string{to + "/shop/de.txt": `de{a{"later"}}`})
+}
+
+// TestTheLoginOfEtcd has etcd ask who one is: -check-config says what a start says, of a wrong password, of a user without rights, and of an
+// etcd that isn't there.
+func TestTheLoginOfEtcd(t *testing.T) {
+	t.Parallel()
+	c := harness.NewCluster(t, t.TempDir(), 1, nil)
+	harness.StartAll(c.Members)
+	for _, words := range []string{"user add root:root", "user grant-role root root", "user add gateway:right", "user add idle:idle", "role add all",
+		"role grant-permission all --prefix=true readwrite m/", "user grant-role gateway all", "auth enable"} {
+		if text, err := c.Ctl(strings.Fields(words)...); err != nil {
+			t.Fatalf("%s: %v: %s", words, err, text)
+		}
+	}
+	dir := configured(t)
+	login := filepath.Join(dir, "login")
+	members := unescaped(fmt.Sprintf(` "etcd": %q,\n "state": "",\n "etcd-login": %q`, c.From(0), login))
+	file := fileOf(t, strings.ReplaceAll(whole(members), "DIR", dir))
+	for _, of := range []struct{ login, want string }{{"gateway wrong", `line 4: "etcd-login": etcd: etcdserver: authentication failed`},
+		{"idle idle", `line 2: "etcd": the store can't be reached: etcdserver: permission denied`}, {"gateway right", ""}, {"gone", `line 2: "etcd": etcd: context deadline exceeded`}} {
+		must(t, os.WriteFile(login, []byte(of.login), 0o600))
+		if of.login == "gone" {
+			c.Members[0].Kill()
+			must(t, os.WriteFile(login, []byte("gateway right"), 0o600))
+		}
+		if of.want == "" {
+			command(t, 0, "can be used", "-check-config", "-config", file)
+			continue
+		}
+		said := command(t, 2, "gateway: "+file+": "+of.want, "-check-config", "-config", file)
+		status, again := starts(t, "-config", file)
+		errorIf(t, status != 1 || again != said, "a start: status %d: %s, and not %s", status, again, said)
+	}
 }

@@ -161,7 +161,7 @@ func (c *checked) checkAll(db *sql.DB, apps []string, whole bool) (err error) {
 
 // checkApp compares the bodies of an application with what its manifests name.
 func (c *checked) checkApp(from reader, whole bool) error {
-	sound, err := bodiesOf(from)
+	sound, err := c.bodiesOf(from)
 	var sweep manifest.Sweep
 	if err == nil {
 		err = store.EachHead(from, func(m *manifest.Manifest) (more bool, err error) {
@@ -191,17 +191,21 @@ func (c *checked) checkApp(from reader, whole bool) error {
 	return err
 }
 
-// bodiesOf compares the bodies of an application with their checksums.
-func bodiesOf(from reader) (sound map[manifest.Digest]bool, err error) {
+// bodiesOf compares the bodies of an application with their checksums. None is of a later change than the last one.
+func (c *checked) bodiesOf(from reader) (sound map[manifest.Digest]bool, err error) {
 	sound = map[manifest.Digest]bool{}
 	var d manifest.Digest
+	var swap int64
 	var crc uint32
 	var body sql.RawBytes
-	q := query{"select digest, crc, body from bodies where app = ?", []any{from.app}}
+	q := query{"select digest, swap, crc, body from bodies where app = ?", []any{from.app}}
 	err = q.each(from.tx, func() error {
+		if swap < 0 || swap > c.swaps {
+			return rowDamaged("bodies", fmt.Errorf("it is of change %d of %d", swap, c.swaps), from.app, d)
+		}
 		sound[d] = checksum(body) == crc
 		return nil
-	}, &d, &crc, &body)
+	}, &d, &swap, &crc, &body)
 	return sound, err
 }
 

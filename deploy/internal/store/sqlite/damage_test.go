@@ -9,13 +9,13 @@ import (
 	"path/filepath"
 	"reflect"
 	"strings"
-	"sync"
 	"sync/atomic"
 	"testing"
 
 	"luvdregan.example/resb/deploy/internal/manifest"
 	"luvdregan.example/resb/deploy/internal/store"
 	. "luvdregan.example/resb/deploy/internal/store/storetest"
+	"luvdregan.example/resb/deploy/tests/harness"
 )
 
 // files are those of a folder that have changes.
@@ -114,34 +114,128 @@ func TestEachByteDamaged(t *testing.T) {
 
 // eachByte flips the bytes of one file, in two folders at once.
 func eachByte(t *testing.T, from, name string, content []byte, want []string) {
+	var folders [2]string
+	for w := range folders {
+		folders[w] = Memory(t)
+	}
+	flipped(t, content, func(w int, bad []byte) ([]string, error) {
+		copyTo(t, from, folders[w])
+		Must(t, os.WriteFile(filepath.Join(folders[w], name), bad, 0o600))
+		found, err := reopened(folders[w])
+		if err != nil && !strings.Contains(err.Error(), folders[w]) {
+			t.Error("it doesn't name the folder: ", err)
+		}
+		return found, err
+	}, want)
+}
+
+// flipped calls a function, twice at once, with a content in which one bit is another: it must find damage, or what is wanted.
+func flipped(t *testing.T, content []byte, find func(w int, bad []byte) ([]string, error), want []string) {
 	var refused, tried int64
-	var all sync.WaitGroup
 	step := every
 	if os.Getenv("RESB_EVERY_BYTE") != "" || len(content) < 100 {
 		step = 1
 	}
-	for w := 0; w < 2; w++ {
-		folder := Memory(t)
-		all.Add(1)
-		go func(w int) {
-			defer all.Done()
-			for at := w * step; at < len(content); at += 2 * step {
-				copyTo(t, from, folder)
-				bad := append([]byte(nil), content...)
-				bad[at] ^= byte(1 << (at % 8))
-				Must(t, os.WriteFile(filepath.Join(folder, name), bad, 0o600))
-				found, err := reopened(folder)
-				atomic.AddInt64(&tried, 1)
-				if errors.Is(err, store.ErrDamaged) && strings.Contains(err.Error(), folder) {
-					atomic.AddInt64(&refused, 1)
-				} else if err != nil || !reflect.DeepEqual(found, want) {
-					t.Errorf("%s, byte %d of %d: %v %.300q", name, at, len(content), err, found)
-				}
+	harness.Together(2, func(w int) {
+		for at := w * step; at < len(content); at += 2 * step {
+			bad := append([]byte(nil), content...)
+			bad[at] ^= byte(1 << (at % 8))
+			found, err := find(w, bad)
+			atomic.AddInt64(&tried, 1)
+			if errors.Is(err, store.ErrDamaged) {
+				atomic.AddInt64(&refused, 1)
+			} else if err != nil || !reflect.DeepEqual(found, want) {
+				t.Errorf("byte %d of %d: %v %.300q", at, len(content), err, found)
 			}
-		}(w)
-	}
-	all.Wait()
+		}
+	})
 	t.Logf("%d of %d refused", refused, tried)
+}
+
+// whole returns all that a store has: each manifest that stays, what it made, and each body that it names.
+func whole(s *Store) (all []string, err error) {
+	var apps []string
+	if err := s.Newest(Ctx, func(app string, _ int64) { apps = append(apps, app) }); err != nil {
+		return nil, err
+	}
+	for _, app := range apps {
+		history, err := s.History(Ctx, app, 0, 1000)
+		for _, m := range history {
+			if err != nil {
+				break
+			}
+			all = append(all, fmt.Sprint(app, m.Revision, m.ID, m.Op, m.Who, m.At, m.Made))
+			if m, err = s.Manifest(Ctx, app, m.Revision, nil); err == nil {
+				err = bodiesIn(s, m, &all)
+			}
+		}
+		if err != nil {
+			return nil, err
+		}
+	}
+	return all, nil
+}
+
+func bodiesIn(s *Store, m *manifest.Manifest, all *[]string) error {
+	for _, b := range m.Bundles {
+		body, err := s.Body(Ctx, m.App, b)
+		if err != nil {
+			return err
+		}
+		*all = append(*all, fmt.Sprint(b, string(body)))
+	}
+	return nil
+}
+
+// restored returns all that is in the store of a copy.
+func restored(t *testing.T, copied []byte) ([]string, error) {
+	folder := Memory(t)
+	defer os.RemoveAll(folder)
+	file := filepath.Join(folder, "copy")
+	Must(t, os.WriteFile(file, copied, 0o600))
+	if _, err := Restore(filepath.Join(folder, "state"), file); err != nil {
+		return nil, err
+	}
+	s, err := Open(Options{Folder: filepath.Join(folder, "state")})
+	if err != nil {
+		return nil, fmt.Errorf("restored, and it doesn't open: %v", err) // whatever is damaged: the copy was taken
+	}
+	defer s.Close()
+	return whole(s)
+}
+
+// TestEachByteOfACopyDamaged flips a bit of bytes of a copy, and cuts it off: it isn't restored, or it has all, with the history.
+func TestEachByteOfACopyDamaged(t *testing.T) {
+	folder := t.TempDir()
+	s, err := Open(Options{Folder: folder, Create: true})
+	Must(t, err)
+	shop := Make(t, s, Empty("shop"), Put("de", "A"), Put("fr", strings.Repeat("f", 3000)))
+	shop = Make(t, s, shop, Put("de", "B"))
+	shop = Make(t, s, shop, manifest.Edit{Locale: "fr"})
+	var many []manifest.Edit
+	for i := 0; i < 70; i++ {
+		many = append(many, Put(fmt.Sprint("l", i), fmt.Sprint("text ", i)))
+	}
+	shop = Make(t, s, shop, many...)
+	Make(t, s, shop, Put("l7", "x"))
+	Make(t, s, Empty("bank"), Put("de", "Z"))
+	Must(t, s.Close())
+	file := filepath.Join(t.TempDir(), "copy")
+	_, err = Backup(folder, file)
+	Must(t, err)
+	content, err := os.ReadFile(file)
+	Must(t, err)
+	want, err := restored(t, content)
+	Must(t, err)
+	if len(want) < 140 {
+		t.Fatalf("%q", want)
+	}
+	flipped(t, content, func(_ int, bad []byte) ([]string, error) { return restored(t, bad) }, want)
+	for cut := 0; cut < len(content); cut += 4099 {
+		if _, err := restored(t, content[:cut]); !errors.Is(err, store.ErrDamaged) {
+			t.Errorf("the first %d of %d bytes: %v", cut, len(content), err)
+		}
+	}
 }
 
 func reopened(folder string) ([]string, error) {
