@@ -52,7 +52,7 @@ type Handler struct {
 func (h *Handler) Begin(addresses []Address) {
 	h.routes = routesOf(addresses)
 	h.limits = limits.New(h.Options.Limits)
-	h.Metrics = newMetrics(h.Backend, h.limits, h.Tokens)
+	h.Metrics = newMetrics(h.Backend, h.limits, h.Tokens, h.Options.Alone)
 }
 
 // A Call is one request on its way.

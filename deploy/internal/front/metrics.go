@@ -2,8 +2,10 @@ package front
 
 import (
 	"context"
+	"math"
 	"net/http"
 	"strconv"
+	"sync"
 	"sync/atomic"
 	"time"
 
@@ -14,6 +16,7 @@ import (
 	"luvdregan.example/resb/deploy/internal/auth"
 	"luvdregan.example/resb/deploy/internal/limits"
 	"luvdregan.example/resb/deploy/internal/replica"
+	"luvdregan.example/resb/deploy/internal/store"
 )
 
 // bounds are the upper bounds of the histograms' buckets, in seconds.
@@ -46,9 +49,13 @@ type Metrics struct {
 	refused     prometheus.Counter
 	panics      prometheus.Counter
 	connections int64
+
+	mu    sync.Mutex
+	asked time.Time // when stats were asked for
+	stats store.Stats
 }
 
-func newMetrics(backend *replica.Replica, of *limits.Limits, tokens *auth.Tokens) *Metrics {
+func newMetrics(backend *replica.Replica, of *limits.Limits, tokens *auth.Tokens, isAlone bool) *Metrics {
 	counter := func(name, help string) prometheus.CounterOpts {
 		return prometheus.CounterOpts{Name: "resb_" + name, Help: help}
 	}
@@ -64,6 +71,7 @@ func newMetrics(backend *replica.Replica, of *limits.Limits, tokens *auth.Tokens
 	}
 	m.registry.MustRegister(&m.requests, times, m.refused, m.panics)
 	sum := func(of func(replica.Sum) float64) func() float64 { return func() float64 { return of(backend.Sum()) } }
+	stats := func(of func(store.Stats) float64) func() float64 { return func() float64 { return of(m.now(backend)) } }
 	for _, g := range []struct {
 		name, help string
 		value      func() float64
@@ -72,6 +80,8 @@ func newMetrics(backend *replica.Replica, of *limits.Limits, tokens *auth.Tokens
 		{"memory_bytes", "Memory of the gateway.", memory},
 		{"requests_now", "Requests of applications on their way.", func() float64 { n, _ := of.Now(); return float64(n) }},
 		{"body_bytes_now", "Bytes of requests on their way.", func() float64 { _, n := of.Now(); return float64(n) }},
+		{"works_waiting", "Requests that wait for their turn of long work.", func() float64 { return float64(of.Waiting()) }},
+		{"changes_waiting", "Changes that are judged, or wait to be stored.", func() float64 { return float64(backend.Changing()) }},
 		{"tokens_file_bad", "1 if the file of tokens can't be read, or a line of it is wrong.", func() float64 { return float64(tokens.Bad()) }},
 		{"ready", "1 if lookups are answered.", func() float64 { return one(backend.Ready() == nil) }},
 		{"writes", "1 if changes are stored, as far as is known.", func() float64 { return one(soon(backend.Writable) == nil) }},
@@ -80,18 +90,34 @@ func newMetrics(backend *replica.Replica, of *limits.Limits, tokens *auth.Tokens
 		{"left_out", "Stored bundles that the library of this gateway refuses.", sum(func(s replica.Sum) float64 { return float64(s.LeftOut) })},
 		{"bundles_bytes", "Bytes of the compiled bundles.", sum(func(s replica.Sum) float64 { return float64(s.FilesBytes) })},
 		{"stored_bytes", "Bytes of what was submitted for the present bundles.", sum(func(s replica.Sum) float64 { return float64(s.StoredBytes) })},
-		{"database_bytes", "Bytes of the store's files, or of etcd's database.", func() (bytes float64) {
-			_ = soon(func(ctx context.Context) error {
-				stats, err := backend.Stats(ctx)
-				bytes = float64(stats.Bytes) // 0 if it can't be reached
-				return err
-			})
-			return bytes
-		}},
+		{"database_bytes", "Bytes of the store's files, or of etcd's database.", stats(func(s store.Stats) float64 { return float64(s.Bytes) })},
+		{"behind_seconds", "For how many seconds the gateway may have lacked a change that the store has.", stats(func(s store.Stats) float64 {
+			return time.Since(backend.Behind(s.Sure)).Seconds()
+		})},
 	} {
 		m.Gauge(g.name, g.help, g.value)
 	}
+	if isAlone { // etcd's own metrics have these figures, and its snapshots no mark
+		m.Gauge("free_bytes", "Bytes that are free on the disk of the store.", stats(func(s store.Stats) float64 { return float64(s.Free) }))
+		m.Gauge("backup_timestamp_seconds", "When the last backup was made, in seconds since 1970, or 0.", stats(func(s store.Stats) float64 {
+			return math.Max(0, float64(s.Backup.Unix()))
+		}))
+	}
 	return m
+}
+
+// now returns the figures of the store, which it asks once a second at most. One that doesn't answer gives what it knows.
+func (m *Metrics) now(backend *replica.Replica) store.Stats {
+	m.mu.Lock()
+	defer m.mu.Unlock()
+	if time.Since(m.asked) > time.Second {
+		_ = soon(func(ctx context.Context) (err error) {
+			m.stats, err = backend.Stats(ctx)
+			return err
+		})
+		m.asked = time.Now()
+	}
+	return m.stats
 }
 
 // soon asks the store, which may not answer.

@@ -9,6 +9,7 @@ import (
 	"math"
 	"strings"
 	"sync"
+	"sync/atomic"
 	"time"
 )
 
@@ -37,6 +38,7 @@ type Options struct {
 type Limits struct {
 	options Options
 	works   chan struct{}
+	waiting atomic.Int64 // for their turn of long work
 
 	mu    sync.Mutex
 	all   usage
@@ -186,6 +188,9 @@ func (l *Limits) Now() (requests int, bytes int64) {
 	return l.all.requests, l.all.bytes
 }
 
+// Waiting returns how many requests wait for their turn of long work.
+func (l *Limits) Waiting() int64 { return l.waiting.Load() }
+
 // Ask counts more lookups of a request, which are admitted together; later requests wait for longer.
 func (t *Ticket) Ask(more int, now time.Time) error {
 	t.of.mu.Lock()
@@ -230,6 +235,8 @@ func (a *account) pass(now time.Time, rate int) {
 // Work waits for the turn of a long work: one of an application and of a holder at a time, and a fixed number at once. It lasts until the
 // function that it returns is called. So nobody waits for more than one work of each other application and holder.
 func (t *Ticket) Work(ctx context.Context) (end func(), err error) {
+	t.of.waiting.Add(1)
+	defer t.of.waiting.Add(-1)
 	var taken []chan struct{}
 	end = func() {
 		for i := len(taken) - 1; i >= 0; i-- {

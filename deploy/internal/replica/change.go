@@ -42,6 +42,8 @@ func (r *Replica) Change(ctx context.Context, q Request) (made *manifest.Manifes
 	if err := r.Ready(); err != nil {
 		return nil, false, err
 	}
+	r.changing.Add(1)
+	defer r.changing.Add(-1)
 	a := r.use(q.App)
 	defer r.leave(a)
 	if err := a.writing.take(ctx); err != nil {

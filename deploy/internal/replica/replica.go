@@ -55,6 +55,7 @@ type Replica struct {
 	preparing places // taken while it is prepared
 	ready     atomic.Bool
 	read      atomic.Int64 // bodies of the store
+	changing  atomic.Int64 // changes on their way
 	madeRoom  atomic.Int64 // when, in seconds
 	long      sync.Map     // of places by holder, taken while a long change is stored
 
@@ -73,6 +74,7 @@ type app struct {
 	mu      sync.Mutex
 	moved   chan struct{} // closed when now changes
 	wanted  int64         // the newest revision that the store reported
+	since   time.Time     // when it reported the first one that the engine hasn't
 	swaps   int64         // the revision that a change of this gateway makes now, or 0
 	follows bool          // a goroutine brings the engine there
 }
@@ -212,6 +214,23 @@ func (r *Replica) Ready() error {
 // Read returns how many bodies of the store were read, so that a caller sees whether a start moves on.
 func (r *Replica) Read() int64 { return r.read.Load() }
 
+// Behind returns since when the engine lacks a change that the store has, as far as is known at a time; or that time.
+func (r *Replica) Behind(now time.Time) time.Time {
+	r.apps.Range(func(_, of any) bool {
+		a := of.(*app)
+		a.mu.Lock()
+		defer a.mu.Unlock()
+		if a.wanted > a.now.Load().Revision && a.since.Before(now) {
+			now = a.since
+		}
+		return true
+	})
+	return now
+}
+
+// Changing returns how many changes are judged, or wait to be stored.
+func (r *Replica) Changing() int64 { return r.changing.Load() }
+
 // Writable returns nil if changes are stored, as far as is known.
 func (r *Replica) Writable(ctx context.Context) error {
 	if err := r.Ready(); err != nil {
@@ -292,6 +311,9 @@ func (r *Replica) seen(name string, revision int64, late bool) {
 	a.mu.Lock()
 	defer a.mu.Unlock()
 	if revision > a.wanted {
+		if a.wanted <= a.now.Load().Revision {
+			a.since = time.Now()
+		}
 		a.wanted = revision
 	}
 	switch {

@@ -28,6 +28,12 @@ var dropped atomic.Uint64
 // Dropped returns how many lines were left out.
 func Dropped() float64 { return float64(dropped.Load()) }
 
+// queued counts the lines that wait.
+var queued atomic.Int64
+
+// Queued returns how many lines wait to be written.
+func Queued() float64 { return float64(queued.Load()) }
+
 // A Journal is a file of lines of JSON. It writes them in its own time, and drops lines rather than let a file that takes none, such as a
 // pipe that nobody reads, stop the gateway. The file is opened again at SIGHUP, after which logrotate(8) may have renamed it.
 type Journal struct {
@@ -56,6 +62,7 @@ func OpenJournal(path string) (*Journal, error) {
 			if _, err := to.Write(line); err != nil {
 				dropped.Add(1)
 			}
+			queued.Add(-1)
 		}
 	}()
 	return j, nil
@@ -101,6 +108,7 @@ func (j *Journal) Again() error {
 func (j *Journal) queue(line []byte) {
 	select {
 	case j.lines <- line:
+		queued.Add(1)
 	default:
 		dropped.Add(1)
 	}

@@ -35,10 +35,12 @@ type Keep struct {
 	Grace     time.Duration
 }
 
-// Stats are what the metrics report of a store.
+// Stats are what the metrics report of a store. What it doesn't know is zero.
 type Stats struct {
-	Bytes int64 // of its files, or of etcd's database
-	Quota int64 // what Bytes may grow to, or 0 if the store doesn't know
+	Bytes  int64     // of its files, or of etcd's database
+	Free   int64     // that the disk has for more
+	Sure   time.Time // when Watch had reported all changes
+	Backup time.Time // when the last one was made
 }
 
 // A Store stores manifests and bodies. All methods may be called at the same time.

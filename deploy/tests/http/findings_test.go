@@ -46,6 +46,10 @@ func TestReadyOnceAllIsRead(t *testing.T) {
 	if got := first.ask("PUT", "/v1/shop/de.txt", shopWrites, "de{}"); got.Status != 503 && got.Status != 504 {
 		t.Errorf("%d %s", got.Status, got.Body)
 	}
+	first.awaitMetric("resb_behind_seconds", func(n float64) bool { return n > 5 })
+	errorIf(t, first.measured()["resb_writes"] != 0, "the metrics don't say that nothing is stored")
+	harness.StartAll(c.Members)
+	first.awaitMetric("resb_behind_seconds", func(n float64) bool { return n < 5 })
 }
 
 // TestQuotas bound what is stored of an application: what was submitted, also in comments and in
@@ -209,15 +213,41 @@ func (s *site) writez(status int) {
 	eventually(s.t, fmt.Sprintf("/writez is %d", status), func() bool { return s.ask("GET", "/writez", "", "").Status == status })
 }
 
-// TestAFullDisk refuses what has no space with 507, and /writez with 503. Lookups are still answered,
-// removals and erasures made; what was acknowledged is there after a kill; and changes are made once
-// there is space again. No earlier version that is to stay makes space for a change.
-func TestAFullDisk(t *testing.T) {
+// smallDisk mounts a disk of 12 MB.
+func smallDisk(t *testing.T) string {
+	t.Helper()
 	disk := t.TempDir()
 	if err := syscall.Mount("tmpfs", disk, "tmpfs", 0, "size=12m"); err != nil {
 		t.Skipf("skipped: no disk can be mounted: %v", err)
 	}
 	t.Cleanup(func() { _ = syscall.Unmount(disk, syscall.MNT_DETACH) })
+	return disk
+}
+
+// TestADiskThatAnotherFills has /writez and the metrics say so, although nobody asks for a change.
+func TestADiskThatAnotherFills(t *testing.T) {
+	disk := smallDisk(t)
+	s := &site{harness.Open(t, harness.Setup{Folder: disk}), t}
+	s.writez(200)
+	free := s.measured()["resb_free_bytes"]
+	errorIf(t, free < 1<<20 || free > 12<<20, "%v bytes are free", free)
+	filler := filepath.Join(disk, "of another process")
+	if err := os.WriteFile(filler, make([]byte, 13<<20), 0o600); err == nil {
+		t.Fatal("the disk isn't full")
+	}
+	s.writez(503)
+	s.awaitMetric("resb_writes", func(n float64) bool { return n == 0 })
+	s.awaitMetric("resb_free_bytes", func(n float64) bool { return n < 1<<20 })
+	must(t, os.Remove(filler))
+	s.writez(200)
+	s.awaitMetric("resb_writes", func(n float64) bool { return n == 1 })
+}
+
+// TestAFullDisk refuses what has no space with 507, and /writez with 503. Lookups are still answered,
+// removals and erasures made; what was acknowledged is there after a kill; and changes are made once
+// there is space again. No earlier version that is to stay makes space for a change.
+func TestAFullDisk(t *testing.T) {
+	disk := smallDisk(t)
 	s := &site{harness.Open(t, harness.Setup{Folder: disk}), t}
 	s.run(step{"b PUT /v1/bank/de.txt", "", `de{a{"B"}}`, 201, "", ""})
 	locale := func(i int) string { return fmt.Sprintf("/v1/shop/l%c%c", 'a'+i/26, 'a'+i%26) }

@@ -2,6 +2,10 @@ package http
 
 import (
 	"fmt"
+	"os"
+	"os/exec"
+	"path/filepath"
+	"regexp"
 	"strconv"
 	"strings"
 	"testing"
@@ -180,7 +184,42 @@ func TestMetrics(t *testing.T) {
 		errorIf(t, !there || at < last, "the bucket of %s has %v after %v", bound, at, last)
 		last = at
 	}
-	if last != 6 || values[`resb_memory_bytes`] < 1000 || values[`resb_database_bytes`] < 20 {
+	if last != 6 || values[`resb_memory_bytes`] < 1000 || values[`resb_database_bytes`] < 20 || values["resb_free_bytes"] < 1000 ||
+		values["resb_backup_timestamp_seconds"] != 0 || values["resb_behind_seconds"] > 60 {
 		t.Errorf("%v", values)
 	}
+	before := float64(time.Now().Unix() - 1)
+	command(t, 0, "", "backup", "-state", s.State, "--", filepath.Join(t.TempDir(), "copy"))
+	s.awaitMetric("resb_backup_timestamp_seconds", func(n float64) bool { return n > before })
+}
+
+// TestAlertRules has a metric of the gateway for each name in the rules for Prometheus, and promtool try each rule.
+func TestAlertRules(t *testing.T) {
+	s := beside(t)
+	s.put("de", `de{a{"A"}}`)
+	values := s.measured()
+	rules, err := os.ReadFile(harness.Top("deploy/prometheus.rules.yml"))
+	must(t, err)
+	tried, err := os.ReadFile("testdata/alerts.yml")
+	must(t, err)
+	names := regexp.MustCompile(`resb_\w+`).FindAllString(string(rules), -1)
+	for _, name := range names {
+		there := false
+		for metric := range values {
+			metric, _, _ = strings.Cut(metric, "{")
+			there = there || metric == name
+		}
+		errorIf(t, !there, "no metric %s", name)
+	}
+	alerts := regexp.MustCompile(`alert: (\w+)`).FindAllStringSubmatch(string(rules), -1)
+	for _, alert := range alerts {
+		errorIf(t, strings.Count(string(tried), "alertname: "+alert[1]) != 2, "%s isn't tried", alert[1])
+	}
+	errorIf(t, len(names) < 15 || len(alerts) < 15, "%d names, %d alerts", len(names), len(alerts))
+	promtool, err := exec.LookPath("promtool")
+	if err != nil {
+		t.Skip("skipped: promtool (Debian's prometheus) isn't there")
+	}
+	text, err := exec.Command(promtool, "test", "rules", "testdata/alerts.yml").CombinedOutput()
+	errorIf(t, err != nil, "%v: %s", err, text)
 }

@@ -220,6 +220,9 @@ func fillQuota(t *testing.T) {
 	}
 	time.Sleep(3 * time.Second)
 	m.Gateways[0].Make("GET", "/v1/app.filler/laa/a", "")
+	if got := m.Gateways[1].Ask("GET", "/writez", "", ""); got.Status != 503 || got.Body != "NoRoom\n" {
+		t.Errorf("/writez: %d %s", got.Status, got.Body)
+	}
 	for _, p := range m.Members { // a wider quota, as the page for operators says, one after the other
 		for i, argument := range p.Args {
 			if argument == "--quota-backend-bytes" {

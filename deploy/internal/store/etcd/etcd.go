@@ -57,6 +57,7 @@ type Store struct {
 
 	mu       sync.Mutex
 	marks    []mark
+	sure     time.Time     // when Watch had reported all swaps
 	reported int64         // Watch has reported all swaps up to this revision of etcd
 	moved    chan struct{} // closed when reported grows
 	again    chan struct{} // asks for another watch
@@ -71,7 +72,7 @@ func Open(o Options) (*Store, error) {
 	if err != nil {
 		return nil, fmt.Errorf("etcd: %w", err)
 	}
-	return &Store{Client: c, logf: o.Logf, grace: leastGrace, moved: make(chan struct{}), again: make(chan struct{}, 1)}, nil
+	return &Store{Client: c, logf: o.Logf, grace: leastGrace, sure: time.Now(), moved: make(chan struct{}), again: make(chan struct{}, 1)}, nil
 }
 
 // Reach returns an error unless etcd answers a read: at once if it refuses this client, or when the context ends.
@@ -339,6 +340,7 @@ func (s *Store) report(revision int64) {
 // Sync reads when the last swap was, which most servers must confirm, and waits until Watch has come to it. A progress request of etcd 3.4 can't
 // serve for this: its answer may come before events that it covers.
 func (s *Store) Sync(ctx context.Context) error {
+	began := time.Now()
 	r, err := s.get(ctx, "m/")
 	if err != nil {
 		return err
@@ -352,8 +354,12 @@ func (s *Store) Sync(ctx context.Context) error {
 	for {
 		s.mu.Lock()
 		reported, moved := s.reported, s.moved
+		isDone := reported >= last && reported > 0
+		if isDone && began.After(s.sure) {
+			s.sure = began
+		}
 		s.mu.Unlock()
-		if reported >= last && reported > 0 {
+		if isDone {
 			return nil
 		}
 		select {
@@ -384,15 +390,18 @@ func (s *Store) Writable(ctx context.Context) error {
 	return nil // the list needs rights that a gateway may not have
 }
 
-// Stats returns the length of the database at the first server that answers.
+// Stats returns the length of the database at the first server that answers, and also without one when Watch had reported all.
 func (s *Store) Stats(ctx context.Context) (stats store.Stats, err error) {
-	err = store.ErrUnreached
+	s.mu.Lock()
+	stats.Sure, err = s.sure, store.ErrUnreached
+	s.mu.Unlock()
 	for _, endpoint := range s.Endpoints() {
 		within, cancel := context.WithTimeout(ctx, wait)
 		r, failed := s.Status(within, endpoint)
 		cancel()
 		if failed == nil {
-			return store.Stats{Bytes: r.DbSize}, nil
+			stats.Bytes = r.DbSize
+			return stats, nil
 		}
 		err = fmt.Errorf("%w: %v", store.ErrUnreached, failed)
 	}

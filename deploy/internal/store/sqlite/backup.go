@@ -7,6 +7,7 @@ import (
 	"os"
 	"path/filepath"
 	"syscall"
+	"time"
 )
 
 // ErrExists is the error of a copy that would replace something.
@@ -25,7 +26,21 @@ func Backup(folder, file string) (Summary, error) {
 	if _, err := os.Stat(path); errors.Is(err, fs.ErrNotExist) {
 		return Summary{}, fmt.Errorf("%s: %w", folder, ErrMissing)
 	}
-	return copyDatabase(path, "mode=rw&_busy_timeout=60000", file)
+	sum, err := copyDatabase(path, "mode=rw&_busy_timeout=60000", file)
+	if err == nil {
+		noteBackup(folder)
+	}
+	return sum, err
+}
+
+// noteBackup gives a file the present time, which the metrics report. A folder that can't be written keeps the earlier one.
+func noteBackup(folder string) {
+	path := filepath.Join(folder, backedUp)
+	if f, err := os.OpenFile(path, os.O_CREATE|os.O_WRONLY, 0o600); err == nil {
+		_ = f.Close()
+		_ = own(folder, path)
+		_ = os.Chtimes(path, time.Now(), time.Now())
+	}
 }
 
 // Restore makes the store of a folder that has none from a copy, which it checks.

@@ -41,7 +41,9 @@ func (s *Store) reserve() {
 	if ok && size/4 < bytes {
 		bytes = size / 4
 	}
-	s.spare = bytes / 4
+	if s.spare == 0 {
+		s.spare = bytes / 4
+	}
 	path := filepath.Join(s.folder, reserved)
 	f, err := os.OpenFile(path, os.O_CREATE|os.O_RDWR, 0o600)
 	if err != nil {

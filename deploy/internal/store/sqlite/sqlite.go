@@ -29,12 +29,14 @@ const (
 	earlier  = "changes.db" // of earlier versions
 	locked   = "lock"       // the file of the process that has the folder
 	reserved = "reserve"    // the file with the space of a full disk
+	backedUp = "backed-up"  // the file whose time is that of the last backup
 	readers  = 4            // connections that read at once
 )
 
 // Owns returns true for the name of a file that the store has, or had, in its folder.
 func Owns(name string) bool {
-	return strings.HasPrefix(name, database) || name == earlier || name == marker || name == reserved || name == locked
+	return strings.HasPrefix(name, database) || name == earlier || name == marker || name == reserved || name == locked ||
+		name == backedUp
 }
 
 // ErrMissing is the error of a folder that has no store.
@@ -413,15 +415,17 @@ func (s *Store) Sync(ctx context.Context) error {
 	return nil
 }
 
-// Stats returns how long the files are.
+// Stats returns how long the files are, what is free on the disk, and when the last backup was made.
 func (s *Store) Stats(context.Context) (stats store.Stats, err error) {
+	stats.Sure = time.Now()
 	for _, end := range []string{"", "-wal"} {
 		if info, err := os.Stat(filepath.Join(s.folder, database+end)); err == nil {
 			stats.Bytes += info.Size()
 		}
 	}
-	if free, _, ok := s.disk(); ok {
-		stats.Quota = stats.Bytes + free
+	stats.Free, _, _ = s.disk()
+	if info, err := os.Stat(filepath.Join(s.folder, backedUp)); err == nil {
+		stats.Backup = info.ModTime()
 	}
 	return stats, nil
 }

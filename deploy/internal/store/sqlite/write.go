@@ -295,11 +295,14 @@ func (s *Store) failure() error {
 	return s.broken
 }
 
-// Writable returns why the last transaction failed, unless a new one succeeds, which it tries once a second.
+// Writable returns why the last transaction failed, unless a new one succeeds. It tries one at most once a second, also if nothing has failed and the
+// disk is nearly full.
 func (s *Store) Writable(ctx context.Context) error {
+	free, _, known := s.disk()
 	s.mu.Lock()
 	err := s.failed
-	retries := err != nil && time.Since(s.tried) > time.Second
+	isNearlyFull := known && free <= s.spare+2*mostShort
+	retries := (err != nil || isNearlyFull) && time.Since(s.tried) > time.Second
 	if retries {
 		s.tried = time.Now()
 	}
