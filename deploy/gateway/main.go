@@ -82,7 +82,7 @@ func (s settings) fail(err error, status int) int {
 	if s.log == "json" {
 		log.Print(err)
 	} else {
-		fmt.Fprintln(os.Stderr, "gateway:", err)
+		serve.Print("gateway: " + err.Error())
 	}
 	return status
 }

@@ -10,6 +10,7 @@ import (
 	"runtime"
 	"sort"
 	"sync"
+	"time"
 
 	"luvdregan.example/resb/deploy/internal/manifest"
 	resb "luvdregan.example/resb/library/go"
@@ -189,6 +190,7 @@ func (e *Engine) Release(app string, edits []Edit, done func()) {
 		return err
 	})
 	if err != nil {
+		time.AfterFunc(time.Second, func() { os.Exit(1) })                        // if nobody reads what follows
 		fmt.Fprintf(os.Stderr, "gateway: engine: a change of %s: %v\n", app, err) // the log waits in a queue
 		os.Exit(1)
 	}

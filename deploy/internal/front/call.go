@@ -122,7 +122,7 @@ func (c *Call) end() {
 	failure, now := recover(), time.Now()
 	if failure != nil {
 		log.Printf("panic: %v\n%s", failure, debug.Stack())
-		c.Status = http.StatusInternalServerError
+		c.Status, c.Code = http.StatusInternalServerError, wire.Failed.Code
 		c.Metrics.panics.Inc()
 	}
 	if c.cancel != nil {

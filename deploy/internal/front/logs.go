@@ -3,6 +3,8 @@ package front
 import (
 	"crypto/sha256"
 	"encoding/hex"
+	"net/http"
+	"strings"
 	"time"
 
 	"luvdregan.example/resb/deploy/internal/wire"
@@ -31,6 +33,7 @@ type audited struct {
 	From   string `json:"from"`
 	Token  string `json:"token"`
 	App    string `json:"app"`
+	Path   string `json:"path,omitempty"` // of a request that is no operation
 	Action string `json:"action"`
 	Locale string `json:"locale,omitempty"`
 	ID     string `json:"id,omitempty"` // of a token that is made or revoked
@@ -82,9 +85,16 @@ func (c *Call) Asked(locale string, body []byte) {
 	c.edits = append(c.edits, line)
 }
 
-// logAudit writes the lines of a change that was made or refused, for whatever reason.
+// changing has the methods that ask for changes.
+var changing = map[string]bool{http.MethodPut: true, http.MethodPost: true, http.MethodPatch: true, http.MethodDelete: true}
+
+// logAudit writes the lines of a change that was made or refused, for whatever reason, also because no operation has its address or its method.
 func (c *Call) logAudit(now time.Time) {
-	if c.Options.Audit == nil || c.Operation.Action == "" {
+	action, path := c.Operation.Action, ""
+	if c.Operation == &Other && changing[c.R.Method] && strings.HasPrefix(c.R.URL.Path, "/v1/") {
+		action, path = strings.ToLower(c.R.Method), clip(c.R.URL.EscapedPath())
+	}
+	if c.Options.Audit == nil || action == "" {
 		return
 	}
 	if len(c.edits) == 0 {
@@ -92,7 +102,7 @@ func (c *Call) logAudit(now time.Time) {
 	}
 	for _, line := range c.edits {
 		line.Time, line.From, line.Token = now.UTC().Format(time.RFC3339Nano), wire.Caller(c.R, c.Options.Proxies), c.name()
-		line.App, line.Action, line.Result, line.ID = clip(c.App), c.Operation.Action, c.Code, clip(c.TokenID)
+		line.App, line.Path, line.Action, line.Result, line.ID = clip(c.App), path, action, c.Code, clip(c.TokenID)
 		if line.Result == "" {
 			line.Result = "ok"
 		}

@@ -53,19 +53,28 @@ func OpenJournal(path string) (*Journal, error) {
 	if err := j.Again(); err != nil {
 		return nil, err
 	}
-	go func() {
-		defer close(j.written)
-		for line := <-j.lines; line != nil; line = <-j.lines {
-			j.mu.Lock()
-			to := j.to
-			j.mu.Unlock()
-			if _, err := to.Write(line); err != nil {
-				dropped.Add(1)
-			}
-			queued.Add(-1)
-		}
-	}()
+	go j.write()
 	return j, nil
+}
+
+// write writes the lines as they come. After a part of one, which a full disk leaves, the next one begins a line.
+func (j *Journal) write() {
+	defer close(j.written)
+	isTorn := false
+	for line := <-j.lines; line != nil; line = <-j.lines {
+		j.mu.Lock()
+		to := j.to
+		j.mu.Unlock()
+		if isTorn {
+			line = append([]byte{'\n'}, line...)
+		}
+		n, err := to.Write(line)
+		if err != nil {
+			dropped.Add(1)
+		}
+		isTorn = err != nil && (isTorn || n > 0)
+		queued.Add(-1)
+	}
 }
 
 // CanAppend returns an error if OpenJournal couldn't open a file. It makes none.
@@ -161,6 +170,9 @@ func StartLog(form string) {
 	}
 	log.SetOutput(logWriter{errorLog, form == "json"})
 }
+
+// Print writes a line to the log's place as it is.
+func Print(line string) { errorLog.queue([]byte(line + "\n")) }
 
 // FlushLog waits for what is still to be written.
 func FlushLog() { errorLog.Flush() }

@@ -57,6 +57,31 @@ func TestJournalFiles(t *testing.T) {
 	}
 }
 
+// TestAJournalOnAFullDisk writes a part of a line, and then the next ones as lines.
+func TestAJournalOnAFullDisk(t *testing.T) {
+	disk := t.TempDir()
+	if err := syscall.Mount("tmpfs", disk, "tmpfs", 0, "size=64k"); err != nil {
+		t.Skipf("skipped: no disk can be mounted: %v", err)
+	}
+	defer func() { _ = syscall.Unmount(disk, syscall.MNT_DETACH) }()
+	path := filepath.Join(disk, "log")
+	j, err := OpenJournal(path)
+	harness.Must(t, err)
+	before := dropped.Load()
+	for i := 0; i < 2; i++ {
+		j.Write(strings.Repeat("x", 48<<10))
+	}
+	harness.Eventually(t, "the disk is full", func() bool { return dropped.Load() > before })
+	harness.Must(t, os.Truncate(path, 50<<10))
+	j.Write("next")
+	j.Flush()
+	content, err := os.ReadFile(path)
+	harness.Must(t, err)
+	if !strings.HasSuffix(string(content), "x\n\"next\"\n") {
+		t.Errorf("%q", content[len(content)-20:])
+	}
+}
+
 // TestTwoLengths finds both lengths in a header, in whatever parts it comes.
 func TestTwoLengths(t *testing.T) {
 	for text, want := range map[string]bool{

@@ -159,7 +159,25 @@ func TestALogThatNobodyReads(t *testing.T) {
 	}
 	s.put("de", `de{a{"B"}}`)
 	s.is("de/a", "B")
-	errorIf(t, s.measured()["resb_log_lines_dropped_total"] == 0, "no line was lost")
+	values := s.measured()
+	errorIf(t, values["resb_log_lines_dropped_total"] == 0 || values["resb_log_lines_waiting"] < 8000, "no line was lost: %v", values)
+	s.leave()
+	full := exec.Command(harness.Program(t), "-listen", "nowhere", "-tokens", s.Tokens, "-state", s.State)
+	again, into, err := os.Pipe()
+	must(t, err)
+	defer again.Close()
+	_ = into.SetWriteDeadline(time.Now().Add(time.Second))
+	_, _ = into.Write(make([]byte, 1<<20)) // more than the pipe takes
+	full.Stderr = into
+	ended := make(chan error, 1)
+	go func() { ended <- full.Run() }()
+	select {
+	case err := <-ended:
+		errorIf(t, full.ProcessState.ExitCode() != 1, "%v", err)
+	case <-time.After(generous):
+		_ = full.Process.Kill()
+		t.Error("a start that fails doesn't end")
+	}
 }
 
 // TestSmallFindings has what fits in a request: If-Match of a GET, `erase=false`, tokens that all may

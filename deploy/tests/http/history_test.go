@@ -203,6 +203,54 @@ func journal(t *testing.T, path string) (all []map[string]any) {
 	return all
 }
 
+// TestEachRefusedChange has a line in the audit log for each kind of refusal, with the error code and the caller behind a proxy.
+func TestEachRefusedChange(t *testing.T) {
+	t.Parallel()
+	audit := filepath.Join(t.TempDir(), "audit")
+	s := open(t, "-audit-log", audit, "-proxies", "127.0.0.1", "-text-bytes", "2000", "-app-bytes", "3000", "-apps", "2", "-rate", "100", "-patience", "3s")
+	s.put("de", `de{a{"A"}}`)
+	other := s.put("de", `de{a{"B"}}`).Tag()
+	noise := `x{a{"` + harness.Noise(1600) + `"}}`
+	all := []struct{ do, headers, body, action, code string }{
+		{"- PUT /v1/shop/de.txt", "", "de{}", "put", "Unauthorized"}, {"r PUT /v1/shop/de.txt", "", "de{}", "put", "Forbidden"},
+		{"b DELETE /v1/shop/de", "", "", "remove", "Forbidden"}, {"r DELETE /v1/shop?erase", "", "", "erase", "Forbidden"},
+		{"w DELETE /v1/shop", "", "", "erase", "BadQuery"}, {"w DELETE /v1/shop?erase=no", "", "", "erase", "BadQuery"},
+		{"w PUT /v1/shop/de.txt?after=x", "", "de{}", "put", "BadRevision"}, {"w PUT /v1/shop/de.txt?%zz", "", "de{}", "put", "BadQuery"},
+		{"w PUT /v1/shop/de.txt?after=99", "", "de{}", "put", "Behind"}, {"w PUT /v1/shop/a%20b.txt", "", "de{}", "put", "BadLocale"},
+		{"w PUT /v1/shop/de", "Content-Type: text/html", "de{}", "put", "BadType"}, {"w PUT /v1/shop/de.txt", "Content-Encoding: gzip", "de{}", "put", "BadType"},
+		{"w PUT /v1/shop/de.txt", "Content-Range: bytes 0-1/2", "de{}", "put", "BadLength"}, {"w PUT /v1/shop/de.txt", "", "\xff", "put", "BadText"},
+		{"w PUT /v1/shop/de.res", "", "de{}", "put", "BadFile"}, {"w PUT /v1/shop/fr.txt?strict", "", "de{}", "put", "OtherName"},
+		{"w PUT /v1/shop/de.txt", "", noise + noise, "put", "TooLarge"}, {"w PUT /v1/shop/de.txt", "", noise, "put", "OverQuota"},
+		{"w PUT /v1/shop/de.txt", "If-Match: \"x\"", "de{}", "put", "PreconditionFailed"}, {"w POST /v1/shop/de.txt", "", "de{}", "install", "Exists"},
+		{"w POST /v1/shop/de.txt", "If-Match: " + other, "de{}", "install", "Exists"}, {"w DELETE /v1/shop/fr", "", "", "remove", "Absent"},
+		{"w DELETE /v1/shop/de", "If-Match: \"x\"", "", "remove", "PreconditionFailed"}, {"w PATCH /v1/shop/de", "Content-Type: " + asPatch, "[", "patch", "BadPatch"},
+		{"w PATCH /v1/shop/de", "", "{}", "patch", "BadType"}, {"w PATCH /v1/shop/fr", "Content-Type: " + asPatch, "{}", "patch", "Absent"},
+		{"w POST /v1/shop/_releases", "Content-Type: " + asLines, "{", "release", "BadRelease"}, {"w POST /v1/shop/_releases", "", "{}", "release", "BadType"},
+		{"w POST /v1/shop/_history/99/restore", "", "", "restore", "NoVersion"}, {"w PUT /v1/shop/_history/1", "", "", "put", "NotAllowed"},
+		{"w PUT /v1/shop", "", "", "put", "NotAllowed"}, {"w PUT /v1/shop/de/a", "", "", "put", "NotAllowed"}, {"w PATCH /v1/shop/_none/x/y", "", "", "patch", "NotFound"},
+		{"w DELETE /v1/shop/a%2Fb", "", "", "delete", "BadPath"}, {"w DELETE /v1/shop/%2E%2E", "", "", "delete", "BadPath"}, {"w DELETE /v1/shop//a", "", "", "delete", "BadPath"},
+	}
+	before := len(journal(t, audit))
+	for _, one := range all {
+		words := strings.SplitN(one.do, " ", 3)
+		headers := []string{"X-Forwarded-For", "203.0.113.9"}
+		if name, value, is := strings.Cut(one.headers, ": "); is {
+			headers = append(headers, name, value)
+		}
+		got := s.Ask(words[1], words[2], tokens[words[0]], one.body, headers...)
+		errorIf(t, got.Error() != one.code, "%s: %d %s, and not %s", one.do, got.Status, got.Body, one.code)
+	}
+	eventually(t, "all are logged", func() bool { return len(journal(t, audit)) >= before+len(all) })
+	for i, line := range journal(t, audit)[before:] {
+		if i >= len(all) {
+			t.Fatalf("one more: %v", line)
+		}
+		got := fmt.Sprint(line["from"], " ", line["action"], " ", line["result"])
+		errorIf(t, got != "203.0.113.9 "+all[i].action+" "+all[i].code, "%s: %s, and not %s", all[i].do, got, all[i].code)
+	}
+	s.is("de/a", "B")
+}
+
 // TestLogs has a line of JSON for each request and each change that was asked for, made or not, whatever callers send, and no token in
 // any.
 func TestLogs(t *testing.T) {
