@@ -200,7 +200,7 @@ func edit(path string, change func(content []byte) ([]byte, error)) error {
 	return err
 }
 
-// replace writes a file beside its place, and renames it.
+// replace writes a file beside its place, and renames it. A new one belongs to the owner of the folder, whose gateway is to read it.
 func replace(path string, content []byte) error {
 	f, err := os.CreateTemp(filepath.Dir(path), filepath.Base(path)+".new-*")
 	if err != nil {
@@ -208,13 +208,17 @@ func replace(path string, content []byte) error {
 	}
 	defer os.Remove(f.Name())
 	defer f.Close()
-	if info, err := os.Stat(path); err == nil {
-		of := info.Sys().(*syscall.Stat_t)
-		_ = f.Chown(int(of.Uid), int(of.Gid))
-		if err := f.Chmod(info.Mode().Perm()); err != nil {
-			return err
-		}
+	info, err := os.Stat(path)
+	if err == nil {
+		err = f.Chmod(info.Mode().Perm())
+	} else {
+		info, err = os.Stat(filepath.Dir(path))
 	}
+	if err != nil {
+		return err
+	}
+	of := info.Sys().(*syscall.Stat_t)
+	_ = f.Chown(int(of.Uid), int(of.Gid))
 	if _, err = f.Write(content); err == nil {
 		err = f.Sync()
 	}

@@ -212,13 +212,14 @@ func TestCommandsOfRoot(t *testing.T) {
 	command(t, 0, "shop\tde\t", "list", "-state", state)
 	command(t, 0, "1 bundles", "export", "-state", state, "--", filepath.Join(t.TempDir(), "out"))
 	command(t, 0, "", "backup", "-state", state, "--", copied+".again")
+	tokens := filepath.Join(home, "new", "tokens")
+	command(t, 0, "", "token", "add", "-tokens", tokens, "shop", "read")
 	must(t, filepath.WalkDir(home, func(path string, entry os.DirEntry, err error) error {
 		info, failed := entry.Info()
 		errorIf(t, failed != nil || info.Sys().(*syscall.Stat_t).Uid != user, "%s doesn't belong to the user", path)
 		return err
 	}))
-	g := harness.New(t, harness.Setup{Folder: filepath.Dir(state)})
-	must(t, os.Chown(g.Tokens, user, user))
+	g := harness.New(t, harness.Setup{Folder: filepath.Dir(state)}) // writes into the file of tokens
 	g.Args = append([]string{"setpriv", "--reuid=12345", "--regid=12345", "--clear-groups"}, g.Args...)
 	g.Start()
 	g.Await(generous)

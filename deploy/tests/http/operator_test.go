@@ -381,6 +381,33 @@ func TestTheServiceManagerIsNotified(t *testing.T) {
 	}
 }
 
+// TestAStartThatWaits gives the service manager no reason to wait for an etcd that doesn't answer: it is told so, and the start isn't extended.
+func TestAStartThatWaits(t *testing.T) {
+	t.Parallel()
+	c := harness.NewCluster(t, t.TempDir(), 1, nil)
+	name := filepath.Join(t.TempDir(), "n")
+	socket, err := net.ListenUnixgram("unixgram", &net.UnixAddr{Name: name, Net: "unixgram"})
+	must(t, err)
+	defer socket.Close()
+	_ = socket.SetReadDeadline(time.Now().Add(generous))
+	g := harness.New(t, harness.Setup{Etcd: c.From(0)})
+	g.Env = append(g.Env, "NOTIFY_SOCKET="+name)
+	g.Start()
+	waits, buffer := 0, make([]byte, 1000)
+	for said := ""; !strings.Contains(said, "READY=1"); said = string(buffer) {
+		n, err := socket.Read(buffer[:cap(buffer)])
+		must(t, err)
+		switch buffer = buffer[:n]; {
+		case strings.Contains(string(buffer), "EXTEND") && waits > 0:
+			errorIf(t, waits < 3, "the start is extended")
+		case string(buffer) == "STATUS=waits for the store":
+			if waits++; waits == 3 {
+				harness.StartAll(c.Members)
+			}
+		}
+	}
+}
+
 // TestEnds has gateways end: with an upload on its way, which is answered and stored; and with time for a proxy to notice.
 func TestEnds(t *testing.T) {
 	s := beside(t)

@@ -145,11 +145,21 @@ func flipped(t *testing.T, content []byte, find func(w int, bad []byte) ([]strin
 			if errors.Is(err, store.ErrDamaged) {
 				atomic.AddInt64(&refused, 1)
 			} else if err != nil || !reflect.DeepEqual(found, want) {
-				t.Errorf("byte %d of %d: %v %.300q", at, len(content), err, found)
+				t.Errorf("byte %d of %d: %v, %s", at, len(content), err, firstOther(found, want))
 			}
 		}
 	})
 	t.Logf("%d of %d refused", refused, tried)
+}
+
+// firstOther returns the first text that differs.
+func firstOther(found, want []string) string {
+	for i, one := range found {
+		if i >= len(want) || one != want[i] {
+			return fmt.Sprintf("%.200q", one)
+		}
+	}
+	return fmt.Sprint(len(found), " of ", len(want))
 }
 
 // whole returns all that a store has: each manifest that stays, what it made, and each body that it names.
