@@ -96,6 +96,7 @@ func (s *settings) table() []option {
 		{"history", &s.replica.Keep.Manifests, 1000, atLeast(0), "how many earlier changes of an application stay"},
 		{"history-age", &s.replica.Keep.Age, time.Duration(0), atLeast(0), "how long earlier changes stay; 0 is no limit"},
 		{"history-bytes", (*bytesValue)(&s.replica.Keep.Bytes), int64(64 << 20), atLeast(0), "the most `bytes` of earlier versions of an application's bundles"},
+		{"history-each", &s.replica.Keep.Each, 3, atLeast(0), "how many of the last versions of each bundle stay, whatever -history and -history-bytes say"},
 		{"erase-after", &o.EraseAfter, 7 * 24 * time.Hour, atLeast(0), "how long the erasure of an application can be undone; then what it removed is deleted"},
 
 		{"program", &s.program, "resb", nil, "the `program`, which explains errors and warns of doubtful texts"},
@@ -259,6 +260,7 @@ func (s *settings) complete() error {
 	o.Limits.Works = engine.Works()
 	s.engine.TreeSteps = treeSteps
 	s.replica.Limits.Bundles = release.Most
+	s.replica.Keep.EachBytes = int64(s.replica.Keep.Each) * s.replica.Limits.Bytes
 	if s.replica.Bytes == 0 {
 		s.replica.Bytes = machineMemory() / 2
 	}

@@ -259,6 +259,21 @@ func (s *Sweep) Add(m *Manifest, read func(Digest) ([]byte, error)) (fresh []Bun
 	return fresh, nil
 }
 
+// AddMade adds, of a manifest that isn't to be read whole, what its change made of the bundles that a function chooses. It returns false if that
+// chooses none, and then adds nothing.
+func (s *Sweep) AddMade(m *Manifest, chosen func(*Made) bool) (any bool) {
+	for i := range m.Made {
+		if made := &m.Made[i]; chosen(made) {
+			any = true
+			s.Named[made.Digest] = true
+		}
+	}
+	if any && m.log.digest != "" {
+		s.Named[m.log.digest] = true
+	}
+	return any
+}
+
 // A writer of compressed bytes takes 600 KB and a reader 40 KB, so they are used again.
 var writers = sync.Pool{New: func() any {
 	w, _ := flate.NewWriter(io.Discard, flate.BestSpeed) // the level is a valid one

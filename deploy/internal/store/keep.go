@@ -10,37 +10,69 @@ import (
 
 // A Plan says what stays of an application.
 type Plan struct {
-	First          int64 // the earliest revision that stays, or 0 if all do
-	IsFinal        bool  // only a change of the application can make another plan
-	IsErased       bool  // what it removes may be what was erased
-	manifest.Sweep       // what the manifests from there on name
+	Gone           []Span // the revisions that go, the last ones first
+	IsFinal        bool   // only a change of the application can make another plan
+	IsErased       bool   // what it removes may be what was erased
+	manifest.Sweep        // what the manifests that stay name
 	keep           Keep
 	now            time.Time
 	manifests      int
-	last           int64 // the earliest revision so far that stays
+	isPast         bool  // only Each lets a manifest stay
 	bytes          int64 // of the bodies that the newest manifest doesn't name
+	newest         *manifest.Manifest
+	changes        map[string]int // how many of a bundle stay
+	removed        int            // bundles among them that the newest manifest doesn't have
+	eachBytes      int64          // of what stays for Each alone
 }
 
 // undoTime is how long what was erased stays after its time, as undoing it may have begun before.
 const undoTime = 15 * time.Minute
+// A Span has revisions, from one to before another.
+type Span struct{ From, End int64 }
 
 // NewPlan plans with what a reader finds.
 func NewPlan(from Reader, keep Keep) (*Plan, error) {
-	p := &Plan{keep: keep, now: time.Now(), IsFinal: keep.Age == 0}
-	err := EachHead(from, func(m *manifest.Manifest) (stays bool, err error) {
-		if stays, err = p.add(m, from); err == nil && !stays {
-			p.First = p.last
+	p := &Plan{keep: keep, now: time.Now(), IsFinal: keep.Age == 0, changes: map[string]int{}}
+	err := EachHead(from, func(m *manifest.Manifest) (more bool, err error) {
+		stays, err := p.add(m, from)
+		if err == nil && !stays {
+			more = p.remove(m)
 		}
-		return stays, err
+		return more || stays, err
 	})
 	return p, err
 }
 
-// add adds the head of a manifest. It returns false if this one and all earlier ones need not stay.
-func (p *Plan) add(m *manifest.Manifest, from Reader) (stays bool, err error) {
-	if !p.permits(m) {
-		return false, nil
+// remove has a manifest go. It returns false if all earlier ones go too.
+func (p *Plan) remove(m *manifest.Manifest) (more bool) {
+	one := Span{m.Revision, m.Revision + 1}
+	if more = p.keep.Each > 0 && !p.isOld(m); !more {
+		one.From = 0
 	}
+	if last := len(p.Gone) - 1; last >= 0 && p.Gone[last].From == one.End {
+		p.Gone[last].From = one.From
+	} else {
+		p.Gone = append(p.Gone, one)
+	}
+	return more
+}
+
+// add adds the head of a manifest. It returns false if this one need not stay.
+func (p *Plan) add(m *manifest.Manifest, from Reader) (stays bool, err error) {
+	if p.keep.Each > 0 {
+		err = m.FillMade(from.Page)
+	}
+	if p.isPast = p.isPast || !p.permits(m); err == nil && !p.isPast {
+		stays, err = p.addWhole(m, from)
+	}
+	if err != nil || p.keep.Each == 0 || p.isOld(m) {
+		return stays, err
+	}
+	return p.AddMade(m, func(made *manifest.Made) bool { return p.isOfEach(made, stays) }) || stays, nil
+}
+
+// addWhole adds all that a manifest names, and returns false if that is too much. It may stay once more.
+func (p *Plan) addWhole(m *manifest.Manifest, from Reader) (stays bool, err error) {
 	if e := m.Erasure; p.manifests == 0 && e != nil {
 		isOver := p.now.After(time.UnixMilli(e.Until).Add(undoTime))
 		if p.IsErased = true; isOver {
@@ -54,25 +86,55 @@ func (p *Plan) add(m *manifest.Manifest, from Reader) (stays bool, err error) {
 	}
 	if p.manifests == 0 {
 		p.IsFinal = p.IsFinal && p.age(m) >= p.keep.Grace
+		if p.newest = m; p.keep.Each > 0 {
+			err = m.Fill(nil, from.Page)
+		}
 	} else {
 		for _, b := range more {
 			p.bytes += b.Bytes
 		}
 	}
-	if !p.permits(m) {
-		return false, nil // what it names may stay once more
+	if p.isPast = !p.permits(m); !p.isPast {
+		p.manifests++
 	}
-	p.manifests++
-	p.last = m.Revision
-	return true, nil
+	return !p.isPast, err
 }
 
-// permits returns true if a manifest stays.
+// permits returns true if a manifest stays, whatever it made.
 func (p *Plan) permits(m *manifest.Manifest) bool {
-	k, age := &p.keep, p.age(m)
-	return p.manifests == 0 || age < k.Grace ||
-		(k.Manifests == 0 || p.manifests < k.Manifests) &&
-			(k.Age == 0 || age < k.Age) && (k.Bytes == 0 || p.bytes <= k.Bytes)
+	k := &p.keep
+	return p.manifests == 0 || p.age(m) < k.Grace ||
+		(k.Manifests == 0 || p.manifests < k.Manifests) && !p.isOld(m) && (k.Bytes == 0 || p.bytes <= k.Bytes)
+}
+
+// isOld returns true if the age of a manifest alone has it go.
+func (p *Plan) isOld(m *manifest.Manifest) bool {
+	return p.manifests > 0 && p.keep.Age > 0 && p.age(m) >= p.keep.Age && p.age(m) >= p.keep.Grace
+}
+
+// mostRemoved is of how many bundles that were removed the last versions stay: as many as an application may have.
+const mostRemoved = 4096
+
+// isOfEach returns true if a change is among the last ones of its bundle that stay, and counts it then.
+func (p *Plan) isOfEach(made *manifest.Made, stays bool) bool {
+	n := p.changes[made.Locale]
+	isRemoved := n == 0 && p.newest.Find(made.Locale) == nil
+	if n == p.keep.Each || isRemoved && p.removed == mostRemoved || p.isFull(made, stays) {
+		return false
+	}
+	if isRemoved {
+		p.removed++
+	}
+	if !stays {
+		p.eachBytes += made.Bytes
+	}
+	p.changes[made.Locale]++
+	return true
+}
+
+// isFull returns true if a version would take more than what may stay for Each alone.
+func (p *Plan) isFull(made *manifest.Made, stays bool) bool {
+	return !stays && p.keep.EachBytes > 0 && p.eachBytes+made.Bytes > p.keep.EachBytes
 }
 
 func (p *Plan) age(m *manifest.Manifest) time.Duration { return p.now.Sub(time.UnixMilli(m.At)) }

@@ -25,13 +25,16 @@ var (
 	ErrDamaged   = manifest.ErrDamaged
 )
 
-// Keep says which manifests Collect leaves in addition to the newest one. An earlier manifest stays if it is younger than Grace, or if all
-// three limits permit it; a limit of 0 is no limit. A body stays if a manifest names it or if it is younger than Grace. Grace must be longer
-// than any change takes, and than a gateway that stands still keeps its connection to the store.
+// Keep says which manifests Collect leaves in addition to the newest one. An earlier manifest stays if it is younger than Grace, if all of
+// Manifests, Age and Bytes permit it, or if Age permits it and it has one of the last changes of a bundle; a limit of 0 is no limit. A body stays
+// if a manifest that stays so names it, or if it is younger than Grace. Grace must be longer than any change takes, and than a gateway that stands
+// still keeps its connection to the store.
 type Keep struct {
 	Manifests int           // the newest ones
 	Age       time.Duration // of a manifest
 	Bytes     int64         // of the bodies that the newest manifest doesn't name
+	Each      int           // how many of the last changes of each bundle stay, whatever Manifests and Bytes say
+	EachBytes int64         // the most that stays only for Each
 	Grace     time.Duration
 }
 

@@ -50,8 +50,12 @@ func (s *Store) Collect(ctx context.Context, keep store.Keep) (removed int, err 
 		if err != nil {
 			return 0, false, err
 		}
-		if plan.First > 0 {
-			removed, err = s.delete(ctx, "h/"+app+"/", headKey(app, plan.First))
+		for _, one := range plan.Gone {
+			if err == nil {
+				var n int
+				n, err = s.delete(ctx, headKey(app, one.From), headKey(app, one.End))
+				removed += n
+			}
 		}
 		for d, modified := range bodies[app] {
 			if err == nil && !plan.Named[d] {

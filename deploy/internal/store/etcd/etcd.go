@@ -192,15 +192,24 @@ func (r reader) Heads(before int64, most int) (all []*manifest.Manifest, err err
 	return r.heads(newest+1, most)
 }
 
-// heads reads manifests whose revisions are the last ones before one. Revisions have no gaps, so a
-// server needn't read and sort more than these.
+// heads reads manifests whose revisions are the last ones before one. The last revisions have no gaps, so a server needn't read and sort more
+// than these; for earlier ones it reads more each time.
 func (r reader) heads(before int64, most int) (all []*manifest.Manifest, err error) {
-	first := before - int64(most)
-	if first < 0 {
-		first = 0
+	for size := int64(most); before > 0 && len(all) < most && err == nil; size *= 2 {
+		first := before - size
+		if first < 0 {
+			first = 0
+		}
+		all, err = r.appendHeads(all, first, before, most)
+		before = first
 	}
+	return all, err
+}
+
+// appendHeads adds the last manifests from one revision to before another, up to a number.
+func (r reader) appendHeads(all []*manifest.Manifest, first, before int64, most int) ([]*manifest.Manifest, error) {
 	got, err := r.get(r.ctx, headKey(r.app, first), clientv3.WithRange(headKey(r.app, before)),
-		clientv3.WithSort(clientv3.SortByKey, clientv3.SortDescend))
+		clientv3.WithSort(clientv3.SortByKey, clientv3.SortDescend), clientv3.WithLimit(int64(most-len(all))))
 	if err != nil {
 		return nil, err
 	}

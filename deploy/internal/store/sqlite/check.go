@@ -102,9 +102,9 @@ type checked struct {
 	damaged []blob // without which all bundles can be read
 }
 
-// check returns an error if the database is damaged. It reads all bodies of each application, and
-// compares them with what the newest manifest names, or all of them. A bundle of the newest one needs
-// one of its two bodies.
+// check returns an error if the database is damaged. It reads all bodies of each application, and compares them with what the newest manifest
+// names. A bundle of that one needs one of its two bodies. A whole database has all that the newest one names, no damaged body, and earlier
+// manifests that can be read.
 func check(db *sql.DB, whole bool) (*checked, error) {
 	found := &checked{}
 	if err := checkFile(db); err != nil {
@@ -162,23 +162,10 @@ func (c *checked) checkAll(db *sql.DB, apps []string, whole bool) (err error) {
 // checkApp compares the bodies of an application with what its manifests name.
 func (c *checked) checkApp(from reader, whole bool) error {
 	sound, err := c.bodiesOf(from)
-	var sweep manifest.Sweep
 	if err == nil {
+		var sweep manifest.Sweep
 		err = store.EachHead(from, func(m *manifest.Manifest) (more bool, err error) {
-			if !whole {
-				m.Erasure = nil // without what was erased all bundles can be read
-			}
-			bundles, err := sweep.Add(m, from.Page)
-			if err == nil && whole {
-				err = m.FillMade(from.Page)
-			}
-			for _, b := range bundles {
-				if err == nil && !sound[b.Digest] && (whole || !sound[b.File]) {
-					fault := fmt.Errorf("the bundle %s can't be read", b.Locale)
-					err = rowDamaged("bodies", fault, from.app, b.Digest)
-				}
-			}
-			return whole, err
+			return whole, checkHead(from, m, &sweep, sound, whole)
 		})
 	}
 	c.mu.Lock()
@@ -189,6 +176,37 @@ func (c *checked) checkApp(from reader, whole bool) error {
 		}
 	}
 	return err
+}
+
+// checkHead compares the bodies with what a manifest names, the newest one first. An earlier one may stay for some of what it made alone, without
+// its pages and its other bodies.
+func checkHead(from reader, m *manifest.Manifest, sweep *manifest.Sweep, sound map[manifest.Digest]bool, whole bool) error {
+	if !whole {
+		m.Erasure = nil // without what was erased all bundles can be read
+	}
+	isNewest := sweep.Named == nil
+	bundles, err := sweep.Add(m, from.Page)
+	if !isNewest && errors.Is(err, store.ErrNoBody) {
+		err = nil
+	}
+	if err == nil && whole {
+		err = m.FillMade(from.Page)
+		for _, made := range m.Made {
+			bundles = append(bundles, manifest.Bundle{Locale: made.Locale, Digest: made.Digest})
+		}
+	}
+	if err != nil {
+		return err
+	}
+	for _, b := range bundles {
+		is, there := sound[b.Digest]
+		isNeeded := there || isNewest && b.Digest != ""
+		if !is && isNeeded && (whole || !sound[b.File]) {
+			fault := fmt.Errorf("the bundle %s can't be read", b.Locale)
+			return rowDamaged("bodies", fault, from.app, b.Digest)
+		}
+	}
+	return nil
 }
 
 // bodiesOf compares the bodies of an application with their checksums. None is of a later change than the last one.

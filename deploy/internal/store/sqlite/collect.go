@@ -11,7 +11,7 @@ import (
 // A plan says what is removed of an application. It is made while others write: what they store again has a later number.
 type plan struct {
 	app     string
-	first   int64             // the earliest manifest that stays, or 0 if all do
+	gone    []store.Span      // manifests
 	unnamed []manifest.Digest // bodies, and pages
 	swaps   int64             // the number of the last change when it was made
 	isFinal bool
@@ -44,7 +44,7 @@ func (s *Store) Collect(ctx context.Context, keep store.Keep) (removed int, err 
 	return s.collector.Collect(apps, keep, func(app string) (removed int, isFinal bool, err error) {
 		p := &plan{app: app}
 		err = s.read(ctx, func(tx *sql.Tx) error { return p.make(tx, keep) })
-		if err == nil && (p.first > 0 || len(p.unnamed) > 0) {
+		if err == nil && len(p.gone)+len(p.unnamed) > 0 {
 			err = s.submit(ctx, &job{shrinks: true, wipes: p.wipes, do: func(t *transaction) (err error) {
 				removed, err = p.carryOut(t)
 				return err
@@ -63,7 +63,7 @@ func (p *plan) make(tx *sql.Tx, keep store.Keep) error {
 	if err != nil {
 		return err
 	}
-	p.first, p.isFinal, p.wipes = stay.First, stay.IsFinal, stay.IsErased
+	p.gone, p.isFinal, p.wipes = stay.Gone, stay.IsFinal, stay.IsErased
 	var d manifest.Digest
 	q := query{"select digest from bodies where app = ?", []any{p.app}}
 	return q.each(tx, func() error {
@@ -76,13 +76,21 @@ func (p *plan) make(tx *sql.Tx, keep store.Keep) error {
 
 // carryOut removes what was planned, except what was stored again.
 func (p *plan) carryOut(t *transaction) (removed int, err error) {
-	done, err := t.exec("delete from manifests where app = ? and revision < ?", p.app, p.first)
-	for i := 0; err == nil; i++ {
-		n, _ := done.RowsAffected()
-		if removed += int(n); i == len(p.unnamed) {
-			break
+	remove := func(query string, args ...any) {
+		if err != nil {
+			return
 		}
-		done, err = t.exec("delete from bodies where app = ? and digest = ? and swap <= ?", p.app, p.unnamed[i], p.swaps)
+		var done sql.Result
+		if done, err = t.exec(query, args...); err == nil {
+			n, _ := done.RowsAffected()
+			removed += int(n)
+		}
+	}
+	for _, one := range p.gone {
+		remove("delete from manifests where app = ? and revision >= ? and revision < ?", p.app, one.From, one.End)
+	}
+	for _, d := range p.unnamed {
+		remove("delete from bodies where app = ? and digest = ? and swap <= ?", p.app, d, p.swaps)
 	}
 	return removed, err
 }

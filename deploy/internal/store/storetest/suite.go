@@ -28,7 +28,7 @@ type Kind struct {
 func Suite(t *testing.T, fresh func(t *testing.T) Kind) {
 	for name, test := range map[string]func(*testing.T, Kind){
 		"Bodies": testBodies, "Conflicts": testConflicts, "Pages": testPages, "History": testHistory, "Erase": testErase, "Undo": testUndo, "Races": testRaces,
-		"Watch": testWatch, "Collect": testCollect, "CollectUnderWriters": testCollectUnderWriters, "Release": testRelease, "Copy": testCopy,
+		"Watch": testWatch, "Collect": testCollect, "CollectUnderWriters": testCollectUnderWriters, "Each": testEach, "Release": testRelease, "Copy": testCopy,
 		"GivenUp": testGivenUp, "Gone": testGone,
 	} {
 		t.Run(name, func(t *testing.T) { test(t, fresh(t)) })
@@ -438,6 +438,69 @@ func testCollect(t *testing.T, k Kind) {
 		last = Make(t, s, last, Put("l1", fmt.Sprintf("%01000d", i)))
 		Check(t, s, last)
 	}
+}
+
+// testEach collects after 300 releases of 20 bundles: the last three versions of each bundle stay, also of one that was edited before the
+// releases, and of one that was removed; and nothing else but the newest manifests.
+func testEach(t *testing.T, k Kind) {
+	s := k.Open(t)
+	now := Make(t, s, Empty("a"), Put("de", "one"), Put("en", "eins"))
+	for _, text := range []string{"two", "three", "four"} {
+		now = Make(t, s, now, Put("de", text))
+	}
+	now = Make(t, s, now, manifest.Edit{Locale: "en"})
+	release := func(n int) {
+		var edits []manifest.Edit
+		for i := 0; i < 20; i++ {
+			edits = append(edits, Put(fmt.Sprint("l", i), fmt.Sprint("release ", n, " of ", i)))
+		}
+		now = Make(t, s, now, edits...)
+	}
+	for n := 0; n < 300; n++ {
+		release(n)
+	}
+	versions := func() (all map[string]string) {
+		all = map[string]string{}
+		manifests, err := s.History(Ctx, "a", 0, 1000)
+		Must(t, err)
+		for _, m := range manifests {
+			for _, made := range m.Made {
+				b := manifest.Bundle{Digest: made.Digest, Bytes: made.Bytes}
+				if body, err := s.Body(Ctx, "a", b); made.Digest == "" || err == nil {
+					all[made.Locale] += fmt.Sprint(m.Revision, " ", string(body), ", ")
+				}
+			}
+		}
+		return all
+	}
+	collect := func(keep store.Keep) map[string]string {
+		t.Helper()
+		keep.Grace = k.Grace
+		_, err := s.Collect(Ctx, keep)
+		Must(t, err)
+		return versions()
+	}
+	is := func(got map[string]string, locale, want string) {
+		t.Helper()
+		if got[locale] != want {
+			t.Errorf("%s: %q, and not %q", locale, got[locale], want)
+		}
+	}
+	time.Sleep(2*k.Grace + 20*time.Millisecond)
+	keep := store.Keep{Manifests: 2, Each: 3, EachBytes: 2000}
+	for range []int{1, 2} { // the second one reads what the first one left
+		got := collect(keep)
+		is(got, "de", "4 four, 3 three, 2 two, ")
+		is(got, "en", "5 , 1 eins, ")
+		is(got, "l7", "305 release 299 of 7, 304 release 298 of 7, 303 release 297 of 7, ")
+	}
+	Check(t, s, now)
+	release(300)
+	time.Sleep(2*k.Grace + 20*time.Millisecond)
+	is(collect(store.Keep{Bytes: 1, Each: 1}), "de", "4 four, ")
+	is(collect(store.Keep{Manifests: 1, Each: 1, EachBytes: 3}), "de", "")
+	is(collect(store.Keep{Age: time.Millisecond, Each: 3}), "l7", "306 release 300 of 7, ")
+	Check(t, s, now)
 }
 
 // testCollectUnderWriters collects all the time while writers put, among few, bodies that may just be collected.
