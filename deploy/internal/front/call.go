@@ -79,6 +79,7 @@ type Call struct {
 	edits  []audited // what a change asked for
 	whole  bool      // its body was read
 	got    int       // bytes of the body
+	cut    bool      // it was refused before the body was read
 }
 
 // Values of headers, which nobody changes.
@@ -101,6 +102,7 @@ func (h *Handler) Inside() http.Handler {
 
 func (h *Handler) serve(w http.ResponseWriter, r *http.Request, answer func(*Call) error) {
 	c := &Call{Handler: h, W: w, R: r, Operation: &Other, began: time.Now()}
+	defer c.linger()
 	defer c.end()
 	head := w.Header()
 	head["X-Content-Type-Options"] = noSniff

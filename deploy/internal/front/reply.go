@@ -47,11 +47,26 @@ func (c *Call) refuse(err error) {
 	delete(h, "Etag")
 	if c.R.ContentLength != 0 && !c.whole {
 		h.Set("Connection", "close") // so that the caller gets the error at once, and not after the rest of its body
+		c.cut = p != wire.Slow && p != wire.CutOff
 	}
 	if h.Get("Retry-After") == "" && (p.Status == http.StatusServiceUnavailable || p.Status == http.StatusTooManyRequests) {
 		h.Set("Retry-After", "1")
 	}
-	_ = c.Write(p.Status, JSONType, append(convert.Marshal(p), '\n'))
+	body := append(convert.Marshal(p), '\n')
+	if c.cut {
+		h["Content-Length"] = []string{strconv.Itoa(len(body))} // which net/http doesn't find once it is flushed
+	}
+	_ = c.Write(p.Status, JSONType, body)
+	if flusher, can := c.W.(http.Flusher); c.cut && can {
+		flusher.Flush()
+	}
+}
+
+// linger reads on what the caller still sends of a body that was refused.
+func (c *Call) linger() {
+	if c.cut {
+		wire.Linger(c.R)
+	}
 }
 
 // Reply answers with a value as JSON that is true for the moment.

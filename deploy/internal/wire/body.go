@@ -60,6 +60,29 @@ func ReadBody(w http.ResponseWriter, r *http.Request, limit int64, takes time.Du
 	return body, CutOff
 }
 
+// What is read of a body after a response that refused it.
+const (
+	mostLingering = 256 << 20
+	lingerTime    = 30 * time.Second
+	lingerPause   = 2 * time.Second // between two parts
+)
+
+// Linger reads on what a caller still sends after its response: many read that only then, and lose it if the connection is closed before.
+func Linger(r *http.Request) {
+	conn, _ := r.Context().Value(connKey{}).(net.Conn)
+	if conn == nil || r.ProtoMajor != 1 {
+		return
+	}
+	part := make([]byte, 8<<10)
+	for end, got := time.Now().Add(lingerTime), 0; got < mostLingering && time.Now().Before(end); {
+		_ = conn.SetReadDeadline(time.Now().Add(lingerPause))
+		n, err := r.Body.Read(part)
+		if got += n; err != nil {
+			return
+		}
+	}
+}
+
 // readAll reads a body to its end.
 func readAll(from io.Reader, hold func(bytes int64) error) ([]byte, error) {
 	var body []byte

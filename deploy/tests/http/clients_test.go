@@ -2,6 +2,8 @@ package http
 
 import (
 	"context"
+	"fmt"
+	"io"
 	"net/http"
 	"net/http/httptest"
 	"os"
@@ -9,6 +11,8 @@ import (
 	"strconv"
 	"strings"
 	"testing"
+
+	"luvdregan.example/resb/deploy/tests/harness"
 )
 
 const clients = "../../../examples/clients/"
@@ -95,4 +99,38 @@ func TestTheClientsGiveUp(t *testing.T) {
 			})
 		}
 	}
+}
+
+// TestALargeBodyGetsItsAnswer through each client, also those that read it only once they have sent the whole body.
+func TestALargeBodyGetsItsAnswer(t *testing.T) {
+	s := beside(t)
+	const path = "/v1/shop/de.txt"
+	long := strings.Repeat("x", 24<<20)
+	file := fileOf(t, long)
+	for token, want := range map[string]string{shopWrites: "413", "nobody-0123456789-0123456789": "401"} {
+		is := func(what, got string, err error) {
+			t.Helper()
+			others := strings.Trim(strings.ReplaceAll(got, want, ""), "\n")
+			errorIf(t, err != nil || got == "" || others != "", "%s: %v %s, and not %s", what, err, got, want)
+		}
+		got, err := harness.Send(harness.Client, "PUT", s.URL+path, token, long)
+		is("Go", fmt.Sprint(got.Status), err)
+		chunked, _ := http.NewRequest("PUT", s.URL+path, io.MultiReader(strings.NewReader(long)))
+		chunked.Header.Set("Authorization", "Bearer "+token)
+		answer, err := http.DefaultClient.Do(chunked)
+		if err == nil {
+			got.Status = answer.StatusCode
+			_ = answer.Body.Close()
+		}
+		is("Go, chunked", fmt.Sprint(got.Status), err)
+		for what, arguments := range map[string][]string{"python3": {"testdata/large.py"}, "node": {"testdata/large.mjs"}} {
+			text, err := client(t, what, append(arguments, s.Address, path, token, file)...)
+			is(what, text, err)
+		}
+		for _, expect := range []string{"Expect:", "Expect: 100-continue"} {
+			text, err := client(t, "curl", "-s", "-o", "/dev/null", "-w", "%{http_code}", "-H", expect, "-H", "Authorization: Bearer "+token, "-T", file, s.URL+path)
+			is("curl "+expect, text, err)
+		}
+	}
+	s.rest()
 }
