@@ -165,7 +165,7 @@ async function tryLookups(bundles) {
   }
   const { text, tag } = await bundles.bundle("de");
   try {
-    await bundles.put("de", text, '"other"');
+    await bundles.put("de", text + "\n", '"other"');
   } catch (error) {
     console.log(error.message);
   }

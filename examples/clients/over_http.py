@@ -157,7 +157,7 @@ def try_lookups(bundles):
         print(refused, "in line", refused.reply.get("line"))
     text, tag = bundles.bundle("de")
     try:
-        bundles.put("de", text, '"other"')
+        bundles.put("de", text + "\n", '"other"')
     except Refused as refused:
         print(refused)
     print(bundles.put("de", text, tag) == tag)

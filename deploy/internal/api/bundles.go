@@ -34,7 +34,7 @@ func render(c *call, b manifest.Bundle, form wire.Form) error {
 	if form.Kind == b.Kind {
 		suffix = ""
 	}
-	if !wire.ConditionsOf(http.Header{"If-Match": c.R.Header["If-Match"]}).Hold(&b) {
+	if !wire.ConditionsOf(http.Header{"If-Match": c.R.Header["If-Match"]}).Hold(&b, "") {
 		return wire.Unmet
 	}
 	tag, has := wire.Has(c.R, wire.BundleTag(b.Digest, suffix))

@@ -92,7 +92,7 @@ func put(c *call) error {
 	given := payloadOf(c, c.Parts[0])
 	c.Asked(given.locale, nil)
 	edit := replica.Edit{}
-	edit.If, edit.MustBeAbsent = condition(c), c.R.Method == http.MethodPost
+	edit.If, edit.MustBeAbsent = condition(c, &edit), c.R.Method == http.MethodPost
 	if err := readPut(c, &given, &edit); err != nil {
 		return err
 	}
@@ -104,8 +104,8 @@ func put(c *call) error {
 	return makeEdit(c, "put", &edit, given.otherName())
 }
 
-// readPut reads the bundle of a PUT or POST. If its condition doesn't hold it is refused before the body is sent, unless the gateway may be
-// behind another one.
+// readPut reads the bundle of a PUT or POST. If its condition doesn't hold it is refused before the body is sent, unless that may be what is there,
+// or the gateway may be behind another one.
 func readPut(c *call, given *payload, edit *replica.Edit) (err error) {
 	if err := given.accept(c); err != nil {
 		return err
@@ -113,7 +113,9 @@ func readPut(c *call, given *payload, edit *replica.Edit) (err error) {
 	if edit.Locale, err = localeIn(given.locale); err != nil {
 		return err
 	}
-	if now := c.Backend.Now(c.App); edit.If != nil && c.Options.Alone && !edit.If(now.Find(edit.Locale)) {
+	now := c.Backend.Now(c.App)
+	b := now.Find(edit.Locale)
+	if edit.If != nil && c.Options.Alone && !edit.If(b) && (b == nil || b.Bytes != c.R.ContentLength) {
 		c.Tell(now.Revision)
 		return wire.Unmet
 	}
@@ -136,12 +138,13 @@ func localeIn(given string) (string, error) {
 	return "", wire.BadLocale
 }
 
-// condition returns the condition of the request for a bundle, or nil.
-func condition(c *call) func(*manifest.Bundle) bool {
-	if given := wire.ConditionsOf(c.R.Header); given.Any() {
-		return given.Hold
+// condition returns the condition of the request for the bundle that an edit changes, or nil.
+func condition(c *call, edit *replica.Edit) func(*manifest.Bundle) bool {
+	given := wire.ConditionsOf(c.R.Header)
+	if !given.Any() {
+		return nil
 	}
-	return nil
+	return func(now *manifest.Bundle) bool { return given.Hold(now, edit.Digest) }
 }
 
 // prepare reads and checks the bundle of an edit, once it is the turn of the application.
@@ -158,12 +161,7 @@ func prepareNow(edit *replica.Edit, kind string, body []byte) (err error) {
 }
 
 // change has a change made. It tells the revision that it made, or against which it was judged.
-func change(c *call, op string, make func(context.Context, *replica.View) ([]replica.Edit, error)) (made *manifest.Manifest, same bool, err error) {
-	return request(c, replica.Request{Op: op, Make: make})
-}
-
-// request does what change does for any request, which it completes.
-func request(c *call, q replica.Request) (made *manifest.Manifest, same bool, err error) {
+func change(c *call, q replica.Request) (made *manifest.Manifest, same bool, err error) {
 	q.App, q.Who = c.App, c.Who.Name()
 	q.IsGone = func() bool { return c.R.Context().Err() != nil }
 	maker := c.Tokens.Maker(c.Who)
@@ -179,7 +177,9 @@ func request(c *call, q replica.Request) (made *manifest.Manifest, same bool, er
 
 // makeEdit has one edit made.
 func makeEdit(c *call, op string, edit *replica.Edit, warning string) error {
-	made, same, err := change(c, op, func(context.Context, *replica.View) ([]replica.Edit, error) { return []replica.Edit{*edit}, nil })
+	made, same, err := change(c, replica.Request{Op: op, Make: func(context.Context, *replica.View) ([]replica.Edit, error) {
+		return []replica.Edit{*edit}, nil
+	}})
 	if err != nil {
 		return err
 	}
@@ -209,7 +209,7 @@ func done(c *call, edit *replica.Edit, isNew bool, warning string) error {
 func remove(c *call) (err error) {
 	c.Asked(c.Parts[0], nil)
 	edit := replica.Edit{}
-	edit.If = condition(c)
+	edit.If = condition(c, &edit)
 	if edit.Locale, err = localeIn(c.Parts[0]); err != nil {
 		return err
 	}

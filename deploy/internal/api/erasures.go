@@ -15,7 +15,7 @@ func erase(c *call) error {
 	if asked[0] != "now" {
 		q.Undoable = c.Options.EraseAfter
 	}
-	if _, _, err := request(c, q); err != nil {
+	if _, _, err := change(c, q); err != nil {
 		return err
 	}
 	return done(c, &replica.Edit{}, false, "")
@@ -23,7 +23,7 @@ func erase(c *call) error {
 
 // undoErase makes what the last erasure removed, except bundles that are there again.
 func undoErase(c *call) error {
-	if _, _, err := request(c, replica.Request{Op: "undo", Undo: true}); err != nil {
+	if _, _, err := change(c, replica.Request{Op: "undo", Undo: true}); err != nil {
 		return err
 	}
 	return done(c, &replica.Edit{}, false, "")

@@ -24,11 +24,12 @@ const (
 	someHistory  = 100
 )
 
-// A version is a change in the reply to a request for the history. Its number is that of the manifest, times the most changes of one, and its
-// place among them.
+// A version is what a change did to one bundle, in the reply to a request for the history. Its number is that of the manifest, times the most
+// changes of one, and its place among them.
 type version struct {
 	At       string `json:"at"`
 	Bytes    int64  `json:"bytes"`
+	Change   string `json:"change"`
 	ID       int64  `json:"id"`
 	Kept     bool   `json:"kept"`
 	Locale   string `json:"locale"`
@@ -42,7 +43,17 @@ func versionOf(m *manifest.Manifest, place int) version {
 	made := m.Made[place]
 	sum, _ := base64.RawURLEncoding.DecodeString(string(made.Digest)) // a digest of a manifest is valid
 	at := time.UnixMilli(m.At).UTC().Format(time.RFC3339Nano)
-	return version{at, made.Bytes, m.Revision*release.Most + int64(place), true, made.Locale, made.Op, m.Revision, hex.EncodeToString(sum), m.Who}
+	return version{at, made.Bytes, m.Op, m.Revision*release.Most + int64(place), true, made.Locale, made.Op, m.Revision, hex.EncodeToString(sum), m.Who}
+}
+
+// A group is a change with all that it did, in the reply to a request for the history by changes.
+type group struct {
+	At       string    `json:"at"`
+	Bundles  []version `json:"bundles"`
+	Change   string    `json:"change"`
+	ID       int64     `json:"id"`
+	Revision int64     `json:"revision"`
+	Token    string    `json:"token"`
 }
 
 // number reads a number of the query.
@@ -57,75 +68,112 @@ func number(c *call, name string, usual, most int64) (int64, error) {
 	return n, nil
 }
 
+// A listing is what a request for the history asks for.
+type listing struct {
+	before   int64  // only what has a lower number, unless it is 0
+	locale   string // only of this one, unless it is ""
+	most     int
+	byChange bool
+	versions []version
+	groups   []group
+}
+
 // history answers with the last changes of the application.
 func history(c *call) error {
 	most, err := number(c, "last", usualHistory, mostHistory)
 	if err != nil {
 		return err
 	}
-	before, err := number(c, "before", 0, math.MaxInt64)
-	if err != nil {
+	l := listing{locale: c.Query.Get("locale"), most: int(most), versions: []version{}, groups: []group{}}
+	if l.before, err = number(c, "before", 0, math.MaxInt64); err != nil {
 		return err
 	}
-	locale := c.Query.Get("locale")
-	if name, ok := names.Canonical(locale); ok && locale != "" {
-		locale = name
+	by := c.Query.Get("by")
+	if l.byChange = by == "change"; by != "" && !l.byChange {
+		return wire.BadQuery
 	}
-	if err := c.Permit(auth.Edit, locale); err != nil {
+	if name, ok := names.Canonical(l.locale); ok && l.locale != "" {
+		l.locale = name
+	}
+	if err := c.Permit(auth.Edit, l.locale); err != nil {
 		return err
 	}
 	c.W.Header()["Resb-Revision"] = c.Backend.Now(c.App).Header()
-	all := []version{}
-	err = c.Work(c.Context(), func() (err error) {
-		all, err = versions(c, locale, before, int(most))
-		return err
-	})
-	if err != nil {
+	if err = c.Work(c.Context(), func() error { return l.read(c) }); err != nil {
 		return err
 	}
-	return c.Reply(map[string][]version{"history": all})
+	if l.byChange {
+		return c.Reply(map[string][]group{"history": l.groups})
+	}
+	return c.Reply(map[string][]version{"history": l.versions})
 }
 
-// versions returns the last changes before one, or all if that is 0, of a locale unless that is "".
-func versions(c *call, locale string, before int64, most int) ([]version, error) {
-	all := []version{}
+// read reads the last changes, the newest first.
+func (l *listing) read(c *call) error {
 	from := int64(0) // a revision, for the store
-	if before > 0 {
-		from = before/release.Most + 1
+	if l.before > 0 {
+		from = l.before/release.Most + 1
 	}
-	for len(all) < most {
+	for !l.isFull() {
 		some, err := c.Backend.History(c.Context(), c.App, from, someHistory)
 		if err != nil {
-			return nil, err
+			return err
 		}
-		for _, m := range some {
-			for i := len(m.Made) - 1; i >= 0 && len(all) < most; i-- {
-				v := versionOf(m, i)
-				if (before == 0 || v.ID < before) && (locale == "" || locale == v.Locale) {
-					all = append(all, v)
-				}
-			}
-			from = m.Revision
+		for i := 0; i < len(some) && !l.isFull(); i++ {
+			l.add(some[i])
+			from = some[i].Revision
 		}
 		if len(some) < someHistory || from <= 1 {
 			break
 		}
 	}
-	return all, nil
+	return nil
 }
 
-// find returns the bundle after a change of the history, which has no digest if the change removed it.
-func find(c *call, id int64) (b manifest.Bundle, err error) {
+// isFull returns true if the listing has enough. One by changes ends after as many bundles as a release may have.
+func (l *listing) isFull() bool {
+	if l.byChange {
+		return len(l.groups) >= l.most || len(l.versions) >= release.Most
+	}
+	return len(l.versions) >= l.most
+}
+
+// add adds what a manifest has of what is asked for, the last one first.
+func (l *listing) add(m *manifest.Manifest) {
+	begin := len(l.versions)
+	for i := len(m.Made) - 1; i >= 0 && (l.byChange || !l.isFull()); i-- {
+		v := versionOf(m, i)
+		if (l.before == 0 || v.ID < l.before) && (l.locale == "" || l.locale == v.Locale) {
+			l.versions = append(l.versions, v)
+		}
+	}
+	if made := l.versions[begin:]; len(made) > 0 {
+		last := made[len(made)-1]
+		l.groups = append(l.groups, group{last.At, made, last.Change, last.ID, last.Revision, last.Token})
+	}
+}
+
+// changeOf returns the manifest that a change of the history made, and its place in that.
+func changeOf(c *call, id int64) (m *manifest.Manifest, place int, err error) {
 	some, err := c.Backend.History(c.Context(), c.App, id/release.Most+1, 1)
-	place := int(id % release.Most)
+	place = int(id % release.Most)
 	if err == nil && (id < 0 || len(some) == 0 || some[0].Revision != id/release.Most || place >= len(some[0].Made)) {
 		err = store.ErrNoVersion
 	}
 	if err != nil {
+		return nil, 0, err
+	}
+	return some[0], place, nil
+}
+
+// find returns the bundle after a change of the history, which has no digest if the change removed it.
+func find(c *call, id int64) (b manifest.Bundle, err error) {
+	m, place, err := changeOf(c, id)
+	if err != nil {
 		return b, err
 	}
-	made := some[0].Made[place]
-	b = manifest.Bundle{Locale: made.Locale, Digest: made.Digest, Kind: made.Kind, Bytes: made.Bytes, Compiled: made.Compiled, At: some[0].At}
+	made := m.Made[place]
+	b = manifest.Bundle{Locale: made.Locale, Digest: made.Digest, Kind: made.Kind, Bytes: made.Bytes, Compiled: made.Compiled, At: m.At}
 	return b, c.Permit(auth.Edit, made.Locale)
 }
 
@@ -206,19 +254,62 @@ func restore(c *call) error {
 	if err != nil {
 		return err
 	}
-	c.Asked(b.Locale, nil)
 	edit := replica.Edit{}
-	edit.If, edit.Locale = condition(c), b.Locale
+	edit.If = condition(c, &edit)
 	defer func() { edit.Bundle.Discard() }()
-	if b.Digest != "" { // it is no removal
-		body, err := load(c, b)
-		if err == nil {
-			c.Asked(b.Locale, body)
-			err = prepare(c, &edit, payload{b.Locale, b.Kind, body})
-		}
-		if err != nil {
-			return err
-		}
+	if err := prepareStored(c, &edit, b); err != nil {
+		return err
 	}
 	return makeEdit(c, "restore", &edit, "")
+}
+
+// prepareStored makes the edit that brings back a version, or without a digest removes the bundle.
+func prepareStored(c *call, edit *replica.Edit, b manifest.Bundle) error {
+	edit.Locale = b.Locale
+	if c.Asked(b.Locale, nil); b.Digest == "" {
+		return nil
+	}
+	body, err := load(c, b)
+	if err != nil {
+		return err
+	}
+	c.Asked(b.Locale, body)
+	return prepare(c, edit, payload{b.Locale, b.Kind, body})
+}
+
+// undo takes back a change of the history, such as a release: each of its bundles becomes what it was before, unless one was changed since.
+func undo(c *call) error {
+	id, err := idOf(c.Parts[1])
+	if err != nil {
+		return err
+	}
+	m, _, err := changeOf(c, id)
+	if err != nil {
+		return err
+	}
+	edits := make([]replica.Edit, len(m.Made))
+	defer discard(edits)
+	for i := range m.Made {
+		if err := takeBack(c, &edits[i], &m.Made[i]); err != nil {
+			return named(err, m.Made[i].Locale)
+		}
+	}
+	return makeAll(c, "undo", edits, func(locale string) string { return locale })
+}
+
+// takeBack makes the edit that takes back what a change did to a bundle, if that still is what the change made.
+func takeBack(c *call, edit *replica.Edit, made *manifest.Made) error {
+	if err := c.Permit(auth.Edit, made.Locale); err != nil {
+		return err
+	}
+	was := manifest.Bundle{Locale: made.Locale}
+	if of := made.Was; of != nil {
+		was.Digest, was.Kind, was.Bytes, was.Compiled = of.Digest, of.Kind, of.Bytes, of.Compiled
+	} else if made.Op != manifest.Install { // an earlier version of the gateway stored it
+		return store.ErrNoVersion
+	}
+	edit.If = func(now *manifest.Bundle) bool {
+		return now == nil && made.Digest == "" || now != nil && now.Digest == made.Digest
+	}
+	return prepareStored(c, edit, was)
 }

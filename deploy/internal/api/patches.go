@@ -42,8 +42,8 @@ func patch(c *call) error {
 func makePatch(c *call, locale string, patch []byte) error {
 	var edit replica.Edit
 	defer func() { edit.Bundle.Discard() }()
-	holds, before := condition(c), c.Ticket.Held()
-	_, _, err := change(c, "patch", func(ctx context.Context, now *replica.View) ([]replica.Edit, error) {
+	holds, before := condition(c, &edit), c.Ticket.Held()
+	_, _, err := change(c, replica.Request{Op: "patch", Make: func(ctx context.Context, now *replica.View) ([]replica.Edit, error) {
 		edit.Bundle.Discard()
 		c.Ticket.Free(before)
 		edit = replica.Edit{}
@@ -57,7 +57,7 @@ func makePatch(c *call, locale string, patch []byte) error {
 		}
 		err := c.Work(ctx, func() error { return merge(c, &edit, *b, patch) })
 		return []replica.Edit{edit}, err
-	})
+	}})
 	if err != nil {
 		return err
 	}

@@ -4,6 +4,7 @@ import (
 	"context"
 	"errors"
 	"mime"
+	"strconv"
 
 	"luvdregan.example/resb/deploy/internal/auth"
 	"luvdregan.example/resb/deploy/internal/convert"
@@ -21,11 +22,7 @@ func makeRelease(c *call) error {
 		return err
 	}
 	edits := make([]replica.Edit, len(entries))
-	defer func() {
-		for _, e := range edits {
-			e.Bundle.Discard()
-		}
-	}()
+	defer discard(edits)
 	byLocale := map[string]string{}
 	for i, e := range entries {
 		byLocale[e.Locale] = e.Name
@@ -33,15 +30,34 @@ func makeRelease(c *call) error {
 			return named(err, e.Name)
 		}
 	}
-	_, _, err = change(c, "release", func(_ context.Context, now *replica.View) ([]replica.Edit, error) { return needed(edits, now), nil })
+	return makeAll(c, "release", edits, func(locale string) string { return byLocale[locale] })
+}
+
+func discard(edits []replica.Edit) {
+	for _, e := range edits {
+		e.Bundle.Discard()
+	}
+}
+
+// makeAll has edits made, all or none, if the application has the revision that the request names, or if all are made already. A function names
+// the edit of a locale for its refusal.
+func makeAll(c *call, op string, edits []replica.Edit, nameOf func(locale string) string) error {
+	_, _, err := change(c, replica.Request{Op: op, Make: func(_ context.Context, now *replica.View) ([]replica.Edit, error) {
+		left := needed(edits, now)
+		given := c.R.Header["If-Match"]
+		if len(left) > 0 && len(given) > 0 && !wire.IsOneOf(strconv.Quote(now.Header()[0]), given) {
+			return nil, &manifest.Refusal{Code: manifest.Unmet}
+		}
+		return left, nil
+	}})
 	var refusal *manifest.Refusal
 	if errors.As(err, &refusal) {
-		return named(err, byLocale[refusal.Locale])
+		return named(err, nameOf(refusal.Locale))
 	}
 	if err != nil {
 		return err
 	}
-	return c.Reply(map[string]any{"changes": len(entries), "ok": true})
+	return c.Reply(map[string]any{"changes": len(edits), "ok": true})
 }
 
 // named returns the problem of an entry of a release.
@@ -83,6 +99,10 @@ func prepareEntry(c *call, edit *replica.Edit, e release.Entry) (err error) {
 	if err := c.Permit(auth.Release, e.Locale); err != nil {
 		return err
 	}
+	if e.If != nil {
+		holds := wire.ConditionsOf(e.If)
+		edit.If = func(now *manifest.Bundle) bool { return holds.Hold(now, "") }
+	}
 	if edit.Locale = e.Locale; e.Kind == "" {
 		return nil
 	}
@@ -96,11 +116,15 @@ func prepareEntry(c *call, edit *replica.Edit, e release.Entry) (err error) {
 	return nil
 }
 
-// needed returns edits without the removals of what isn't there, so that a release may be repeated.
+// needed returns the edits that aren't made yet, so that a release may be repeated. Only these have conditions.
 func needed(edits []replica.Edit, now *replica.View) []replica.Edit {
 	all := make([]replica.Edit, 0, len(edits))
 	for _, e := range edits {
-		if e.Kind != "" || now.Find(e.Locale) != nil {
+		is := manifest.Digest("")
+		if b := now.Find(e.Locale); b != nil {
+			is = b.Digest
+		}
+		if is != e.Digest {
 			all = append(all, e)
 		}
 	}

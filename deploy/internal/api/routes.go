@@ -56,7 +56,7 @@ var addresses = []front.Address{
 	}},
 	{Pattern: "/_releases", Operations: []front.Operation{
 		{Method: "POST", ID: "release", Summary: "Makes several changes, all or none.", Right: auth.Release, AnyLocale: true,
-			Kind: front.KindChange, Action: "release", Do: makeRelease, Takes: release.Types, Gives: asJSON, Statuses: []int{200, 404, 408, 409, 413, 415, 507}},
+			Kind: front.KindChange, Action: "release", Do: makeRelease, Takes: release.Types, Gives: asJSON, Statuses: []int{200, 404, 408, 409, 412, 413, 415, 507}},
 	}},
 	{Pattern: "/_check/{locale}", Operations: []front.Operation{
 		{Method: "POST", ID: "check", Summary: "Returns the error and the warnings of a bundle, and stores nothing.", Right: auth.Read,
@@ -64,7 +64,7 @@ var addresses = []front.Address{
 	}},
 	{Pattern: "/_history", Operations: []front.Operation{
 		{Method: "GET", ID: "history", Summary: "Returns the last changes, the newest first.", Right: auth.Edit, AnyLocale: true, Kind: front.KindHistory,
-			Do: history, Gives: asJSON, Statuses: []int{200}, Query: []string{"last", "before", "of"}},
+			Do: history, Gives: asJSON, Statuses: []int{200}, Query: []string{"last", "before", "of", "by"}},
 	}},
 	{Pattern: "/_history/{id}", Operations: []front.Operation{
 		{Method: "GET", ID: "version", Forms: "getVersion", Summary: "Returns the bundle as it was after a change.", Right: auth.Edit, AnyLocale: true,
@@ -77,6 +77,10 @@ var addresses = []front.Address{
 	{Pattern: "/_history/{id}/restore", Operations: []front.Operation{
 		{Method: "POST", ID: "restore", Summary: "Makes the bundle what it was after a change.", Right: auth.Edit, AnyLocale: true,
 			Kind: front.KindChange, Action: "restore", Do: restore, Gives: asJSON, Statuses: []int{200, 201, 404, 409, 412, 507}},
+	}},
+	{Pattern: "/_history/{id}/undo", Operations: []front.Operation{
+		{Method: "POST", ID: "undo", Summary: "Takes back a whole change, such as a release: each of its bundles becomes what it was before.",
+			Right: auth.Edit, AnyLocale: true, Kind: front.KindChange, Action: "undo", Do: undo, Gives: asJSON, Statuses: []int{200, 404, 409, 412, 507}},
 	}},
 	{Pattern: "/{locale}", Operations: []front.Operation{
 		{Method: "GET", ID: "lookRoot", Forms: "get", Summary: "Returns the bundle's table; with .txt, .res or .json the bundle; with ?tree all that it inherits.",

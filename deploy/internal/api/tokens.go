@@ -73,7 +73,7 @@ func makeToken(c *call) error {
 	}
 	made := madeTokenOf(auth.MadeBy(line, c.Who))
 	c.TokenID, made.Token = made.ID, token
-	_, _, err = request(c, replica.Request{Op: "token", Tokens: func(now []string) ([]string, string) {
+	_, _, err = change(c, replica.Request{Op: "token", Tokens: func(now []string) ([]string, string) {
 		switch {
 		case len(now) >= mostTokens:
 			return nil, manifest.Full
@@ -102,7 +102,7 @@ func findToken(lines []string, is func(madeToken) bool) int {
 // revokeToken removes a token that an owner made.
 func revokeToken(c *call) error {
 	c.TokenID = c.Parts[1]
-	_, _, err := request(c, replica.Request{Op: "revoke", Tokens: func(now []string) ([]string, string) {
+	_, _, err := change(c, replica.Request{Op: "revoke", Tokens: func(now []string) ([]string, string) {
 		at := findToken(now, func(m madeToken) bool { return m.ID == c.TokenID })
 		if at < 0 {
 			return nil, manifest.Absent

@@ -122,7 +122,7 @@ func (d *draft) make(e *Edit, c *Change, l Limits) string {
 		return Unmet
 	}
 	b := Bundle{e.Locale, e.Digest, e.Kind, int64(len(e.Body)), e.Compiled, e.File, c.At, c.Who, 0}
-	made := Made{Install, e.Locale, e.Digest, e.Kind, b.Bytes, b.Compiled}
+	made := Made{Install, e.Locale, e.Digest, e.Kind, b.Bytes, b.Compiled, old.version()}
 	switch {
 	case e.MustBeAbsent && there:
 		return Exists
@@ -132,7 +132,7 @@ func (d *draft) make(e *Edit, c *Change, l Limits) string {
 		d.count(old, -1)
 		old.Locale = ""
 		d.place[e.Locale] = -1
-		made = Made{Op: Remove, Locale: e.Locale}
+		made = Made{Op: Remove, Locale: e.Locale, Was: made.Was}
 	case !there && l.Bundles > 0 && d.bundles >= l.Bundles:
 		return Full
 	case !there:
@@ -167,9 +167,17 @@ func (d *draft) bring(now *Manifest, bundles []Bundle, l Limits) string {
 		b.Order = d.Orders
 		d.count(&b, 1)
 		d.Bundles = append(d.Bundles, b)
-		d.Made = append(d.Made, Made{Install, b.Locale, b.Digest, b.Kind, b.Bytes, b.Compiled})
+		d.Made = append(d.Made, Made{Install, b.Locale, b.Digest, b.Kind, b.Bytes, b.Compiled, nil})
 	}
 	return ""
+}
+
+// version returns what a bundle is, as Made has it, or nil if there is none.
+func (b *Bundle) version() *Made {
+	if b == nil {
+		return nil
+	}
+	return &Made{Digest: b.Digest, Kind: b.Kind, Bytes: b.Bytes, Compiled: b.Compiled}
 }
 
 // count adds a bundle to the sums, or takes it off.

@@ -45,12 +45,13 @@ const (
 
 // A Made is what a change did to the bundle of one locale. A removal has no digest.
 type Made struct {
-	Op       string `json:"op"`
-	Locale   string `json:"l"`
+	Op       string `json:"op,omitempty"`
+	Locale   string `json:"l,omitempty"`
 	Digest   Digest `json:"d,omitempty"`
 	Kind     string `json:"k,omitempty"`
 	Bytes    int64  `json:"b,omitempty"`
 	Compiled int64  `json:"c,omitempty"`
+	Was      *Made  `json:"w,omitempty"` // the bundle before, without its locale; nil if there was none
 }
 
 // A Manifest is an application at one revision. It never changes: a change makes the next one, whose revision is one more. Revision 0 is the

@@ -11,6 +11,7 @@ import (
 	"errors"
 	"fmt"
 	"io"
+	"net/http"
 	"path"
 	"strings"
 	"unicode/utf8"
@@ -22,10 +23,12 @@ import (
 // Most is the most changes of a release: as many as an application may have bundles.
 const Most = 4096
 
-// An Entry is a change of a release. Without a kind it removes. Name is what callers know it by.
+// An Entry is a change of a release. Without a kind it removes. Name is what callers know it by. If has its condition as the headers of a request
+// for the bundle alone, or is nil.
 type Entry struct {
 	Name, Locale, Kind string
 	Body               []byte
+	If                 http.Header
 }
 
 // A Bad is the error of a release that can't be read.
@@ -156,7 +159,7 @@ func (r *reader) zip(body []byte) error {
 	return nil
 }
 
-// lines reads objects with `locale`, and `text`, `file` in hexadecimal, or `remove`.
+// lines reads objects with `locale`, and `text`, `file` in hexadecimal, or `remove`; and perhaps `if`.
 func (r *reader) lines(body []byte) error {
 	lines := bufio.NewReader(bytes.NewReader(body))
 	for n := 1; ; n++ {
@@ -201,6 +204,9 @@ func (r *reader) line(name string, text []byte) error {
 		return &Bad{name, "it needs locale, and one of text, file and remove"}
 	}
 	e.Locale = strings.ToValidUTF8(*one.Locale, "\uFFFD")
+	if e.If, err = conditionOf(one.If); err != nil {
+		return &Bad{name, err.Error()}
+	}
 	return r.add(e)
 }
 
@@ -208,6 +214,21 @@ func (r *reader) line(name string, text []byte) error {
 type line struct {
 	Locale, Text, File *string
 	Remove             bool
+	If                 json.RawMessage
+}
+
+// conditionOf reads the member `if`: the tag that the bundle must have, or null if there must be none.
+func conditionOf(value json.RawMessage) (http.Header, error) {
+	var tag *string
+	switch err := json.Unmarshal(value, &tag); {
+	case value == nil:
+		return nil, nil
+	case err == nil && tag == nil:
+		return http.Header{"If-None-Match": {"*"}}, nil
+	case err == nil && (*tag == "*" || len(*tag) > 1 && strings.HasPrefix(*tag, `"`) && strings.HasSuffix(*tag, `"`)):
+		return http.Header{"If-Match": {*tag}}, nil
+	}
+	return nil, errors.New("if is null, or a tag with its quotes")
 }
 
 // lineOf reads a line. Each member is there at most once, with its own name: encoding/json would take the last one of several, and names in
@@ -217,7 +238,7 @@ func lineOf(text []byte) (one line, err error) {
 	if token, err := from.Token(); err != nil || token != json.Delim('{') {
 		return one, errors.New("it is no object of JSON")
 	}
-	members := map[string]any{"locale": &one.Locale, "text": &one.Text, "file": &one.File, "remove": &one.Remove}
+	members := map[string]any{"locale": &one.Locale, "text": &one.Text, "file": &one.File, "remove": &one.Remove, "if": &one.If}
 	for from.More() {
 		token, err := from.Token()
 		name, _ := token.(string)

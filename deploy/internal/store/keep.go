@@ -27,6 +27,7 @@ type Plan struct {
 
 // undoTime is how long what was erased stays after its time, as undoing it may have begun before.
 const undoTime = 15 * time.Minute
+
 // A Span has revisions, from one to before another.
 type Span struct{ From, End int64 }
 

@@ -105,8 +105,9 @@ func ConditionsOf(h http.Header) (c Conditions) {
 // Any returns true if there are conditions.
 func (c Conditions) Any() bool { return len(c.match) > 0 || len(c.noneMatch) > 0 || !c.since.IsZero() }
 
-// Hold returns true if all conditions hold for a bundle, or for nil if there is none.
-func (c Conditions) Hold(now *manifest.Bundle) bool {
+// Hold returns true if all conditions hold for a bundle, or for nil if there is none. If it is what the change makes, the tag and the date needn't
+// be its own: the answer of that change may have been lost (RFC 9110, 13.1.1).
+func (c Conditions) Hold(now *manifest.Bundle, made manifest.Digest) bool {
 	one := func(all []string) bool {
 		for _, tag := range all {
 			if now != nil && (tag == "*" || isTagOf(tag, now)) {
@@ -116,7 +117,11 @@ func (c Conditions) Hold(now *manifest.Bundle) bool {
 		return false
 	}
 	switch {
-	case len(c.match) > 0 && !one(c.match), one(c.noneMatch):
+	case one(c.noneMatch):
+		return false
+	case now != nil && now.Digest == made:
+		return true
+	case len(c.match) > 0 && !one(c.match):
 		return false
 	case !c.since.IsZero() && (now == nil || At(now).Truncate(time.Second).After(c.since)):
 		return false

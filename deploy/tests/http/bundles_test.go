@@ -21,6 +21,13 @@ func TestConditionsOfChanges(t *testing.T) {
 	s.script("ConditionsOfChanges", "tag", tag, "future", future)
 }
 
+// TestLostAnswers sends changes again that were made: they aren't conflicts, and make no second version.
+func TestLostAnswers(t *testing.T) {
+	s := beside(t)
+	s.script("LostAnswers", "tag", s.put("de", `de{a{"A"}}`).Tag())
+	equal(t, len(s.past("")), 2, "versions")
+}
+
 // TestTagsOfBundles change with the bytes of the bundle, in each form.
 func TestTagsOfBundles(t *testing.T) {
 	s := beside(t)
