@@ -379,6 +379,21 @@ func (b *Bundles) LookWithin(app, locale, path string, steps uint64) (any, error
 	})
 }
 
+// Valid returns the first bundle on the trail of a locale, which is ICU's valid locale of all that is found there.
+func (b *Bundles) Valid(app, locale string) (string, error) {
+	a, an := textOf(app)
+	l, ln := textOf(locale)
+	p, pn := textOf("")
+	var origin C.resb_origin
+	_, err := b.value(func(h *C.resb, found *C.resb_found) C.uint32_t {
+		return C.resb_look_origin(h, a, an, l, ln, p, pn, found, &origin)
+	})
+	if err != nil {
+		return "", err
+	}
+	return C.GoString(&origin.valid[0]), nil
+}
+
 // value returns what a lookup finds.
 func (b *Bundles) value(look func(handle *C.resb, found *C.resb_found) C.uint32_t) (value any, err error) {
 	err = b.with(func(h *C.resb) C.uint32_t {

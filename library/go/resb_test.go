@@ -44,6 +44,12 @@ func TestLook(t *testing.T) {
 	if got, err := b.Key("shop", "de", "menu", 0); got != "close" || err != nil {
 		t.Error(got, err)
 	}
+	if got, err := b.Valid("shop", "de_AT"); got != "de" || err != nil {
+		t.Error(got, err)
+	}
+	if _, err := b.Valid("shop", "fr"); !errors.Is(err, resb.ErrNoBundle) {
+		t.Error(err)
+	}
 	if got, err := b.List("shop"); err != nil || !reflect.DeepEqual(got, []string{"de"}) {
 		t.Error(got, err)
 	}

@@ -216,6 +216,24 @@ func remove(c *call) (err error) {
 	return makeEdit(c, "remove", &edit, "")
 }
 
+// setDefault sets the locale for callers none of whose languages has a bundle. An empty one is root.
+func setDefault(c *call) (err error) {
+	given := c.Query["locale"]
+	if len(given) != 1 {
+		return wire.BadQuery
+	}
+	locale := given[0]
+	if c.Asked(locale, nil); locale != "" {
+		if locale, err = localeIn(locale); err != nil {
+			return err
+		}
+	}
+	if _, _, err := change(c, replica.Request{Op: "default", Default: &locale}); err != nil {
+		return err
+	}
+	return done(c, &replica.Edit{}, false, "")
+}
+
 // explanations is how long the reason of a refusal may take.
 const explanations = 10 * time.Second
 

@@ -30,21 +30,27 @@ func readBundle(c *call) error {
 
 // readItem answers GET of an item.
 func readItem(c *call) error {
-	locale := localeOf(c)
-	if c.Asks("tree") {
-		return tree(c, locale)
+	if c.Parts[0] == byLanguage {
+		c.W.Header().Add("Vary", "Accept-Language")
 	}
-	return look(c, locale)
+	if c.Asks("tree") {
+		return tree(c)
+	}
+	return look(c)
 }
 
-// localeOf returns the locale of an address, which the caller's languages choose if it stands for them.
+// localeOf returns the locale of an address. In the place of `-` it is the first of the caller's languages on whose trail a bundle comes before
+// root, or else the default of the application.
 func localeOf(c *call) string {
 	if c.Parts[0] != byLanguage {
 		return c.Parts[0]
 	}
-	c.W.Header().Add("Vary", "Accept-Language")
-	now := c.Backend.Now(c.App)
-	return names.Chosen(names.Ranges(c.R.Header["Accept-Language"]), func(name string) bool { return now.Find(name) != nil })
+	for _, language := range names.Ranges(c.R.Header["Accept-Language"]) {
+		if valid := c.Engine.Valid(c.App, language); valid != "" && valid != "root" {
+			return language
+		}
+	}
+	return c.Backend.Now(c.App).Default
 }
 
 // mostTries is how often a lookup is made anew if the application changes meanwhile.
@@ -66,17 +72,17 @@ func withView(c *call, look func()) (now *replica.View) {
 const mostReply = 1 << 30
 
 // look answers one lookup. The tag of a whole bundle also names its bytes.
-func look(c *call, locale string) (err error) {
+func look(c *call) (err error) {
 	buffer := buffers.Get().(*[]byte)
 	defer buffers.Put(buffer)
 	var reply []byte
 	var needs int
 	var code string
-	now := withView(c, func() { reply, needs, code = c.Engine.Item((*buffer)[:0], c.App, locale, c.Path, front.Short) })
+	now := withView(c, func() { reply, needs, code = c.Engine.Item((*buffer)[:0], c.App, localeOf(c), c.Path, front.Short) })
 	if needs > 0 { // it waits for its turn
 		if err = c.Hold(int64(needs)); err == nil {
 			err = c.Work(c.Context(), func() error {
-				now = withView(c, func() { reply, _, code = c.Engine.Item(nil, c.App, locale, c.Path, mostReply) })
+				now = withView(c, func() { reply, _, code = c.Engine.Item(nil, c.App, localeOf(c), c.Path, mostReply) })
 				return nil
 			})
 		}
@@ -133,8 +139,9 @@ func list(c *call) error {
 	now := c.Backend.Now(c.App)
 	c.W.Header()["Resb-Revision"] = now.Header()
 	all := struct {
-		Names []string `json:"names"`
-	}{make([]string, len(now.Bundles))}
+		Default string   `json:"default,omitempty"`
+		Names   []string `json:"names"`
+	}{now.Default, make([]string, len(now.Bundles))}
 	for i := range now.Bundles {
 		all.Names[i] = now.Bundles[i].Locale
 	}
@@ -143,12 +150,12 @@ func list(c *call) error {
 }
 
 // tree answers with an item and all that it inherits, as one value of JSON.
-func tree(c *call, locale string) error {
+func tree(c *call) error {
 	var now *replica.View
 	var tree []byte
 	var code string
 	err := c.Work(c.Context(), func() error {
-		now = withView(c, func() { tree, code = c.Engine.Tree(c.App, locale, c.Path) })
+		now = withView(c, func() { tree, code = c.Engine.Tree(c.App, localeOf(c), c.Path) })
 		return c.Hold(int64(len(tree)))
 	})
 	if err != nil {

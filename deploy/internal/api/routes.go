@@ -58,6 +58,10 @@ var addresses = []front.Address{
 		{Method: "POST", ID: "release", Summary: "Makes several changes, all or none.", Right: auth.Release, AnyLocale: true,
 			Kind: front.KindChange, Action: "release", Do: makeRelease, Takes: release.Types, Gives: asJSON, Statuses: []int{200, 404, 408, 409, 412, 413, 415, 507}},
 	}},
+	{Pattern: "/_default", Operations: []front.Operation{
+		{Method: "PUT", ID: "setDefault", Summary: "Sets the locale for callers none of whose languages has a bundle.", Right: auth.Edit,
+			Kind: front.KindChange, Action: "default", Do: setDefault, Gives: asJSON, Statuses: []int{200, 507}, Query: []string{"default"}},
+	}},
 	{Pattern: "/_check/{locale}", Operations: []front.Operation{
 		{Method: "POST", ID: "check", Summary: "Returns the error and the warnings of a bundle, and stores nothing.", Right: auth.Read,
 			Kind: front.KindCheck, Do: check, Takes: asBundle, Gives: asJSON, Statuses: []int{200, 408, 413, 415}},

@@ -143,6 +143,12 @@ func (e *Engine) Tree(app, locale, path string) (tree []byte, code string) {
 	return tree, codeOf(err)
 }
 
+// Valid returns the first bundle on the trail of a locale, or "" if there is none.
+func (e *Engine) Valid(app, locale string) (valid string) {
+	e.of(app).pool.Look(func(b *resb.Bundles) { valid, _ = b.Valid(app, locale) })
+	return valid
+}
+
 // codeOf returns the code of an error of the library, or "".
 func codeOf(err error) string {
 	if err == nil {

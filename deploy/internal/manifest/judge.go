@@ -26,6 +26,7 @@ type Change struct {
 	App, Who, Op, ID string
 	At               int64
 	Edits            []Edit
+	Default          *string // the application's default locale, or nil if that stays
 	Erase            bool
 	Until            int64 // when an erasure is final, or 0 for at once
 	IsUndo           bool  // of the erasure that removed these
@@ -55,7 +56,10 @@ func Judge(now *Manifest, c *Change, l Limits) (*Manifest, *Refusal) {
 		next.erase(now, c.Until)
 		return next, nil
 	}
-	next.Orders, next.Bytes, next.Compiled = now.Orders, now.Bytes, now.Compiled
+	next.Orders, next.Bytes, next.Compiled, next.Default = now.Orders, now.Bytes, now.Compiled, now.Default
+	if c.Default != nil {
+		next.Default = *c.Default
+	}
 	if now.Erasure != nil && c.At < now.Erasure.Until+forgotten {
 		next.Erasure = now.Erasure
 	}
@@ -72,7 +76,7 @@ func Judge(now *Manifest, c *Change, l Limits) (*Manifest, *Refusal) {
 		code = d.bring(now, c.Erased, l)
 	case c.Tokens != nil:
 		next.Tokens, code = c.Tokens(now.Tokens)
-	case len(next.Made) == 0:
+	case len(next.Made) == 0 && next.Default == now.Default:
 		return now, nil
 	}
 	if code != "" {

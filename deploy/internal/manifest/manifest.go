@@ -64,7 +64,8 @@ type Manifest struct {
 	Op       string   `json:"op"`
 	Who      string   `json:"who,omitempty"`
 	At       int64    `json:"at"`
-	Erased   bool     `json:"erased,omitempty"` // no earlier manifest is kept
+	Erased   bool     `json:"erased,omitempty"`  // no earlier manifest is kept
+	Default  string   `json:"default,omitempty"` // the locale for callers none of whose languages has a bundle
 	Erasure  *Erasure `json:"erasure,omitempty"`
 	Tokens   []string `json:"tokens,omitempty"` // those that owners made, as lines of the file of tokens
 	Made     []Made   `json:"-"`                // what the change did, in the order of its edits

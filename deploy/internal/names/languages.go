@@ -9,7 +9,8 @@ import (
 // mostRanges is how many languages of a caller are read.
 const mostRanges = 64
 
-// Ranges returns the languages of Accept-Language, the preferred ones first (RFC 9110, 12.5.4).
+// Ranges returns the languages of Accept-Language as locales, the preferred ones first (RFC 9110, 12.5.4), without `*` and without what follows a
+// part that no locale has, such as an extension.
 func Ranges(headers []string) (names []string) {
 	type one struct {
 		name string
@@ -18,7 +19,7 @@ func Ranges(headers []string) (names []string) {
 	var all []one
 	for _, part := range strings.Split(strings.Join(headers, ","), ",") {
 		name, parameters, _ := strings.Cut(part, ";")
-		name = strings.TrimSpace(name)
+		name = withoutExtensions(strings.TrimSpace(name))
 		if q := Weight(parameters); name != "" && q > 0 && len(all) < mostRanges {
 			all = append(all, one{name, q})
 		}
@@ -28,6 +29,22 @@ func Ranges(headers []string) (names []string) {
 		names = append(names, r.name)
 	}
 	return names
+}
+
+// withoutExtensions returns the beginning of a language's tag that can be a locale.
+func withoutExtensions(tag string) string {
+	end := 0
+	for _, part := range strings.Split(tag, "-") {
+		next := end + len(part)
+		if end > 0 {
+			next++
+		}
+		if len(part) < 2 || len(part) > 8 || !isAll(part, true) || next > mostName {
+			break
+		}
+		end = next
+	}
+	return tag[:end]
 }
 
 // Weight reads a parameter such as `q=0.5`; without one it is 1.
@@ -41,38 +58,4 @@ func Weight(parameters string) float64 {
 		return 0
 	}
 	return q
-}
-
-// Chosen returns the installed locale for languages: of each in turn, shortened from its end, the first that is there (RFC 4647, 3.4), or
-// root.
-func Chosen(languages []string, has func(locale string) bool) string {
-	for _, language := range languages {
-		parts, length := strings.Split(language, "-"), len(language)
-		cut := func() {
-			last := len(parts) - 1
-			parts, length = parts[:last], length-len(parts[last])-1
-		}
-		for len(parts) > 0 && language != "*" {
-			if length <= mostName && isTag(parts) { // a long one isn't joined for each of its parts
-				if name, ok := Canonical(strings.Join(parts, "_")); ok && has(name) {
-					return name
-				}
-			}
-			cut()
-			if n := len(parts); n > 0 && len(parts[n-1]) == 1 {
-				cut() // a single letter begins an extension
-			}
-		}
-	}
-	return "root"
-}
-
-// isTag returns true if the parts are those of a language's tag.
-func isTag(parts []string) bool {
-	for _, part := range parts {
-		if len(part) == 0 || len(part) > 8 || !isAll(part, true) {
-			return false
-		}
-	}
-	return true
 }

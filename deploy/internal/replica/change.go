@@ -26,9 +26,10 @@ type Request struct {
 	Erase        bool
 	Undoable     time.Duration // how long an erasure is
 	Undo         bool          // of the last erasure
+	Default      *string       // the application's default locale, or nil if that stays
 	// Tokens changes the tokens of the application, unless it is nil.
 	Tokens func(now []string) (next []string, refusal string)
-	// Make returns the edits against a view; it is called again if another change came first. The bundles are the request's to discard.
+	// Make, unless it is nil, returns the edits against a view; it is called again if another change came first. The bundles are the request's to discard.
 	Make func(ctx context.Context, now *View) ([]Edit, error)
 	// IsGone tells whether the caller has gone; then nothing is stored any more.
 	IsGone func() bool
@@ -50,7 +51,7 @@ func (r *Replica) Change(ctx context.Context, q Request) (made *manifest.Manifes
 		return nil, false, err
 	}
 	defer a.writing.leave()
-	c := manifest.Change{App: q.App, Who: q.Who, Op: q.Op, ID: newID(), Erase: q.Erase, Tokens: q.Tokens}
+	c := manifest.Change{App: q.App, Who: q.Who, Op: q.Op, ID: newID(), Erase: q.Erase, Tokens: q.Tokens, Default: q.Default}
 	confirmed := int64(-1) // the revision up to which the store had reported all when the change had come
 	for {
 		now := a.now.Load()

@@ -149,6 +149,19 @@ func TestLanguagesOfACaller(t *testing.T) {
 	s.script("LanguagesOfACaller")
 }
 
+// TestLanguagesByTheTrail chooses a locale by the same trail as a lookup, with explicit parents and aliases, or else the application's default.
+func TestLanguagesByTheTrail(t *testing.T) {
+	s := beside(t, "-parents", "../../../examples/parents/cldr.txt")
+	all := []string{"en", "zh", "zh_Hant", "no", "he"}
+	for _, locale := range all {
+		s.put(locale, fmt.Sprintf(`%s{a{"%[1]s"}}`, locale))
+	}
+	s.put("iw", `iw{%%ALIAS{"he"}}`)
+	s.script("LanguagesByTheTrail", "default", fmt.Sprint(len(all)+2))
+	s.put("root", `root{a{"R"}}`)
+	s.run(step{"r GET /v1/shop/-/a", "Accept-Language: fr, nb", "", 200, `"no"`, ""}, step{"r GET /v1/shop/-/a", "Accept-Language: fr", "", 200, `"R"`, "-Content-Language"})
+}
+
 // TestRatesOfAnApplication end with 429, and others are answered.
 func TestRatesOfAnApplication(t *testing.T) {
 	s := beside(t, "-rate", "5")
