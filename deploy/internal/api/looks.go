@@ -20,10 +20,15 @@ import (
 // byLanguage in the place of a locale stands for the one that the caller's languages choose.
 const byLanguage = "-"
 
-// readBundle answers GET of a bundle: in a form, as a tree, or its table.
+// readBundle answers GET of a bundle: in a form, as a tree, or its table; or of an item whose path the query has.
 func readBundle(c *call) error {
 	if locale, form, isForm := wire.FormOf(c.Parts[0]); isForm {
 		return fetch(c, locale, form)
+	}
+	if given := c.Query["path"]; len(given) > 1 {
+		return wire.BadQuery
+	} else if len(given) == 1 {
+		c.Path = given[0]
 	}
 	return readItem(c)
 }

@@ -87,8 +87,8 @@ var addresses = []front.Address{
 			Right: auth.Edit, AnyLocale: true, Kind: front.KindChange, Action: "undo", Do: undo, Gives: asJSON, Statuses: []int{200, 404, 409, 412, 507}},
 	}},
 	{Pattern: "/{locale}", Operations: []front.Operation{
-		{Method: "GET", ID: "lookRoot", Forms: "get", Summary: "Returns the bundle's table; with .txt, .res or .json the bundle; with ?tree all that it inherits.",
-			Right: auth.Read, Kind: front.KindLook, Do: readBundle, Gives: inAnyForm, Statuses: []int{200, 304, 404, 412, 413}, Query: []string{"tree"}},
+		{Method: "GET", ID: "lookRoot", Forms: "get", Summary: "Returns the bundle's table, or with ?path an item; with .txt, .res or .json the bundle; with ?tree all that it inherits.",
+			Right: auth.Read, Kind: front.KindLook, Do: readBundle, Gives: inAnyForm, Statuses: []int{200, 304, 404, 412, 413}, Query: []string{"tree", "item"}},
 		{Method: "PUT", ID: "put", Summary: "Installs or replaces the bundle.", Right: auth.Edit, Kind: front.KindChange, Action: "put",
 			Do: put, Takes: asBundle, Gives: asJSON, Statuses: []int{200, 201, 408, 409, 412, 413, 415, 507}, Query: []string{"strict"}},
 		{Method: "POST", ID: "install", Summary: "Installs the bundle if there is none.", Right: auth.Edit, Kind: front.KindChange, Action: "install",

@@ -28,6 +28,13 @@ func TestLostAnswers(t *testing.T) {
 	equal(t, len(s.past("")), 2, "versions")
 }
 
+// TestPathsInQueries looks up items as clients do that are made from openapi.json, which escape the slashes of a path.
+func TestPathsInQueries(t *testing.T) {
+	s := beside(t)
+	s.put("de", `de{menu{open{"A"}}}`)
+	s.script("PathsInQueries")
+}
+
 // TestTagsOfBundles change with the bytes of the bundle, in each form.
 func TestTagsOfBundles(t *testing.T) {
 	s := beside(t)

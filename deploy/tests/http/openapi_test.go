@@ -9,6 +9,8 @@ import (
 	"sort"
 	"strings"
 	"testing"
+
+	"luvdregan.example/resb/deploy/tests/harness"
 )
 
 // TestTheDescriptionHasTheRoutes compares the methods that openapi.json has of each address with those
@@ -79,12 +81,22 @@ func TestTheDescriptionMakesAClient(t *testing.T) {
 		t.Skip("skipped: libopenapi-client-perl is not there")
 	}
 	s := open(t)
-	s.put("de", `de{a{"A"}}`)
+	s.put("de", `de{a{"A"} menu{open{"O"}}}`)
 	spoiled := fileOf(t, strings.Replace(described.text, `"parameters":`, `"answers":1,"parameters":`, 1))
 	if text, err := exec.Command("perl", "testdata/client.pl", spoiled).CombinedOutput(); err == nil || !strings.Contains(string(text), "Properties not allowed: answers") {
 		t.Errorf("a description with an unknown member: %v %s", err, text)
 	}
 	text, err := exec.Command("perl", "testdata/client.pl", s.URL+"/openapi.json", s.URL, shopWrites).CombinedOutput()
-	const want = "list look put remove history release restore erase getTxt\nA\n1\n400\nde{a{\"A\"}}\n"
+	const want = "list look put remove history release restore erase getTxt\nA\nO\n1\n400\nde{a{\"A\"} menu{open{\"O\"}}}\n"
 	errorIf(t, err != nil || string(text) != want, "%v\n%s", err, text)
+}
+
+// TestAGeneratedClient makes a client of the description by the rules of OpenAPI alone, which escape the slashes of a path, and calls each
+// operation.
+func TestAGeneratedClient(t *testing.T) {
+	const clientsToken = "shop-client-0123456789"
+	s := granting(t, harness.TokenLine("shop", "write,own", clientsToken))
+	if text, err := client(t, "python3", "testdata/client.py", s.URL, clientsToken); err != nil || text != "are not called\n" {
+		t.Errorf("%v\n%s", err, text)
+	}
 }
