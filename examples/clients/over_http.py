@@ -97,6 +97,34 @@ class Bundles:
         headers = {"Content-Type": "application/merge-patch+json", **({"If-Match": tag} if tag else {})}
         return self._ask("PATCH", self._address(locale), json.dumps(changes).encode(), **headers)[1].get("ETag")
 
+    def release(self, entries):
+        """Makes changes, all or none, each an object such as `{"locale": "de", "text": "de{}"}`, and returns the application's revision.
+        A member `if` has the tag that the bundle must have, or None if there must be none; else all are refused with 412."""
+        lines = "".join(json.dumps(entry) + "\n" for entry in entries)
+        headers = {"Content-Type": "application/x-ndjson"}
+        return int(self._ask("POST", self._address("_releases"), lines.encode(), **headers)[1]["Resb-Revision"])
+
+    def state(self, after=0):
+        """Returns the application's revision, once that is `after` or more, and the locales of its bundles. Refused with 503 Behind if the
+        revision doesn't come in time."""
+        _, headers, body = self._ask("GET", f"{self._address()}?after={after}")
+        return int(headers["Resb-Revision"]), json.loads(body)["names"]
+
+    def tag(self, locale, form="txt"):
+        """Returns the tag that the bundle has in the form in which it was submitted, and whether that is this one, txt or res; or
+        (None, False) if there is none."""
+        try:
+            tag = self._ask("HEAD", self._address(f"{locale}.{form}"))[1]["ETag"]
+        except Refused as refused:
+            if refused.status == 404:
+                return None, False
+            raise
+        return tag.replace(f'.{form}"', '"'), not tag.endswith(f'.{form}"')
+
+    def file(self, name):
+        """Returns the bytes of a bundle in the form that its suffix says: LOCALE.txt, LOCALE.res or LOCALE.json."""
+        return self._ask("GET", self._address(name))[2]
+
     def remove(self, locale, tag=None):
         """Removes the bundle of a locale. With a tag it is refused with 412 if the bundle isn't the one that has it."""
         self._ask("DELETE", self._address(locale), **({"If-Match": tag} if tag else {}))
@@ -121,9 +149,10 @@ class Bundles:
             try:
                 status, got, reply = self._once(method, address, body, headers)
             except (OSError, HTTPException):
-                # A change may have been done, though its answer was lost: a PUT may be asked again, others are left to the caller.
+                # A change may have been done, though its answer was lost: a PUT and a release may be asked again, others are left to the caller.
                 self.connection = None
-                if method not in ("GET", "PUT") and not address.endswith("/look") or time.monotonic() > end:
+                may_repeat = method in ("GET", "HEAD", "PUT") or address.endswith(("/look", "/_releases"))
+                if not may_repeat or time.monotonic() > end:
                     raise
                 time.sleep(0.1)
                 continue

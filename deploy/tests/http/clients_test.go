@@ -8,6 +8,7 @@ import (
 	"net/http/httptest"
 	"os"
 	"os/exec"
+	"path/filepath"
 	"strconv"
 	"strings"
 	"testing"
@@ -133,4 +134,108 @@ func TestALargeBodyGetsItsAnswer(t *testing.T) {
 		}
 	}
 	s.rest()
+}
+
+// A folder is one of bundles, beside a gateway.
+type folder struct {
+	*site
+	path string
+}
+
+// run runs resb-put or resb-get with options, which must end with a status and print some texts.
+func (f *folder) run(status int, words string, texts ...string) {
+	f.t.Helper()
+	arguments := append(strings.Fields(clients+words), f.path, f.URL+"/v1/shop")
+	text, err := client(f.t, "python3", arguments...)
+	got := 0
+	if err != nil {
+		got = err.(*exec.ExitError).ExitCode()
+	}
+	for _, want := range texts {
+		errorIf(f.t, !strings.Contains(text, want), "%s: no %q", words, want)
+	}
+	errorIf(f.t, got != status || len(texts) == 0 && text != "", "%s: status %d, and not %d: %s", words, got, status, text)
+}
+
+// file fails unless a file of the folder has a text; "" is none.
+func (f *folder) file(name, want string) {
+	f.t.Helper()
+	content, _ := os.ReadFile(filepath.Join(f.path, name))
+	equal(f.t, string(content), want, name)
+}
+
+func (f *folder) write(name, text string) {
+	f.t.Helper()
+	must(f.t, os.WriteFile(filepath.Join(f.path, name), []byte(text), 0o600))
+}
+
+// TestAFolderAndATranslator sends a folder while a translator changes bundles: neither loses a change, and each sees the other's.
+func TestAFolderAndATranslator(t *testing.T) {
+	f := &folder{beside(t), t.TempDir()}
+	f.write("de.txt", "de{\n a{\"A\"}\n}\n")
+	f.write("fr-ca.txt", "fr_CA{}")
+	f.run(0, "resb-put --dry-run", "de.txt\nfr-ca.txt\n")
+	f.names()
+	f.run(0, "resb-put", "2 of 2 bundles differed\n")
+	f.run(0, "resb-put", "nothing differs\n")
+	f.run(0, "resb-get")
+	f.write("de.txt", "de{\n a{\"B\"}\n}\n")
+	f.run(0, "resb-get")
+	f.run(0, "resb-put", "1 of 2 bundles differed\n")
+	f.put("de", "de{\n a{\"T\"}\n}\n")
+	for _, text := range []string{"de{\n a{\"B\"}\n}\n", "de{\n a{\"C\"}\n}\n"} {
+		f.write("de.txt", text)
+		f.run(1, "resb-put", "--- installed/de.txt\n+++ folder/de.txt\n", "\n- a{\"T\"}\n+ a{\"", "nothing is sent")
+		f.is("de/a", "T")
+	}
+	f.run(1, "resb-get", "\n- a{\"T\"}\n+ a{\"C\"}\n", "stay")
+	f.file("de.txt", "de{\n a{\"C\"}\n}\n")
+	f.run(0, "resb-get --replace", "de.txt\n")
+	f.file("de.txt", "de{\n a{\"T\"}\n}\n")
+	f.put("it", "it{}")
+	file := f.get("/v1/shop/it.res").Body
+	f.ask("PUT", "/v1/shop/es.res", shopWrites, file)
+	f.ask("DELETE", "/v1/shop/fr_CA", shopWrites, "")
+	f.run(1, "resb-put", "fr-ca.txt: somebody removed")
+	f.run(1, "resb-put --remove", "it.txt: somebody added", "es.txt: somebody added")
+	f.run(0, "resb-get", "es.res\nfr-ca.txt\nit.txt\n")
+	f.file("it.txt", "it{}")
+	f.file("es.res", file)
+	f.file("fr-ca.txt", "")
+	f.run(0, "resb-put --remove", "nothing differs\n")
+	must(t, os.Remove(filepath.Join(f.path, "it.txt")))
+	f.run(0, "resb-put --remove", "1 of 2 bundles differed\n")
+	f.names("de", "es")
+	f.write("de.txt", "de{")
+	f.run(1, "resb-put", "resb-put: "+f.path+"/de.txt:1: ")
+	f.write("DE.txt", "de{}")
+	f.run(2, "resb-put", "have the same locale")
+	must(t, os.Remove(filepath.Join(f.path, "DE.txt")))
+	f.write("de.txt", "de{\n a{\"D\"}\n}\n")
+	must(t, os.Remove(filepath.Join(f.path, ".resb-sent.json")))
+	f.run(1, "resb-put", "- a{\"T\"}\n+ a{\"D\"}\n")
+	f.run(0, "resb-put --replace", "1 of 2 bundles differed\n")
+	f.is("de/a", "D")
+}
+
+// TestAFolderIsWatched brings each change into a folder until the program is ended.
+func TestAFolderIsWatched(t *testing.T) {
+	f := &folder{beside(t), t.TempDir()}
+	f.put("de", "de{}")
+	ctx, cancel := context.WithCancel(context.Background())
+	defer cancel()
+	watcher := exec.CommandContext(ctx, "python3", clients+"resb-get", "--watch", f.path, f.URL+"/v1/shop")
+	watcher.Env = append(os.Environ(), "PYTHONDONTWRITEBYTECODE=1", "RESB_TOKEN="+shopReads)
+	if watcher.Start() != nil {
+		t.Skip("skipped: python3 is not there")
+	}
+	for _, text := range []string{"de{}", `de{a{"A"}}`, `de{a{"B"}}`} {
+		f.put("de", text)
+		eventually(t, "the file has "+text, func() bool {
+			content, _ := os.ReadFile(filepath.Join(f.path, "de.txt"))
+			return string(content) == text
+		})
+	}
+	cancel()
+	_ = watcher.Wait()
 }
