@@ -156,6 +156,11 @@ export class Gateway {
     return op === "remove" ? null : (await this.ask("GET", this.address("_history", id + ".json"))).json();
   }
 
+  /** Takes back all that a change did, such as a release, unless one of its bundles was changed since. */
+  async undo(id) {
+    return this.ask("POST", this.address("_history", String(id), "undo"));
+  }
+
   /** Makes a bundle what it was after a change, if it has this tag. */
   async restore(id, tag) {
     return this.ask("POST", this.address("_history", String(id), "restore"), { headers: ifTag(tag) });

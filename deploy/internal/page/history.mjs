@@ -16,7 +16,7 @@ export const history = async (gateway, locale) => {
   const next = async () => {
     const before = earliest, all = await gateway.history({ locale: of, before, last: LAST });
     if (before !== earliest) return; // the button was pressed twice
-    table.tBodies[0].append(...all.map((one) => changeOf(gateway, one)));
+    table.tBodies[0].append(...all.map((one, i) => changeOf(gateway, one, one.revision !== all[i - 1]?.revision)));
     button.hidden = all.length < LAST;
     earliest = all.at(-1)?.id ?? 0;
   };
@@ -27,12 +27,15 @@ export const history = async (gateway, locale) => {
   at("changes").replaceChildren(earliest === 0 ? make("p", { textContent: "There are no changes." }) : table, button);
 };
 
-const changeOf = (gateway, change) => {
+const changeOf = (gateway, change, isFirst) => {
   const compare = make("button", { type: "button", textContent: "Compare", "aria-label": `Compare version ${change.revision} of ${change.locale}` });
   const restore = make("button", { type: "button", textContent: "Restore", "aria-label": `Restore version ${change.revision} of ${change.locale}` });
   compare.addEventListener("click", acting(() => compareWith(gateway, change)));
   restore.addEventListener("click", acting(() => restoreTo(gateway, change)));
+  const undo = make("button", { type: "button", textContent: "Take the release back", "aria-label": `Take release ${change.revision} back` });
+  undo.addEventListener("click", acting(() => takeBack(gateway, change)));
   const version = !change.kept ? ["not stored any more"] : change.op === "remove" ? [restore] : [compare, " ", restore];
+  if (change.change === "release" && isFirst) version.push(" ", undo);
   return rowOf(TITLES,
     make("td", {}, make("time", { dateTime: change.at, textContent: new Date(change.at).toLocaleString() })),
     make("td", { dir: "auto" }, ...visible(change.token)), make("td", { dir: "auto" }, ...visible(change.locale)),
@@ -52,6 +55,14 @@ const restoreTo = async (gateway, { id, revision, locale, op }) => {
   await history(gateway, locale);
   at("history-title").focus(); // the button is gone
   say(at("message"), "good", op === "remove" ? `${locale} is removed.` : `${locale} is as it was in version ${revision}.`);
+};
+
+const takeBack = async (gateway, { id, revision, locale }) => {
+  if (!(await confirmed(`Make all bundles of release ${revision} what they were before?`, "Take back"))) return;
+  await gateway.undo(id);
+  await history(gateway, locale);
+  at("history-title").focus(); // the button is gone
+  say(at("message"), "good", `Release ${revision} is taken back.`);
 };
 
 const acting = (what) => async () => {

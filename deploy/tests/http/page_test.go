@@ -66,6 +66,13 @@ func TestBrowserLateAnswers(t *testing.T) {
 	b.play(s, "LateAnswers")
 }
 
+// TestBrowserTakesBack takes a release back, which has one button for all of its bundles, unless one was changed since.
+func TestBrowserTakesBack(t *testing.T) {
+	b, s := visit(t, "de", `de{a{"A"}}`)
+	s.release(asLines, linesOf(t, namedText{"de.txt", `de{a{"B"}}`}, namedText{"fr.txt", `fr{a{"F"}}`}))
+	b.play(s, "TakesBack")
+}
+
 // hostile are values that try to become a part of the page, to hide or reorder what is beside them, or to be too long.
 var hostile = map[string]string{
 	"script": `<script>window.hacked = 1</script>`, "image": `<img src=x onerror="window.hacked = 1">`, "closing": `"'></td></textarea><b>bold</b>`,
