@@ -39,11 +39,11 @@ type version struct {
 	Token    string `json:"token"`
 }
 
-func versionOf(m *manifest.Manifest, place int) version {
+func versionOf(m *manifest.Manifest, place int, isStored bool) version {
 	made := m.Made[place]
 	sum, _ := base64.RawURLEncoding.DecodeString(string(made.Digest)) // a digest of a manifest is valid
 	at := time.UnixMilli(m.At).UTC().Format(time.RFC3339Nano)
-	return version{at, made.Bytes, m.Op, m.Revision*release.Most + int64(place), true, made.Locale, made.Op, m.Revision, hex.EncodeToString(sum), m.Who}
+	return version{at, made.Bytes, m.Op, m.Revision*release.Most + int64(place), isStored, made.Locale, made.Op, m.Revision, hex.EncodeToString(sum), m.Who}
 }
 
 // A group is a change with all that it did, in the reply to a request for the history by changes.
@@ -74,6 +74,7 @@ type listing struct {
 	locale   string // only of this one, unless it is ""
 	most     int
 	byChange bool
+	stored   map[manifest.Digest]bool // or nil: a change of one bundle has its version
 	versions []version
 	groups   []group
 }
@@ -120,7 +121,9 @@ func (l *listing) read(c *call) error {
 			return err
 		}
 		for i := 0; i < len(some) && !l.isFull(); i++ {
-			l.add(some[i])
+			if err := l.add(c, some[i]); err != nil {
+				return err
+			}
 			from = some[i].Revision
 		}
 		if len(some) < someHistory || from <= 1 {
@@ -139,10 +142,16 @@ func (l *listing) isFull() bool {
 }
 
 // add adds what a manifest has of what is asked for, the last one first.
-func (l *listing) add(m *manifest.Manifest) {
+func (l *listing) add(c *call, m *manifest.Manifest) (err error) {
+	if len(m.Made) > 1 && l.stored == nil {
+		if l.stored, err = c.Backend.Digests(c.Context(), c.App); err != nil {
+			return err
+		}
+	}
 	begin := len(l.versions)
 	for i := len(m.Made) - 1; i >= 0 && (l.byChange || !l.isFull()); i-- {
-		v := versionOf(m, i)
+		d := m.Made[i].Digest
+		v := versionOf(m, i, d == "" || len(m.Made) == 1 || l.stored[d])
 		if (l.before == 0 || v.ID < l.before) && (l.locale == "" || l.locale == v.Locale) {
 			l.versions = append(l.versions, v)
 		}
@@ -151,6 +160,7 @@ func (l *listing) add(m *manifest.Manifest) {
 		last := made[len(made)-1]
 		l.groups = append(l.groups, group{last.At, made, last.Change, last.ID, last.Revision, last.Token})
 	}
+	return nil
 }
 
 // changeOf returns the manifest that a change of the history made, and its place in that.

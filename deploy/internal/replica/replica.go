@@ -38,6 +38,7 @@ type Options struct {
 type past interface {
 	History(ctx context.Context, app string, before int64, most int) ([]*manifest.Manifest, error)
 	Body(ctx context.Context, app string, b manifest.Bundle) ([]byte, error)
+	Digests(ctx context.Context, app string) (map[manifest.Digest]bool, error)
 	Stats(ctx context.Context) (store.Stats, error)
 }
 

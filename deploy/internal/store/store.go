@@ -58,6 +58,8 @@ type Store interface {
 	History(ctx context.Context, app string, before int64, most int) ([]*manifest.Manifest, error)
 	// Body returns a body, whose bytes have the digest. If it is missing the error wraps ErrNoBody.
 	Body(ctx context.Context, app string, b manifest.Bundle) ([]byte, error)
+	// Digests returns those of the bodies that are stored of an application.
+	Digests(ctx context.Context, app string) (map[manifest.Digest]bool, error)
 	// Newest calls a function for the newest manifest of each application.
 	Newest(ctx context.Context, each func(app string, revision int64)) error
 	// Watch reports the newest manifests of all applications, and then those that are stored, until the context ends. It may leave out a

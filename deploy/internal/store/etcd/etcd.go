@@ -238,6 +238,15 @@ func (s *Store) History(ctx context.Context, app string, before int64, most int)
 	return store.ReadHistory(reader{s, ctx, app}, before, most)
 }
 
+// Digests returns those of the bodies of an application.
+func (s *Store) Digests(ctx context.Context, app string) (map[manifest.Digest]bool, error) {
+	all := map[manifest.Digest]bool{}
+	_, err := s.list(ctx, indexKey(app, ""), func(kv *mvccpb.KeyValue) {
+		all[manifest.Digest(kv.Key[len("d//")+len(app):])] = true
+	}, clientv3.WithKeysOnly())
+	return all, err
+}
+
 // Body returns a body.
 func (s *Store) Body(ctx context.Context, app string, b manifest.Bundle) ([]byte, error) {
 	return s.body(ctx, app, b.Digest, b.Bytes)

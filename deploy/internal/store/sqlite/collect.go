@@ -64,14 +64,13 @@ func (p *plan) make(tx *sql.Tx, keep store.Keep) error {
 		return err
 	}
 	p.gone, p.isFinal, p.wipes = stay.Gone, stay.IsFinal, stay.IsErased
-	var d manifest.Digest
-	q := query{"select digest from bodies where app = ?", []any{p.app}}
-	return q.each(tx, func() error {
+	stored, err := reader{tx, p.app}.digests()
+	for d := range stored {
 		if !stay.Named[d] {
 			p.unnamed = append(p.unnamed, d)
 		}
-		return nil
-	}, &d)
+	}
+	return err
 }
 
 // carryOut removes what was planned, except what was stored again.

@@ -343,6 +343,25 @@ func (s *Store) History(ctx context.Context, app string, before int64, most int)
 	return all, err
 }
 
+// Digests returns those of the bodies of an application.
+func (s *Store) Digests(ctx context.Context, app string) (all map[manifest.Digest]bool, err error) {
+	err = s.read(ctx, func(tx *sql.Tx) error {
+		all, err = reader{tx, app}.digests()
+		return err
+	})
+	return all, err
+}
+
+func (r reader) digests() (map[manifest.Digest]bool, error) {
+	all := map[manifest.Digest]bool{}
+	var d manifest.Digest
+	q := query{"select digest from bodies where app = ?", []any{r.app}}
+	return all, q.each(r.tx, func() error {
+		all[d] = true
+		return nil
+	}, &d)
+}
+
 // Body returns a body.
 func (s *Store) Body(ctx context.Context, app string, b manifest.Bundle) (body []byte, err error) {
 	err = s.read(ctx, func(tx *sql.Tx) error {

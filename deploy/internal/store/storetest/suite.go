@@ -463,10 +463,16 @@ func testEach(t *testing.T, k Kind) {
 		all = map[string]string{}
 		manifests, err := s.History(Ctx, "a", 0, 1000)
 		Must(t, err)
+		stored, err := s.Digests(Ctx, "a")
+		Must(t, err)
 		for _, m := range manifests {
 			for _, made := range m.Made {
 				b := manifest.Bundle{Digest: made.Digest, Bytes: made.Bytes}
-				if body, err := s.Body(Ctx, "a", b); made.Digest == "" || err == nil {
+				body, err := s.Body(Ctx, "a", b)
+				if stored[made.Digest] != (err == nil) {
+					t.Errorf("%s at %d: %v, and it is stored: %v", made.Locale, m.Revision, err, stored[made.Digest])
+				}
+				if made.Digest == "" || err == nil {
 					all[made.Locale] += fmt.Sprint(m.Revision, " ", string(body), ", ")
 				}
 			}
