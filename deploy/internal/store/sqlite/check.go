@@ -231,7 +231,25 @@ var castagnoli = crc32.MakeTable(crc32.Castagnoli)
 
 func checksum(body []byte) uint32 { return crc32.Checksum(body, castagnoli) }
 
-// checkFile checks the header and the pages of the database.
+// tables returns how SQLite stores the statements of the schema. No page has a checksum, so another text would be another table.
+func tables() (all string) {
+	for _, one := range strings.Split(schema, ";") {
+		if _, table, is := strings.Cut(one, "create table "); is {
+			all += "CREATE TABLE " + table + "\n"
+		}
+	}
+	return all
+}
+
+const selectTables = `select group_concat(sql || char(10), '') from (select sql from sqlite_schema where sql is not null order by rowid)`
+
+// countMisled counts the entries of an index that lead to another row. SQLite's own check doesn't see it in the copy of an entry that was too long.
+const countMisled = `
+select (select count(*) from bodies not indexed) - (
+	select count(*) from bodies i indexed by sqlite_autoindex_bodies_1 join bodies t not indexed on t.rowid = i.rowid
+	where t.app = i.app and t.digest = i.digest)`
+
+// checkFile checks the header, the schema and the pages of the database.
 func checkFile(db *sql.DB) error {
 	var id, of int
 	var verdict string
@@ -245,6 +263,19 @@ func checkFile(db *sql.DB) error {
 	}
 	if verdict != "ok" {
 		return errors.New(verdict)
+	}
+	var found string
+	var misled int
+	err := inTurn(
+		func() error { return db.QueryRow(selectTables).Scan(&found) },
+		func() error { return db.QueryRow(countMisled).Scan(&misled) })
+	switch {
+	case err != nil:
+		return err
+	case found != tables():
+		return errors.New("its tables are others")
+	case misled != 0:
+		return errors.New("the index of the table bodies leads to other rows")
 	}
 	return nil
 }

@@ -1,6 +1,7 @@
 package sqlite
 
 import (
+	"bytes"
 	"context"
 	"database/sql"
 	"errors"
@@ -241,6 +242,15 @@ func TestEachByteOfACopyDamaged(t *testing.T) {
 		t.Fatalf("%q", want)
 	}
 	flipped(t, content, func(_ int, bad []byte) ([]string, error) { return restored(t, bad) }, want)
+	// what SQLite's own check doesn't see in a copy: an entry of the index with another length, so another row, and another text of the schema
+	for _, of := range []string{"4\x04\x15c\x01shop" + string(manifest.DigestOf([]byte("text 7"))), "1), swaps integer"} {
+		at := bytes.Index(content, []byte(of))
+		bad := append([]byte(nil), content...)
+		bad[at] ^= 8
+		if found, err := restored(t, bad); !errors.Is(err, store.ErrDamaged) {
+			t.Errorf("byte %d: %v %s", at, err, firstOther(found, want))
+		}
+	}
 	for cut := 0; cut < len(content); cut += 4099 {
 		if _, err := restored(t, content[:cut]); !errors.Is(err, store.ErrDamaged) {
 			t.Errorf("the first %d of %d bytes: %v", cut, len(content), err)
@@ -281,6 +291,7 @@ func TestDamageNamesTheRow(t *testing.T) {
 		"delete from bodies where app = 'bank'":                                                         "table bodies, row [bank",
 		"update bodies set body = 'y' where app = 'shop' and digest = (select max(digest) from bodies)": "table bodies, row [shop ",
 		"update manifests set head = (select head from manifests where app = 'bank')":                   "table manifests, row [shop 1]",
+		"alter table bodies add column more integer":                                                    "its tables are others",
 		"delete from state":       "table state",
 		"pragma user_version = 9": "no store of version 3",
 	} {
