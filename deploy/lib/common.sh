@@ -99,14 +99,14 @@ run_pure() {
 # builds the gateway
 build_gateway() { [ -n "$installed" ] || "$here/gateway/build" "$out/bin/gateway"; }
 
-# adds a line to the file of tokens, unless it is there
+# adds a line to the file of tokens, or to the file `new`, unless it is there
 allow() {
     if [ "${#3}" -lt 20 ]; then
         echo "${0##*/}: the token for $1 is too short: it must have at least 20 characters; '$1' without one makes one" >&2
         exit 2
     fi
     line="$1 $2 $(printf %s "$3" | sha256sum | cut -d ' ' -f 1)"
-    grep -Fqx -e "$line" "$state/tokens" || echo "$line" >>"$state/tokens"
+    grep -Fqx -e "$line" "$state/tokens" || echo "$line" >>"${new:-$state/tokens}"
 }
 
 # makes a token, if the application has none for it
