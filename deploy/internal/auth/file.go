@@ -90,7 +90,10 @@ func Create(path, where, rights, name string, expires time.Time) (token string, 
 		return "", err
 	}
 	return token, edit(path, func(content []byte) ([]byte, error) {
-		grants, _ := parse(content)
+		grants, wrong := parse(content)
+		if len(grants) == 0 && len(wrong) > 0 { // it isn't a file of tokens
+			return nil, fmt.Errorf("%s: %w", path, wrong[0])
+		}
 		for _, g := range grants {
 			if name != "" && g.Name == name {
 				return nil, fmt.Errorf("another token has the name %s", name)

@@ -207,6 +207,8 @@ func TestTokenCommands(t *testing.T) {
 		words := strings.Split(wrong, "|")
 		command(t, 1, "", append([]string{"token", words[0], "-tokens", s.Tokens}, words[1:]...)...)
 	}
+	other := fileOf(t, "-----BEGIN CERTIFICATE-----\n")
+	command(t, 1, "line 1: not APP read|write HASH", "token", "add", "-tokens", other, "shop", "read")
 	for _, wrong := range []string{"", "add", "list", "sing -tokens " + s.Tokens, "add -tokens " + s.Tokens + " shop"} {
 		command(t, 2, "usage:", append([]string{"token"}, strings.Fields(wrong)...)...)
 	}
@@ -451,6 +453,7 @@ func TestBackups(t *testing.T) {
 	s.put("de", `de{a{"later"}}`)
 	command(t, 1, "", "backup", "-state", s.State, "--", file)
 	command(t, 1, "", "restore", "-state", s.State, "--", file)
+	command(t, 1, "it is a file of the store", "backup", "-state", s.State, "--", s.State+"/manifests.db-journal")
 	command(t, 0, "", "restore", "-state", filepath.Join(again, "state"), "--", file)
 	if text := command(t, 0, "shop\tde\t", "list", "-state", filepath.Join(again, "state")); strings.Count(text, "\n") != 2 {
 		t.Error(text)

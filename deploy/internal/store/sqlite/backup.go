@@ -26,6 +26,11 @@ func Backup(folder, file string) (Summary, error) {
 	if _, err := os.Stat(path); errors.Is(err, fs.ErrNotExist) {
 		return Summary{}, fmt.Errorf("%s: %w", folder, ErrMissing)
 	}
+	if into, err := os.Stat(filepath.Dir(file)); err == nil && Owns(filepath.Base(file)) {
+		if of, err := os.Stat(folder); err == nil && os.SameFile(of, into) {
+			return Summary{}, fmt.Errorf("%s: it is a file of the store", file)
+		}
+	}
 	sum, err := copyDatabase(path, "mode=rw&_busy_timeout=60000", file)
 	if err == nil {
 		noteBackup(folder)
