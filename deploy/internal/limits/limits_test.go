@@ -74,7 +74,7 @@ func TestRates(t *testing.T) {
 func TestManyNames(t *testing.T) {
 	l := New(Options{Each: 9, All: 99, Bytes: 9, Works: 1})
 	stays := begin(t, l, "stays", "me", nil)
-	for i := 0; i < 2*mostAccounts; i++ {
+	for i := 0; i < mostAccounts+100; i++ {
 		begin(t, l, fmt.Sprint("app", i), "me", nil).End(0, time.Now())
 	}
 	harness.ErrorIf(t, len(l.apps) > mostAccounts || l.apps["stays"] != stays.accounts[0], "%d accounts", len(l.apps))

@@ -51,28 +51,54 @@ func late(t *testing.T, n int, err error, deadline time.Time) {
 	}
 }
 
+// readWhile reads, and does something once the read waits. It also returns when that was done.
+func readWhile(c *conn, do func()) (n int, at time.Time, err error) {
+	ended, done := make(chan struct{}), make(chan struct{})
+	go func() {
+		defer close(done)
+		for waits := false; !waits; time.Sleep(time.Millisecond) {
+			select {
+			case <-ended:
+				return
+			default:
+				c.reads.mu.Lock()
+				waits = c.reads.calls > 0
+				c.reads.mu.Unlock()
+			}
+		}
+		do()
+		at = time.Now()
+	}()
+	n, err = c.Read(make([]byte, 10))
+	close(ended)
+	<-done
+	return n, at, err
+}
+
 // TestDeadlinesThatMove moves a deadline in both directions while a read waits, and then removes it.
 func TestDeadlinesThatMove(t *testing.T) {
 	c, _, other := joined(t)
-	b := make([]byte, 10)
-	began := time.Now()
-	harness.Must(t, c.SetReadDeadline(began.Add(20*time.Millisecond)))
-	time.AfterFunc(5*time.Millisecond, func() { _ = c.SetReadDeadline(began.Add(60 * time.Millisecond)) })
-	n, err := c.Read(b)
-	late(t, n, err, began.Add(60*time.Millisecond))
-	harness.Must(t, c.SetReadDeadline(began.Add(time.Hour)))
-	time.AfterFunc(5*time.Millisecond, func() { _ = c.SetReadDeadline(over) })
-	n, err = c.Read(b)
+	for first := 20 * time.Millisecond; ; first *= 2 {
+		sooner := time.Now().Add(first)
+		later := sooner.Add(first)
+		harness.Must(t, c.SetReadDeadline(sooner))
+		n, at, err := readWhile(c, func() { _ = c.SetReadDeadline(later) })
+		if !at.IsZero() && at.Before(sooner) { // else the machine is busy
+			late(t, n, err, later)
+			break
+		}
+	}
+	harness.Must(t, c.SetReadDeadline(time.Now().Add(time.Hour)))
+	n, _, err := readWhile(c, func() { _ = c.SetReadDeadline(over) })
 	late(t, n, err, over)
-	n, err = c.Read(b)
+	n, err = c.Read(make([]byte, 10))
 	late(t, n, err, over)
 	soon := time.Now().Add(10 * time.Millisecond)
 	harness.Must(t, c.SetDeadline(soon))
-	n, err = c.Read(b)
+	n, err = c.Read(make([]byte, 10))
 	late(t, n, err, soon)
 	harness.Must(t, c.SetReadDeadline(time.Time{}))
-	time.AfterFunc(30*time.Millisecond, func() { _, _ = other.Write([]byte("come")) })
-	if n, err = c.Read(b); n != 4 || err != nil {
+	if n, _, err = readWhile(c, func() { _, _ = other.Write([]byte("come")) }); n != 4 || err != nil {
 		t.Error(n, err)
 	}
 }
