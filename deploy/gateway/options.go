@@ -266,7 +266,8 @@ func (s *settings) complete() error {
 	}
 	s.replica.Every = time.Minute // a change over SQLite stores its bodies itself, so they need no grace
 	if s.etcd != "" {
-		s.replica.Keep.Grace, s.replica.Every = 15*time.Minute, time.Hour // longer than a gateway that stands still has its connection
+		// the grace is longer than a gateway that stands still has its connection; the second collection of a process removes bodies
+		s.replica.Keep.Grace, s.replica.Every = 15*time.Minute, 20*time.Minute
 	}
 	return nil
 }
