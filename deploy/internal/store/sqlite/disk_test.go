@@ -206,7 +206,10 @@ func TestTheWALOfKilledProcesses(t *testing.T) {
 	s := opened(t, from)
 	now := Make(t, s, Empty("a"), Put("de", random(1<<20)))
 	for i := 0; i < 2; i++ {
-		s.unmoved = 0 // as in a process that has just begun
+		Must(t, s.submit(Ctx, &job{do: func(t *transaction) error { // as in a process that has just begun
+			t.unmoved = 0
+			return nil
+		}}))
 		now = Make(t, s, now, Put("de", random(1<<20)))
 	}
 	copyTo(t, from, to)
