@@ -394,6 +394,22 @@ func (b *Bundles) Valid(app, locale string) (string, error) {
 	return C.GoString(&origin.valid[0]), nil
 }
 
+// Entries looks up like LookWithin, and returns how many entries a table has, or 0 for another item.
+func (b *Bundles) Entries(app, locale, path string, steps uint64) (count int, err error) {
+	a, an := textOf(app)
+	l, ln := textOf(locale)
+	p, pn := textOf(path)
+	err = b.with(func(h *C.resb) C.uint32_t {
+		var found C.resb_found
+		number := C.resb_look_within(h, a, an, l, ln, p, pn, C.uint64_t(steps), &found)
+		if number == C.RESB_OK && found.kind == C.RESB_TABLE {
+			count = int(found.count)
+		}
+		return number
+	})
+	return count, err
+}
+
 // value returns what a lookup finds.
 func (b *Bundles) value(look func(handle *C.resb, found *C.resb_found) C.uint32_t) (value any, err error) {
 	err = b.with(func(h *C.resb) C.uint32_t {

@@ -48,7 +48,8 @@ type Engine struct {
 // A shard has the bundles of the applications whose names have one of some hashes. A long change or a tree holds up changes of its shard alone.
 type shard struct {
 	pool *resb.Pool
-	long sync.RWMutex // read by trees and long items, so that a change waits for them while short lookups continue
+	long sync.RWMutex   // read by trees and long items, so that a change waits for them while short lookups continue
+	keys map[string]int // the longest key of each application, read by lookups and written by changes
 }
 
 // The number of shards, which is less if all together would have more than some bytes of ICUDATA.
@@ -99,7 +100,7 @@ func Open(o Options) (*Engine, error) {
 		case err != nil:
 			return nil, err
 		}
-		e.shards[i] = &shard{pool: pool}
+		e.shards[i] = &shard{pool: pool, keys: map[string]int{}}
 	}
 	return e, nil
 }
@@ -115,20 +116,25 @@ const longItem = 64 << 10
 // Item appends what `resb serve` replies to a lookup (docs/SERVER.md), without its line feed, or returns the code of a refusal. If the reply has
 // more than some bytes it only returns about how many.
 func (e *Engine) Item(dst []byte, app, locale, path string, most int) (reply []byte, needs int, code string) {
-	its := e.of(app)
-	if most > longItem {
+	its, isLong := e.of(app), most > longItem
+	if isLong {
 		its.long.RLock()
 		defer its.long.RUnlock()
 	}
 	if int64(most) > e.options.ReplyBytes {
 		most = int(e.options.ReplyBytes)
 	}
-	var err error
+	fits, err := true, error(nil)
 	its.pool.Look(func(b *resb.Bundles) {
-		reply, needs, err = b.AppendItemJSON(dst, app, locale, path, e.options.Steps, most)
+		if fits = its.keysFit(b, app, locale, path, e.options.Steps, most, isLong); fits {
+			reply, needs, err = b.AppendItemJSON(dst, app, locale, path, e.options.Steps, most)
+		}
 	})
-	if int64(needs) > e.options.ReplyBytes {
+	switch {
+	case !fits && isLong, int64(needs) > e.options.ReplyBytes:
 		return dst, 0, "ReplyTooLong"
+	case !fits:
+		return dst, most + 1, ""
 	}
 	return reply, needs, codeOf(err)
 }
@@ -179,10 +185,12 @@ func (e *Engine) Release(app string, edits []Edit, done func()) {
 	}
 	// removals first, so that there is always room for what is put
 	sort.SliceStable(all, func(i, j int) bool { return all[i].Bundle == nil && all[j].Bundle != nil })
+	longest := longestOf(edits)
 	its := e.of(app)
 	its.long.Lock()
 	defer its.long.Unlock()
 	err := its.pool.Change(func(b *resb.Bundles) error {
+		defer its.note(b, app, longest)
 		for len(all) > mostEdits { // nobody looks up in the shard meanwhile
 			if err := b.Release(app, all[:mostEdits]); err != nil {
 				return err
@@ -224,6 +232,7 @@ type Bundle struct {
 	*resb.Bundle
 	compiled int64
 	isText   bool
+	longest  int    // key, of a file
 	file     []byte // of Stored
 	digest   manifest.Digest
 }
@@ -234,11 +243,14 @@ func Prepare(kind string, body []byte) (*Bundle, error) {
 	if err != nil {
 		return nil, FaultOf(err)
 	}
-	length := len(body)
-	if kind == Text {
-		length, err = prepared.FileLen()
+	b := &Bundle{Bundle: prepared, compiled: int64(len(body)), isText: kind == Text}
+	if b.isText {
+		length, err := prepared.FileLen()
+		b.compiled = int64(length)
+		return b, err
 	}
-	return &Bundle{Bundle: prepared, compiled: int64(length), isText: kind == Text}, err
+	b.longest = longestKey(body)
+	return b, nil
 }
 
 // Discard frees the bundle, if there is one.

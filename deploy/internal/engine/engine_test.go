@@ -1,7 +1,10 @@
 package engine
 
 import (
+	"bytes"
+	"encoding/binary"
 	"fmt"
+	"os"
 	"strings"
 	"testing"
 	"time"
@@ -47,4 +50,58 @@ func TestFewShards(t *testing.T) {
 	for bytes, want := range map[int]int{0: 32, 1 << 20: 32, 20 << 20: 6, 100 << 20: 2} {
 		harness.Equal(t, shardsOf([]Source{{Body: make([]byte, bytes)}}), want, bytes)
 	}
+}
+
+// sharedKeys returns a file with a table whose keys are the ends of one key (docs/FORMAT.md).
+func sharedKeys(count int) []byte {
+	top := 6 + (count+4)/4
+	end := uint32(top + 1 + 2*count)
+	var file bytes.Buffer
+	file.WriteString("\x20\x00\xda\x27\x14\x00\x00\x00\x00\x00\x02\x00ResB\x01\x01\x00\x00\x00\x00\x00\x00\x00\x00\x00\x00\x00\x00\x00\x00")
+	words := func(all ...uint32) { _ = binary.Write(&file, binary.LittleEndian, all) }
+	words(4<<28|uint32(top), 5, uint32(top), end, end, uint32(count))
+	file.Write(append(bytes.Repeat([]byte{'k'}, count), make([]byte, 4*(top-6)-count)...))
+	words(uint32(count))
+	for i := count - 1; i >= 0; i-- {
+		words(24 + uint32(i))
+	}
+	for i := 0; i < count; i++ {
+		words(7 << 28)
+	}
+	return file.Bytes()
+}
+
+// peak returns the most memory that the process has had, in MB.
+func peak() (kilobytes int) {
+	text, _ := os.ReadFile("/proc/self/status")
+	_, text, _ = bytes.Cut(text, []byte("VmHWM:"))
+	_, _ = fmt.Sscan(string(text), &kilobytes)
+	return kilobytes >> 10
+}
+
+// TestKeysThatShareBytes looks up tables whose keys are 250 times and 7,500 times as long as their files: none is written to find that out.
+func TestKeysThatShareBytes(t *testing.T) {
+	e, err := Open(Options{Steps: 1000, ReplyBytes: 1 << 20})
+	harness.Must(t, err)
+	put := func(locale string, count int) {
+		bundle, err := Prepare(File, sharedKeys(count))
+		harness.Must(t, err)
+		e.Release("shop", []Edit{{locale, bundle}}, func() {})
+	}
+	put("fr", 500) // 125 KB
+	before := peak()
+	reply, needs, code := e.Item(nil, "shop", "fr", "", 8<<10)
+	harness.ErrorIf(t, len(reply) > 0 || needs <= 8<<10 || code != "", "%d %d %s", len(reply), needs, code)
+	reply, _, code = e.Item(nil, "shop", "fr", "", 1<<30)
+	harness.ErrorIf(t, len(reply) < 125000 || code != "", "%d %s", len(reply), code)
+	put("de", 60000) // 1.8 GB
+	for _, most := range []int{8 << 10, 1 << 30} {
+		_, needs, code = e.Item(nil, "shop", "de", "", most)
+		harness.ErrorIf(t, (needs > 0) == (code == "ReplyTooLong"), "%d: %d %s", most, needs, code)
+	}
+	harness.ErrorIf(t, peak() > before+200, "%d MB are %d MB", before, peak())
+	for _, locale := range []string{"fr", "de"} {
+		e.Release("shop", []Edit{{locale, nil}}, func() {})
+	}
+	harness.Equal(t, len(e.of("shop").keys), 0)
 }
