@@ -54,8 +54,8 @@ func configured(t *testing.T) string {
 	dir := t.TempDir()
 	const hash = " 0123456789012345678901234567890123456789012345678901234567890123"
 	for name, text := range map[string]string{"tokens": harness.Tokens, "words": "shop", "words.txt": "shop", "empty": "", "login": "gateway password",
-		"tokens.words": "shop", "tokens.right": "\nshop own" + hash, "tokens.hash": "shop read 12", "tokens.name": "shop read" + hash + " name=a/b",
-		"tokens.expires": "shop read" + hash + " expires=soon", "tokens.app": "sh/op read" + hash, "tokens.open": "", "de.txt": `de{a{"A"}}`,
+		"tokens.words": "shop", "tokens.right": "\nshop sing" + hash, "tokens.hash": "shop read 12", "tokens.name": "shop read" + hash + " name=a/b",
+		"tokens.expires": "shop read" + hash + " expires=soon", "tokens.app": "sh*p read" + hash, "tokens.open": "", "de.txt": `de{a{"A"}}`,
 		"resb": version, "sleeps": "#!/bin/sh\nsleep 1000 &\nsleep 1000\n", "earlier/changes.db": "x", "folder/file": ""} {
 		path := filepath.Join(dir, name)
 		_ = os.Mkdir(filepath.Dir(path), 0o700)
@@ -208,7 +208,7 @@ func TestTokenCommands(t *testing.T) {
 		command(t, 1, "", append([]string{"token", words[0], "-tokens", s.Tokens}, words[1:]...)...)
 	}
 	other := fileOf(t, "-----BEGIN CERTIFICATE-----\n")
-	command(t, 1, "line 1: not APP read|write HASH", "token", "add", "-tokens", other, "shop", "read")
+	command(t, 1, "line 1: not APP RIGHTS HASH", "token", "add", "-tokens", other, "shop", "read")
 	for _, wrong := range []string{"", "add", "list", "sing -tokens " + s.Tokens, "add -tokens " + s.Tokens + " shop"} {
 		command(t, 2, "usage:", append([]string{"token"}, strings.Fields(wrong)...)...)
 	}
