@@ -4,6 +4,7 @@ import (
 	"bytes"
 	"context"
 	"database/sql"
+	"encoding/json"
 	"errors"
 	"fmt"
 	"os"
@@ -12,6 +13,7 @@ import (
 	"strings"
 	"sync/atomic"
 	"testing"
+	"time"
 
 	"luvdregan.example/resb/deploy/internal/manifest"
 	"luvdregan.example/resb/deploy/internal/store"
@@ -175,9 +177,17 @@ func whole(s *Store) (all []string, err error) {
 			if err != nil {
 				break
 			}
-			all = append(all, fmt.Sprint(app, m.Revision, m.ID, m.Op, m.Who, m.At, m.Made))
+			made, _ := json.Marshal(m.Made)
+			all = append(all, fmt.Sprint(app, m.Revision, m.ID, m.Op, m.Who, m.At, string(made)))
 			if m, err = s.Manifest(Ctx, app, m.Revision, nil); err == nil {
-				err = bodiesIn(s, m, &all)
+				err = bodiesIn(s, app, m.Bundles, &all)
+			}
+			if err == nil && m.Erasure != nil {
+				page := func(d manifest.Digest) ([]byte, error) { return s.Body(Ctx, app, manifest.Bundle{Digest: d}) }
+				var erased []manifest.Bundle
+				if erased, err = manifest.ReadErased(m.Erasure, page); err == nil {
+					err = bodiesIn(s, app, erased, &all)
+				}
 			}
 		}
 		if err != nil {
@@ -187,13 +197,14 @@ func whole(s *Store) (all []string, err error) {
 	return all, nil
 }
 
-func bodiesIn(s *Store, m *manifest.Manifest, all *[]string) error {
-	for _, b := range m.Bundles {
-		body, err := s.Body(Ctx, m.App, b)
+func bodiesIn(s *Store, app string, bundles []manifest.Bundle, all *[]string) error {
+	for _, b := range bundles {
+		body, err := s.Body(Ctx, app, b)
 		if err != nil {
 			return err
 		}
-		*all = append(*all, fmt.Sprint(b, string(body)))
+		text, _ := json.Marshal(b)
+		*all = append(*all, string(text)+string(body))
 	}
 	return nil
 }
@@ -215,7 +226,8 @@ func restored(t *testing.T, copied []byte) ([]string, error) {
 	return whole(s)
 }
 
-// TestEachByteOfACopyDamaged flips a bit of bytes of a copy, and cuts it off: it isn't restored, or it has all, with the history.
+// TestEachByteOfACopyDamaged flips a bit of bytes of a copy, and cuts it off: it isn't restored, or it has all, with the history and what
+// was erased and may come back.
 func TestEachByteOfACopyDamaged(t *testing.T) {
 	folder := t.TempDir()
 	s, err := Open(Options{Folder: folder, Create: true})
@@ -229,7 +241,14 @@ func TestEachByteOfACopyDamaged(t *testing.T) {
 	}
 	shop = Make(t, s, shop, many...)
 	Make(t, s, shop, Put("l7", "x"))
-	Make(t, s, Empty("bank"), Put("de", "Z"))
+	bank := Make(t, s, Empty("bank"), Put("de", "Z"), Put("fr", "Y"))
+	at := time.Now()
+	erased, refusal := manifest.Judge(bank, &manifest.Change{App: "bank", ID: "erased", Op: "erase", At: at.UnixMilli(), Erase: true,
+		Until: at.Add(time.Hour).UnixMilli()}, manifest.Limits{})
+	if refusal != nil {
+		t.Fatal(refusal)
+	}
+	Must(t, s.Swap(Ctx, erased, nil))
 	Must(t, s.Close())
 	file := filepath.Join(t.TempDir(), "copy")
 	_, err = Backup(folder, file)
