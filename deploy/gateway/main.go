@@ -97,6 +97,8 @@ func run(s settings) error {
 	}
 	leaving, stop := signal.NotifyContext(context.Background(), os.Interrupt, syscall.SIGTERM)
 	defer stop()
+	hangups := make(chan os.Signal, 1)
+	signal.Notify(hangups, syscall.SIGHUP) // also during a long start, which it would end
 	p, err := s.open()
 	if err != nil {
 		return err
@@ -117,7 +119,7 @@ func run(s settings) error {
 	}
 	opened <- g.Backend
 	defer g.close()
-	go g.refresh(leaving, p.pair)
+	go g.refresh(leaving, hangups, p.pair)
 	if s.inside != "" {
 		inner, err := net.Listen("tcp", s.inside)
 		if err != nil {
@@ -173,11 +175,9 @@ func (g *gateway) close() {
 	g.audit.Flush()
 }
 
-// refresh reads the file of tokens and the certificates again when they change.
-func (g *gateway) refresh(ctx context.Context, p *serve.Pair) {
+// refresh reads the file of tokens and the certificates again when they change, and opens the logs again at each hangup.
+func (g *gateway) refresh(ctx context.Context, hangups <-chan os.Signal, p *serve.Pair) {
 	defer close(g.refreshed)
-	hangups := make(chan os.Signal, 1)
-	signal.Notify(hangups, syscall.SIGHUP)
 	ticks := time.NewTicker(time.Second)
 	soon := time.NewTicker(50 * time.Millisecond) // new tokens are stored at once, as the gateway may end soon
 	defer soon.Stop()

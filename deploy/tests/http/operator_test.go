@@ -399,6 +399,7 @@ func TestAStartThatWaits(t *testing.T) {
 	for said := ""; !strings.Contains(said, "READY=1"); said = string(buffer) {
 		n, err := socket.Read(buffer[:cap(buffer)])
 		must(t, err)
+		g.Signal(syscall.SIGHUP) // of logrotate, which ends no start
 		switch buffer = buffer[:n]; {
 		case strings.Contains(string(buffer), "EXTEND") && waits > 0:
 			errorIf(t, waits < 3, "the start is extended")
