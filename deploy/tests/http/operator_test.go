@@ -383,7 +383,7 @@ func TestTheServiceManagerIsNotified(t *testing.T) {
 	}
 }
 
-// TestAStartThatWaits gives the service manager no reason to wait for an etcd that doesn't answer: it is told so, and the start isn't extended.
+// TestAStartThatWaits doesn't extend the start while etcd doesn't answer. A hangup ends no start.
 func TestAStartThatWaits(t *testing.T) {
 	t.Parallel()
 	c := harness.NewCluster(t, t.TempDir(), 1, nil)
