@@ -32,7 +32,7 @@ OPERATIONS = {
 }
 
 
-def call(name, body=None, kind=None, **values):
+def call(name, body=None, kind=None, /, **values):
     """Calls an operation with values for its parameters, and returns the status and the body."""
     method, path, operation, parameters = OPERATIONS[name]
     query, headers = {}, {"Authorization": "Bearer " + TOKEN}
@@ -91,7 +91,7 @@ call("setDefault", **DE)
 made = json.loads(call("makeToken", **SHOP, rights="read", name="one"))
 call("tokens", **SHOP)
 call("revoke", **SHOP, token=made["id"])
-call("remove", **DE)
 call("erase", **SHOP, erase="")
 call("undoErase", **SHOP)
+call("remove", **DE)
 print(*sorted(set(OPERATIONS) - CALLED), "are not called")
