@@ -213,7 +213,16 @@ func remove(c *call) (err error) {
 	if edit.Locale, err = localeIn(c.Parts[0]); err != nil {
 		return err
 	}
-	return makeEdit(c, "remove", &edit, "")
+	_, _, err = change(c, replica.Request{Op: "remove", Make: func(_ context.Context, now *replica.View) ([]replica.Edit, error) {
+		if edit.If != nil && now.Find(edit.Locale) == nil && beforeLast(c, edit.Locale, nil, edit.If) != nil {
+			return nil, nil // it is removed already
+		}
+		return []replica.Edit{edit}, nil
+	}})
+	if err != nil {
+		return err
+	}
+	return done(c, &edit, false, "")
 }
 
 // setDefault sets the locale for callers none of whose languages has a bundle. An empty one is root.

@@ -5,6 +5,7 @@ import (
 	"errors"
 	"mime"
 	"strings"
+	"time"
 
 	"luvdregan.example/resb/deploy/internal/convert"
 	"luvdregan.example/resb/deploy/internal/engine"
@@ -49,19 +50,44 @@ func makePatch(c *call, locale string, patch []byte) error {
 		edit = replica.Edit{}
 		edit.If, edit.Locale = holds, locale
 		b := now.Find(locale)
+		from := b
+		if holds != nil && !holds(b) {
+			from = beforeLast(c, locale, b, holds)
+		}
 		switch {
-		case holds != nil && !holds(b):
+		case from == nil && holds != nil:
 			return nil, &manifest.Refusal{Code: manifest.Unmet, Locale: locale}
-		case b == nil:
+		case from == nil:
 			return nil, &manifest.Refusal{Code: manifest.Absent, Locale: locale}
 		}
-		err := c.Work(ctx, func() error { return merge(c, &edit, *b, patch) })
-		return []replica.Edit{edit}, err
+		err := c.Work(ctx, func() error { return merge(c, &edit, *from, patch) })
+		return []replica.Edit{edit}, err // which is refused if it doesn't make what is there
 	}})
 	if err != nil {
 		return err
 	}
 	return done(c, &edit, false, "")
+}
+
+// beforeLast returns what a bundle, or nil for none, was before its last change if a condition holds for that: then that change may be this one, whose
+// answer was lost.
+func beforeLast(c *call, locale string, now *manifest.Bundle, holds func(*manifest.Bundle) bool) *manifest.Bundle {
+	some, err := c.Backend.History(c.Context(), c.App, 0, someHistory)
+	if err != nil {
+		return nil
+	}
+	is := manifest.Bundle{Locale: locale, At: time.Now().UnixMilli()}
+	if now != nil {
+		is = *now
+	}
+	for _, m := range some {
+		for i := range m.Made {
+			if made := &m.Made[i]; made.Locale == locale {
+				return made.Before(is, holds)
+			}
+		}
+	}
+	return nil
 }
 
 // merge makes the edit of a patch.

@@ -54,6 +54,19 @@ type Made struct {
 	Was      *Made  `json:"w,omitempty"` // the bundle before, without its locale; nil if there was none
 }
 
+// Before returns what a bundle was before a change, if the change made it and a condition holds for that, or nil. A removal made one without a
+// digest.
+func (m *Made) Before(now Bundle, holds func(*Bundle) bool) *Bundle {
+	if m.Was == nil || m.Digest != now.Digest {
+		return nil
+	}
+	now.Digest, now.Kind, now.Bytes, now.Compiled = m.Was.Digest, m.Was.Kind, m.Was.Bytes, m.Was.Compiled
+	if !holds(&now) {
+		return nil
+	}
+	return &now
+}
+
 // A Manifest is an application at one revision. It never changes: a change makes the next one, whose revision is one more. Revision 0 is the
 // application before its first change.
 type Manifest struct {

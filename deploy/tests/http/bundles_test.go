@@ -25,7 +25,7 @@ func TestConditionsOfChanges(t *testing.T) {
 func TestLostAnswers(t *testing.T) {
 	s := beside(t)
 	s.script("LostAnswers", "tag", s.put("de", `de{a{"A"}}`).Tag())
-	equal(t, len(s.past("")), 2, "versions")
+	equal(t, len(s.past("")), 5, "versions")
 }
 
 // TestPathsInQueries looks up items as clients do that are made from openapi.json, which escape the slashes of a path.
