@@ -113,8 +113,8 @@ func ProblemOf(err error) Problem {
 		return ProblemWith(refusal.Code)
 	case errors.As(err, &rate):
 		return ProblemWith("OverRate")
-	case errors.As(err, &fault) && fault.Code == TooLarge.Code: // a bundle that is too long in another form
-		return TooLarge
+	case errors.As(err, &fault) && statuses[fault.Code] == TooLarge.Status: // a bundle that is too long in another form
+		return ProblemWith(fault.Code)
 	}
 	for _, one := range problems {
 		if errors.Is(err, one.err) {

@@ -52,6 +52,7 @@ func TestOthers(t *testing.T) {
 	for _, one := range []string{`de{long{"` + long + `"}}`, `de{a{"A"} long{"` + long + `"}}`, expensive()} {
 		s.put(one[:2], one)
 	}
+	s.Make("PUT", "/v1/app.keys/de.res", string(harness.SharedKeys(8000)))
 	id := fmt.Sprint(s.past("")[2].ID)
 	for i := 0; i < 1000; i++ { // a deep history
 		s.Make("PUT", "/v1/app.deep/de.txt", fmt.Sprintf(`de{a{"%d"}}`, i))
@@ -108,6 +109,7 @@ func TestOthers(t *testing.T) {
 		{"differences of long versions", []attack{{8, "w GET /v1/shop/_history/" + id + "/diff?with=" + id, "", "", toTheEnd}}},
 		{"checks", []attack{{16, "w POST /v1/shop/_check/it.txt", "", "it{ days{\n \"lundi\", \"mardi\" \"jeudi\" } }", toTheEnd}}},
 		{"unauthorized requests", []attack{{256, "- GET /v1/bank/de/a", "", "", toTheEnd}}},
+		{"tables whose keys share bytes", []attack{{64, "a GET /v1/app.keys/de", "", "", toTheEnd}}},
 	} {
 		t.Run(c.name, func(t *testing.T) {
 			its := &site{s.Gateway, t}
