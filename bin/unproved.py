@@ -18,38 +18,46 @@ import time
 LINES = b"\n" * 40_000
 
 
-def take(folder, out):
-    """Links the program of a run to a path, and returns whether it was there."""
-    for program in glob.glob(f"{glob.escape(folder)}/*/*/program"):
+def take(paths, out):
+    """Links the first of these files that is still there to a path, and returns whether there was one."""
+    for path in paths:
         try:
-            os.link(program, out)
+            os.link(path, out)
         except OSError:
             continue  # the run has just ended
         return True
     return False
 
 
-def build(out):
+def take_of_run(find, out, lines=b"", arguments=(), crate="."):
+    """Runs a crate with nothing proved, and ends the run once `find` returns files of its temporary folder, the first of which it moves to `out`.
+    Returns whether there was one; if not, writes what the toolchain wrote."""
     with tempfile.TemporaryDirectory(prefix="unproved-", dir=os.path.dirname(out)) as folder, tempfile.TemporaryFile() as log:
-        lines = f"{folder}/lines"
-        with open(lines, "wb") as file:
-            file.write(LINES)
-        taken = f"{folder}/taken"
-        with open(lines, "rb") as given:
-            run = subprocess.Popen(["rt", "try", "--seconds", "600", "--", "serve"], stdin=given, stdout=subprocess.DEVNULL,
+        with open(f"{folder}/lines", "wb") as file:
+            file.write(lines)
+        with open(f"{folder}/lines", "rb") as given:
+            run = subprocess.Popen(["rt", "try", "--seconds", "600", *arguments], cwd=crate, stdin=given, stdout=subprocess.DEVNULL,
                                    stderr=log, env={**os.environ, "TMPDIR": folder})
         is_taken = False
         while not is_taken and run.poll() is None:
-            is_taken = take(folder, taken)
+            is_taken = take(find(folder), f"{folder}/taken")
             time.sleep(0.01)
         if is_taken:
             run.terminate()
-            os.replace(taken, out)
+            os.replace(f"{folder}/taken", out)
         run.wait()
         if not is_taken:
             log.seek(0)
             sys.stderr.buffer.write(log.read())
         return is_taken
+
+
+def programs(folder):
+    return glob.glob(f"{glob.escape(folder)}/*/*/program")
+
+
+def build(out):
+    return take_of_run(programs, out, LINES, ["--", "serve"])
 
 
 if __name__ == "__main__":

@@ -98,8 +98,8 @@ lanes() {
     echo "$memory"
 }
 
-# archive HOW: builds the library for C programs, which gateways link. `rt ci` proves it and builds no archive: HOW is --bare for one that is
-# built over what it left, and --built for the one that is there.
+# archive HOW: builds the library for C programs, which gateways link. `rt ci` proves it and builds no archive: HOW is --bare for one of exports
+# over what it left, and --built for the one that is there.
 archive() {
     command -v gcc >/dev/null && part archive tools/library "$1" deploy/out/library
 }

@@ -9,6 +9,7 @@ int main(void) {
             printf("%u %s\n", error, name);
     }
     EXPECT(*resb_error_name(UINT32_MAX) == 0);
-    EXPECT(strcmp(resb_version(), RESB_VERSION) == 0);
+    const char *after = resb_version() + strlen(RESB_VERSION);
+    EXPECT(strncmp(resb_version(), RESB_VERSION, strlen(RESB_VERSION)) == 0 && (!*after || strcmp(after, "+unproved") == 0));
     return 0;
 }

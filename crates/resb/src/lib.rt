@@ -1,4 +1,5 @@
-//! The engine for C programs: a static library, which `tools/library` builds.
+//! The engine for C programs. `tools/library` exports the functions that are marked for C, in a
+//! static library over this one.
 #![tactic(auto)]
 
 mod bundle_forms;
@@ -10,20 +11,20 @@ mod entry;
 mod exports;
 mod found;
 mod held;
-mod icu;
-mod item_texts;
-mod json_source;
-mod lists;
-mod looks;
-mod names;
+pub mod icu;
+pub mod item_texts;
+pub mod json_source;
+pub mod lists;
+pub mod looks;
+pub mod names;
 mod numbers;
-mod open;
-mod open_locales;
-mod origins;
-mod prepared;
-mod releases;
+pub mod open;
+pub mod open_locales;
+pub mod origins;
+pub mod prepared;
+pub mod releases;
 mod start;
 mod text;
-mod usage;
-mod utf8;
-mod version;
+pub mod usage;
+pub mod utf8;
+pub mod version;
