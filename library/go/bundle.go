@@ -66,6 +66,18 @@ func PrepareJSON(json []byte) (*Bundle, error) {
 	})
 }
 
+// Copy returns a copy of the bundle, as for the release of a second engine.
+func (b *Bundle) Copy() (*Bundle, error) {
+	return prepared(func(copied *C.resb_bundle, _ *C.uint64_t) C.uint32_t {
+		b.lock.Lock()
+		defer b.lock.Unlock()
+		if b.handle == nil {
+			return C.RESB_NOT_OPEN
+		}
+		return C.resb_copy_bundle(b.handle, copied)
+	})
+}
+
 func prepared(call func(handle *C.resb_bundle, line *C.uint64_t) C.uint32_t) (*Bundle, error) {
 	handle := C.new_bundle()
 	if handle == nil {

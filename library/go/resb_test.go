@@ -356,8 +356,19 @@ func TestBundle(t *testing.T) {
 	if length, err := bundle.FileLen(); length != len(one) || err != nil {
 		t.Error(length, err)
 	}
-	bundle.Discard()
 	again.Discard()
+	again, err = bundle.Copy()
+	if err != nil {
+		t.Fatal(err)
+	}
+	bundle.Discard()
+	if two, err = again.File(); err != nil || !bytes.Equal(one, two) {
+		t.Error(err, one, two)
+	}
+	again.Discard()
+	if _, err := again.Copy(); !errors.Is(err, resb.ErrNotOpen) {
+		t.Error(err)
+	}
 	if _, err := bundle.JSON(); !errors.Is(err, resb.ErrNotOpen) {
 		t.Error(err)
 	}

@@ -63,6 +63,12 @@ class Test(unittest.TestCase):
         self.assertEqual(resb.prepare_json('{"n":-1,"a":"b"}').file(), prepared.file())
         self.assertEqual(resb.prepare(prepared.file()).json(), prepared.json())
         self.assertEqual(code(prepared.text, "-"), "BadLocale")
+        copy_of = prepared.copy()
+        with resb.Bundles() as other:
+            other.release("shop", {"de": copy_of})
+            self.assertEqual(other.text("shop", "de", "a"), "b")
+        self.assertEqual(code(copy_of.copy), "NotOpen")
+        self.assertEqual(prepared.json(), '{"a":"b","n":-1}')
         self.assertEqual(code(resb.prepare, "de{\na:int{09}}"), "TextBadInt, line 2")
         self.assertEqual(code(resb.prepare_json, '{\n"a": 1.5}'), "JsonBadNumber, line 2")
         self.assertEqual(code(resb.prepare, b"x"), "FileHeader")

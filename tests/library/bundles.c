@@ -152,8 +152,33 @@ static void installs(void) {
     resb_close(&engine);
 }
 
+/* Releases a bundle and its copy to two engines; closing the first doesn't touch the second. */
+static void copies(void) {
+    resb engines[] = {RESB_CLOSED, RESB_CLOSED};
+    resb_bundle bundle = RESB_DISCARDED, copy = RESB_DISCARDED, other = RESB_DISCARDED;
+    uint8_t seed[16] = {8};
+    size_t place;
+    EXPECT(resb_copy_bundle(&bundle, &copy) == RESB_NOT_OPEN && !bundle.is_prepared && !copy.is_prepared);
+    EXPECT(resb_prepare(S(text), true, &bundle, &line) == RESB_OK);
+    EXPECT(resb_copy_bundle(&copy, &bundle) == RESB_NOT_OPEN && bundle.is_prepared && !copy.is_prepared);
+    EXPECT(resb_copy_bundle(&bundle, &copy) == RESB_OK && bundle.is_prepared && copy.is_prepared);
+    EXPECT(resb_prepare(S("de{}"), true, &other, &line) == RESB_OK);
+    EXPECT(resb_copy_bundle(&bundle, &other) == RESB_ALREADY_OPEN && bundle.is_prepared && other.is_prepared);
+    resb_edit edits[] = {{S("de"), bundle}, {S("de"), copy}, {S("fr"), other}};
+    for (int i = 0; i < 2; i++) {
+        EXPECT(resb_open(&engines[i], seed, 16) == RESB_OK);
+        EXPECT(resb_release(&engines[i], S("shop"), edits + i, (size_t)i + 1, &place) == RESB_OK);
+        has(&engines[i], "de", text);
+    }
+    has(&engines[1], "fr", "de{}");
+    resb_close(&engines[0]);
+    has(&engines[1], "de", text);
+    resb_close(&engines[1]);
+}
+
 int main(void) {
     compiles();
+    copies();
     prepares();
     refuses_errors();
     refuses_as_check();

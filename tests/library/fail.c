@@ -53,6 +53,10 @@ static void history(void) {
     EXPECT(worked(resb_prepare(out, written, false, &bundle, &line)) == bundle.is_prepared && line == 0);
     resb_discard(&bundle);
     EXPECT(worked(resb_prepare(S("de{greeting{\"Hallo\"}}"), true, &bundle, &line)) == bundle.is_prepared && line == 0);
+    resb_bundle copy = RESB_DISCARDED;
+    if (bundle.is_prepared)
+        EXPECT(worked(resb_copy_bundle(&bundle, &copy)) == copy.is_prepared && bundle.is_prepared);
+    resb_discard(&copy);
     resb_discard(&bundle);
     if (!worked(resb_open(&e, seed, 16))) {
         EXPECT(!e.is_open);

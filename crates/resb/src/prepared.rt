@@ -1,5 +1,6 @@
 //! Bundles that are read and checked outside any engine.
-ghost use Rattle.std.specs.Prelude.{◌≡◌, ◌≢◌, None, IfErr, IfNone, IfOk, IfSome, option_map};
+ghost use Rattle.std.specs.Prelude.{◌≡◌, ◌≢◌, None, Some, IfErr, IfNone, IfOk, IfSome};
+ghost use Rattle.std.specs.Prelude.{option_map};
 ghost use Rattle.rb_compiler.specs.Compiled.{IsCompiled};
 ghost use Rattle.rb_format.specs.File.{Denotes, source_tree_of};
 ghost use Rattle.rb_handle.specs.Handle.{boxed};
@@ -8,7 +9,7 @@ ghost use Rattle.resb.specs.Changes.{payload_of};
 ghost use Rattle.resb.specs.Numbers.{IsFileError};
 ghost use Rattle.resb.specs.Prepared.{IsPayloadError, IsPrepared};
 
-use crate::numbers::{MEMORY, OPEN, file_number, text_number};
+use crate::numbers::{CLOSED, MEMORY, OPEN, file_number, text_number};
 use rb_engine::compile;
 use rb_handle::BundleHandle;
 use rb_lexer::{SourceFault, SourceKind};
@@ -111,6 +112,59 @@ pub extern "C" fn resb_prepare(
         }
         Err(number) => number,
     }
+}
+
+/// Copies a bundle. Its file is valid, so checking the copy fails only for memory.
+fn copy_of(alloc: Global, bundle: &Bundle) -> Option<Box<Bundle>>
+    ensures { IfSome result (λ b. b.value ≡ bundle.now) }
+{
+    let file = bundle.bytes().to_vec(alloc).ok()?;
+    checked(alloc, file).ok()
+}
+
+fn copy_to(alloc: Global, bundle: &Bundle, other: &mut BundleHandle) -> u32
+    ensures copied { result ≡ 0 → other.new.file ≡ Some bundle.now }
+    ensures was_discarded { result ≡ 0 → other.old.file ≡ None }
+    ensures unchanged { result ≢ 0 → other.new.file ≡ other.old.file }
+    ensures busy { IfSome other.old.file (λ _. result ≡ 3) }
+    ensures memory { IfNone other.old.file (result ≢ 0 → result ≡ 1) }
+{
+    if let Some(bundle) = take_bundle(alloc, other) {
+        *other = BundleHandle::of(bundle);
+        return OPEN;
+    }
+    match copy_of(alloc, bundle) {
+        Some(copy) => {
+            *other = BundleHandle::of(copy);
+            0
+        }
+        None => MEMORY,
+    }
+}
+
+/// Copies the bundle of a handle to another handle, which has none.
+#[unsafe(no_mangle)]
+pub extern "C" fn resb_copy_bundle(
+    alloc: Global,
+    handle: &mut BundleHandle,
+    other: &mut BundleHandle,
+) -> u32
+    ensures stays { handle.new.file ≡ handle.old.file }
+    ensures copied { result ≡ 0 → other.new.file ≡ handle.old.file }
+    ensures there { result ≡ 0 → handle.old.file ≢ None }
+    ensures was_discarded { result ≡ 0 → other.old.file ≡ None }
+    ensures unchanged { result ≢ 0 → other.new.file ≡ other.old.file }
+    ensures discarded { IfNone handle.old.file (result ≡ 2) }
+    ensures busy { IfSome handle.old.file (λ _. IfSome other.old.file (λ _. result ≡ 3)) }
+    ensures memory { IfSome handle.old.file (λ _. IfNone other.old.file
+        (result ≢ 0 → result ≡ 1)) }
+{
+    let Some(bundle) = take_bundle(alloc, handle) else {
+        return CLOSED;
+    };
+    let result = copy_to(alloc, &bundle, other);
+    *handle = BundleHandle::of(bundle);
+    result
 }
 
 /// Discards the bundle of a handle. A handle without one stays without one.

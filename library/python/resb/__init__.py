@@ -122,6 +122,12 @@ class Prepared:
     def __reduce_ex__(self, _: object) -> NoReturn:
         raise TypeError("a prepared bundle can't be copied or pickled")
 
+    def copy(self) -> Prepared:
+        """Returns a copy, as for the release of a second engine."""
+        copy = Prepared()
+        _must(_library.copy_bundle(self._handle, copy._handle))
+        return copy
+
     def file(self) -> bytes:
         """Returns the .res file."""
         error, file = _written(1024, lambda *out: _library.bundle_file(self._handle, *out))

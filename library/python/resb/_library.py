@@ -109,6 +109,7 @@ get_error_name = _declare(_held, "get_error_name", ctypes.c_uint32, ctypes.POINT
 bundle_file = _declare(_held, "bundle_file", _bundle, *_out)
 bundle_text = _declare(_held, "bundle_text", _bundle, *_name, *_out)
 bundle_json = _declare(_held, "bundle_json", _bundle, *_out)
+copy_bundle = _declare(_held, "copy_bundle", _bundle, _bundle)
 discard = _declare(_held, "discard", _bundle, result=None)
 share = _declare(_held, "share", _handle, _handle)
 close = _declare(_held, "close", _handle, result=None)

@@ -221,6 +221,7 @@ extern "C" {
         capacity: usize,
         len: *mut usize,
     ) -> u32;
+    pub fn resb_copy_bundle(bundle: *mut resb_bundle, copy: *mut resb_bundle) -> u32;
     pub fn resb_discard(bundle: *mut resb_bundle);
     pub fn resb_release(
         engine: *mut resb,

@@ -54,6 +54,12 @@ impl Bundle {
         Ok(bundle)
     }
 
+    /// Returns a copy, as for the release of a second engine. RESB_MEMORY.
+    pub fn try_clone(&self) -> Result<Bundle, Error> {
+        // SAFETY: the handles are in use by this call alone.
+        Bundle::of(|handle, _| unsafe { sys::resb_copy_bundle(self.0.get(), handle) })
+    }
+
     /// Returns the `.res` file of the bundle.
     pub fn file(&self) -> Result<Vec<u8>, Error> {
         // SAFETY: the pointers have the lengths of what they point to.

@@ -149,6 +149,9 @@ fn prepares_bundles() {
         (bundle.file().unwrap(), check_for_icu(&file)),
         (file, Ok(()))
     );
+    let copy = bundle.try_clone().unwrap();
+    drop(bundle);
+    assert_eq!(copy.file().unwrap(), again.file().unwrap());
     let refused = Bundle::from_json("{\n\"a\": 1.5}").err().unwrap();
     assert_eq!(refused.to_string(), "JsonBadNumber, line 2");
     let refused = Bundle::prepare(Content::Text("de{\na:int{09}}")).err();
