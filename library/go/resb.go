@@ -11,6 +11,8 @@ package resb
 
 static resb *new_handle(void) { return calloc(1, sizeof(resb)); }
 
+static resb_child *new_children(size_t count) { return calloc(count, sizeof(resb_child)); }
+
 // Ends the process without memory, as C.CBytes does.
 static resb_entry *new_entries(size_t count) {
 	resb_entry *entries = calloc(count + 1, sizeof(resb_entry));
@@ -429,6 +431,41 @@ type Table struct{ Count int }
 // An Array is an array of Count items, whose paths end with 0, 1 and so on.
 type Array struct{ Count int }
 
+// An Alias is the text of an alias. A lookup of its path follows it.
+type Alias string
+
+// A Child is an item of a table, with its key, or of an array: what Look returns, or an Alias.
+type Child struct {
+	Key   string
+	Value any
+}
+
+// Children looks up a table or an array, and returns its items in their order, without what it inherits.
+func (b *Bundles) Children(app, locale, path string) (children []Child, err error) {
+	a, an := textOf(app)
+	l, ln := textOf(locale)
+	p, pn := textOf(path)
+	err = b.with(func(h *C.resb) C.uint32_t {
+		var none C.resb_child
+		var count C.size_t
+		number := C.resb_children(h, a, an, l, ln, p, pn, &none, 0, &count)
+		if number != C.RESB_NO_ROOM {
+			return number
+		}
+		found := C.new_children(count)
+		if found == nil {
+			return C.RESB_MEMORY
+		}
+		defer C.free(unsafe.Pointer(found))
+		number = C.resb_children(h, a, an, l, ln, p, pn, found, count, &count)
+		for _, child := range unsafe.Slice(found, count) {
+			children = append(children, Child{C.GoStringN(child.key, C.int(child.key_len)), valueOf(&child.item)})
+		}
+		return number
+	})
+	return children, err
+}
+
 // valueOf copies what was found, since it is good only until the next change.
 func valueOf(found *C.resb_found) any {
 	count := int(found.count)
@@ -438,6 +475,8 @@ func valueOf(found *C.resb_found) any {
 			return ""
 		}
 		return string(utf16.Decode(unsafe.Slice((*uint16)(found.at), count)))
+	case C.RESB_ALIAS:
+		return Alias(utf16.Decode(unsafe.Slice((*uint16)(found.at), count)))
 	case C.RESB_BINARY:
 		return append([]byte{}, unsafe.Slice((*byte)(found.at), count)...)
 	case C.RESB_INT:

@@ -389,6 +389,26 @@ func TestBundle(t *testing.T) {
 	}
 }
 
+func TestChildren(t *testing.T) {
+	b := opened(t)
+	if err := b.Install("shop", "xx", []byte(`xx{a:alias{"/LOCALE/b"} b{"ü"} l{"c",:int{-1}} t:table{} v:intvector{1,-2}}`), true); err != nil {
+		t.Fatal(err)
+	}
+	want := []resb.Child{{"a", resb.Alias("/LOCALE/b")}, {"b", "ü"}, {"l", resb.Array{Count: 2}}, {"t", resb.Table{}}, {"v", []int32{1, -2}}}
+	if children, err := b.Children("shop", "xx_YY", ""); err != nil || !reflect.DeepEqual(children, want) {
+		t.Error(err, children)
+	}
+	if children, err := b.Children("shop", "xx", "l"); err != nil || !reflect.DeepEqual(children, []resb.Child{{"", "c"}, {"", int32(-1)}}) {
+		t.Error(err, children)
+	}
+	if children, err := b.Children("shop", "xx", "t"); err != nil || len(children) != 0 {
+		t.Error(err, children)
+	}
+	if _, err := b.Children("shop", "xx", "b"); !errors.Is(err, resb.ErrOtherKind) {
+		t.Error(err)
+	}
+}
+
 func TestRelease(t *testing.T) {
 	b := opened(t)
 	if err := b.Release("shop", []resb.Edit{{"root", prepared(t, `x{open{"Open"} menu{quit{"Quit"}}}`)}, {"de", prepared(t, german)}}); err != nil {

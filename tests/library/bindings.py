@@ -93,6 +93,21 @@ class Test(unittest.TestCase):
         self.bundles.release("shop", {"root": None})
         self.assertEqual(self.bundles.list("shop"), ["de"])
 
+    def test_children(self):
+        self.bundles.install("shop", "root", 'root{menu{quit{"Quit"}}}')
+        children = self.bundles.children("shop", "de_AT", "")
+        self.assertEqual([key for key, _ in children], ["b", "e", "greeting", "list", "low", "menu", "v", "z"])
+        self.assertEqual([value for _, value in children[:3]], [b"\x00\xff", b"", "Grüß"])
+        values = dict(children)
+        self.assertEqual((list(values["list"]), values["low"], values["menu"]["quit"], values["v"], values["z"]), (["a", "bc"], -1, "Quit", [1, -2], ""))
+        self.assertEqual(self.bundles.children("shop", "de", "list"), [("", "a"), ("", "bc")])
+        self.assertEqual(code(self.bundles.children, "shop", "de", "low"), "OtherKind")
+        self.assertEqual(code(self.bundles.children, "shop", "de", "none"), "Missing")
+        self.bundles.install("shop", "xx", 'xx{a:alias{"/LOCALE/b"} b{"c"} t:table{}}')
+        self.assertEqual(self.bundles.children("shop", "xx", ""), [("a", resb.Alias("/LOCALE/b")), ("b", "c"), ("t", {})])
+        self.assertIsInstance(self.bundles.children("shop", "xx", "")[0][1], resb.Alias)
+        self.assertEqual(self.bundles.children("shop", "xx", "t"), [])
+
     def test_lone_surrogates(self):
         self.bundles.install("shop", "xx", 'xx{a{"\\ud800"}}')
         self.assertEqual(self.look("a", "xx"), "\ud800")

@@ -68,6 +68,42 @@ static void lists(resb *e) {
     EXPECT(resb_key(e, S("shop"), S("de"), S("nothing"), 0, key, sizeof key, &len) == RESB_MISSING);
 }
 
+/* Compares the items of a table or an array with what resb_look writes of them. */
+static void lists_children(resb *e, const char *path, size_t number) {
+    resb_child children[9], last;
+    size_t count = 0;
+    memset(&last, 0x5a, sizeof last);
+    children[number - 1] = last;
+    EXPECT(resb_children(e, S("shop"), S("de_AT"), S(path), children, number - 1, &count) == RESB_NO_ROOM && count == number);
+    EXPECT(memcmp(&children[number - 1], &last, sizeof last) == 0);
+    EXPECT(resb_children(e, S("shop"), S("de_AT"), S(path), children, number, &count) == RESB_OK && count == number);
+    for (size_t i = 0; i < number; i++) {
+        char below[40], key[16];
+        size_t len = (size_t)snprintf(key, sizeof key, "%zu", i);
+        resb_found f = {NULL, 0, 0, 0}, *child = &children[i].item;
+        if (resb_key(e, S("shop"), S("de"), S(path), i, key, sizeof key, &len) == RESB_OK)
+            EXPECT(children[i].key_len == len && memcmp(children[i].key, key, len) == 0);
+        else
+            EXPECT(!children[i].key && children[i].key_len == 0);
+        snprintf(below, sizeof below, "%s%s%.*s", path, *path ? "/" : "", (int)len, key);
+        EXPECT(resb_look(e, S("shop"), S("de"), S(below), &f) == RESB_OK);
+        if (memcmp(key, "link", 4) == 0)
+            EXPECT(child->kind == RESB_ALIAS && child->count == 16 && ((const uint16_t *)child->at)[15] == 'g');
+        else
+            EXPECT(child->at == f.at && child->count == f.count && child->kind == f.kind && child->number == f.number);
+    }
+}
+
+static void refuses_children(resb *e) {
+    resb closed = RESB_CLOSED;
+    resb_child child;
+    size_t count = 7;
+    EXPECT(resb_children(&closed, S("shop"), S("de"), S("menu"), &child, 1, &count) == RESB_NOT_OPEN && count == 7);
+    EXPECT(resb_children(e, S("sh op"), S("de"), S("menu"), &child, 1, &count) == RESB_BAD_APP);
+    EXPECT(resb_children(e, S("shop"), S("de"), S("nothing"), &child, 1, &count) == RESB_MISSING);
+    EXPECT(resb_children(e, S("shop"), S("de"), S("greeting"), &child, 1, &count) == RESB_OTHER_KIND && count == 7);
+}
+
 static void looks(resb *e) {
     resb_found f = {NULL, 0, 0, 0};
     EXPECT(resb_look(e, S("shop"), S("de_AT"), S("greeting"), &f) == RESB_OK && f.kind == RESB_STRING && f.count == 4);
@@ -331,6 +367,10 @@ int main(void) {
     EXPECT(resb_compile(S(text), out, sizeof out, &written, &(uint64_t){0}) == RESB_OK);
     installs(&e);
     lists(&e);
+    lists_children(&e, "", 9);
+    lists_children(&e, "menu", 2);
+    lists_children(&e, "list", 2);
+    refuses_children(&e);
     looks(&e);
     opens_locales(&e);
     keeps_locales(&e);

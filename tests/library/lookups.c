@@ -1,5 +1,5 @@
-/* Looks up by libresb and by libicu over the same files, and compares what they find: the kind, the contents, and the actual and the
- * valid locale. usage: lookups FOLDER QUESTIONS: the .res files of FOLDER, of which one is root
+/* Looks up by libresb and by libicu over the same files, and compares what they find: the kind, the contents, the items of tables and
+ * arrays, and the actual and the valid locale. usage: lookups FOLDER QUESTIONS: the .res files of FOLDER, of which one is root
  * Half of the locales have a region or a variant that no file has; a tenth of the paths lead nowhere. Prints how many questions were
  * asked, how many found an item, and how many answers differ, which are listed before. */
 #include <dirent.h>
@@ -69,6 +69,25 @@ static bool is_same(const resb_found *found, UResourceBundle *item) {
     }
 }
 
+/* Compares the items of a found table or array with those of ICU, which follows aliases. */
+static bool has_same_children(const char *locale, const char *path, UResourceBundle *item) {
+    static resb_child children[1 << 16];
+    size_t number;
+    EXPECT(resb_children(&engine, S("icu"), S(locale), S(path), children, 1 << 16, &number) == RESB_OK);
+    bool same = (size_t)ures_getSize(item) == number;
+    for (size_t i = 0; same && i < number; i++) {
+        UErrorCode status = U_ZERO_ERROR;
+        if (children[i].item.kind == RESB_ALIAS)
+            continue;
+        UResourceBundle *child = ures_getByIndex(item, (int32_t)i, NULL, &status);
+        const char *key = ures_getType(item) == URES_TABLE ? ures_getKey(child) : "";
+        same = U_SUCCESS(status) && is_same(&children[i].item, child) && strlen(key) == children[i].key_len &&
+               (!*key || !memcmp(key, children[i].key, children[i].key_len));
+        ures_close(child);
+    }
+    return same;
+}
+
 /* Asks both for an item, and returns whether they answer alike. Counts what is found. */
 static bool ask(UResourceBundle *top, const char *locale, const char *path, int *hits) {
     UErrorCode status = U_ZERO_ERROR;
@@ -81,6 +100,8 @@ static bool ask(UResourceBundle *top, const char *locale, const char *path, int 
         const char *actual = ures_getLocaleByType(item, ULOC_ACTUAL_LOCALE, &status);
         const char *valid = ures_getLocaleByType(item, ULOC_VALID_LOCALE, &status);
         same = is_same(&found, item) && !strcmp(origin.actual, actual) && !strcmp(origin.valid, valid);
+        if (found.kind == RESB_TABLE || found.kind == RESB_ARRAY)
+            same = same && has_same_children(locale, path, item);
         *hits += 1;
         if (!same)
             printf("%s %s: resb finds kind %u in %s, %s; ICU kind %d in %s, %s\n", locale, path, found.kind, origin.actual, origin.valid,

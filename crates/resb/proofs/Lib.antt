@@ -2,4 +2,5 @@ pub mod Copies
 pub mod FoundItems
 pub mod Named
 pub mod Releasing
+pub mod Shown
 pub mod ZeroEnded

@@ -1,5 +1,6 @@
 pub mod BundleForms
 pub mod Changes
+pub mod Children
 pub mod Copied
 pub mod Exports
 pub mod Icu

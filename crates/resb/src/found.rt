@@ -20,7 +20,7 @@ pub struct Found {
 }
 
 /// Returns where bytes begin, or null if there are none.
-fn start_of(bytes: &[u8]) -> *mut u8 {
+pub(crate) fn start_of(bytes: &[u8]) -> *mut u8 {
     match bytes.first() {
         Some(first) => NonNull::from_ref(first).as_ptr(),
         None => null_mut(),

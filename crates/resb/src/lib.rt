@@ -2,14 +2,15 @@
 //! static library over this one.
 #![tactic(auto)]
 
-mod bundle_forms;
-mod changes;
-mod check;
-mod compile;
-mod edit;
-mod entry;
-mod exports;
-mod found;
+pub mod bundle_forms;
+pub mod changes;
+pub mod check;
+pub mod children;
+pub mod compile;
+pub mod edit;
+pub mod entry;
+pub mod exports;
+pub mod found;
 mod held;
 pub mod icu;
 pub mod item_texts;

@@ -18,7 +18,7 @@ import os
 import threading
 from collections.abc import Iterator, Mapping, Sequence
 from contextlib import ExitStack
-from typing import TYPE_CHECKING, Callable, NoReturn, Optional, Union, overload
+from typing import TYPE_CHECKING, Callable, NoReturn, Optional, TypeVar, Union, overload
 
 from . import _library
 
@@ -28,6 +28,7 @@ if TYPE_CHECKING:
     Bundle = Union[str, BytesLike]
 
 __all__ = [
+    "Alias",
     "Array",
     "Bundles",
     "Error",
@@ -43,12 +44,13 @@ __all__ = [
 __version__ = "1.1.0"
 
 Value = Union[str, bytes, int, "list[int]", "Array", "Table"]
+_T = TypeVar("_T")
 
 _NOT_OPEN, _SHARED, _NO_ROOM, _OTHER_KIND, _BAD_PATH, _MISSING = 2, 4, 5, 6, 21, 26
 _OF_ICUDATA = 13, 14, 15, 19
 _OF_EDITS = 13, 17, 18
 _NO_LIMIT = 2**64 - 1
-_STRING, _BINARY, _TABLE, _INT, _INT_VECTOR = 0, 1, 2, 7, 14
+_STRING, _BINARY, _TABLE, _ALIAS, _INT, _INT_VECTOR = 0, 1, 2, 3, 7, 14
 _UNITS = 512  # a longer string takes a second call
 _decode = codecs.utf_16_le_decode
 _sizes = [ctypes.c_size_t(size) for size in range(1100)]  # the longest path has 1,024 bytes
@@ -177,8 +179,7 @@ class Table(Mapping[str, "Value"]):
         return self._count
 
     def __iter__(self) -> Iterator[str]:
-        for index in range(self._count):
-            yield self._bundles._key(self._app, self._locale, self._path, index)
+        yield from self._bundles._children(self._app, self._locale, self._path, lambda _, child: _key_of(child))
 
     def __getitem__(self, key: str) -> Value:
         if not key or "/" in key:
@@ -211,6 +212,14 @@ class Array(Sequence["Value"]):
         if not 0 <= at < self._count:
             raise IndexError(index)
         return self._bundles.look(self._app, self._locale, _child(self._path, str(at)))
+
+
+class Alias(str):
+    """The text of an alias among the items of a table or an array. A lookup of the item's path follows it."""
+
+
+def _key_of(child: _library.Child) -> str:
+    return ctypes.string_at(child.key, child.key_len).decode("ascii") if child.key_len else ""
 
 
 def _child(path: str, segment: str) -> str:
@@ -429,20 +438,40 @@ class Bundles:
         a, l, p, found = app.encode(), locale.encode(), path.encode(), _library.Found()
         with self._turn() as turn:
             _must(call(turn.engine or self._engine, a, len(a), l, len(l), p, len(p), *steps, found))
-            if found.kind == _STRING:
-                return _decode(ctypes.string_at(found.at, 2 * found.count) if found.count else b"", "surrogatepass", True)[0]
-            if found.kind == _INT:
-                return (int(found.number) ^ 1 << 27) - (1 << 27)
-            if found.kind == _BINARY:
-                return ctypes.string_at(found.at, found.count) if found.count else b""
-            if found.kind == _INT_VECTOR:
-                return [*(ctypes.c_int32 * found.count).from_address(found.at)] if found.count else []
+            return self._value(found, app, locale, path)
+
+    def children(self, app: str, locale: str, path: str) -> builtins.list[tuple[str, Value]]:
+        """Looks up a table or an array, and returns its items in their order with their keys, which are empty in an array; without what
+        it inherits. An alias is an `Alias`. Raises Error with the code "OtherKind" for another item."""
+
+        def child(index: int, it: _library.Child) -> tuple[str, Value]:
+            key = _key_of(it)
+            return key, self._value(it.item, app, locale, _child(path, key or str(index)))
+
+        return self._children(app, locale, path, child)
+
+    def _children(self, app: str, locale: str, path: str, read: Callable[[int, _library.Child], _T]) -> builtins.list[_T]:
+        """Returns what `read` returns of each item of a table or an array, in one turn."""
+        a, l, p, count = app.encode(), locale.encode(), path.encode(), ctypes.c_size_t()
+        with self._turn() as turn:
+            engine, error = turn.engine or self._engine, _NO_ROOM
+            while error == _NO_ROOM:
+                found = (_library.Child * max(1, count.value))()
+                error = _library.children(engine, a, len(a), l, len(l), p, len(p), found, len(found), count)
+            _must(error)
+            return [read(index, found[index]) for index in range(count.value)]
+
+    def _value(self, found: _library.Found, app: str, locale: str, path: str) -> Value:
+        """Copies what was found, in the turn of its lookup."""
+        if found.kind in (_STRING, _ALIAS):
+            text = _decode(ctypes.string_at(found.at, 2 * found.count) if found.count else b"", "surrogatepass", True)[0]
+            return text if found.kind == _STRING else Alias(text)
+        if found.kind == _INT:
+            return (int(found.number) ^ 1 << 27) - (1 << 27)
+        if found.kind == _BINARY:
+            return ctypes.string_at(found.at, found.count) if found.count else b""
+        if found.kind == _INT_VECTOR:
+            return [*(ctypes.c_int32 * found.count).from_address(found.at)] if found.count else []
         if found.kind == _TABLE:
             return Table(self, app, locale, path, found.count)
         return Array(self, app, locale, path, found.count)
-
-    def _key(self, app: str, locale: str, path: str, index: int) -> str:
-        a, l, p = app.encode(), locale.encode(), path.encode()
-        error, key = _written(64, lambda *out: self._ask(_library.key, a, len(a), l, len(l), p, len(p), index, *out))
-        _must(error)
-        return key.decode("ascii")

@@ -26,6 +26,10 @@ class Found(ctypes.Structure):
     _fields_ = [("at", ctypes.c_void_p), ("count", ctypes.c_size_t), ("kind", ctypes.c_uint32), ("number", ctypes.c_uint32)]
 
 
+class Child(ctypes.Structure):
+    _fields_ = [("key", ctypes.c_void_p), ("key_len", ctypes.c_size_t), ("item", Found)]
+
+
 class Entry(ctypes.Structure):
     _fields_ = [
         ("locale", ctypes.c_char_p),
@@ -122,7 +126,7 @@ look = _declare(_held, "look", _handle, *_name, *_name, *_name, _found)
 look_within = _declare(_held, "look_within", _handle, *_name, *_name, *_name, ctypes.c_uint64, _found)
 item_json = _declare(_held, "item_json", _handle, *_name, *_name, *_name, ctypes.c_uint64, *_out)
 tree_json = _declare(_held, "tree_json", _handle, *_name, *_name, *_name, ctypes.c_uint64, *_out)
-key = _declare(_held, "key", _handle, *_name, *_name, *_name, ctypes.c_size_t, *_out)
+children = _declare(_held, "children", _handle, *_name, *_name, *_name, ctypes.POINTER(Child), ctypes.c_size_t, ctypes.POINTER(ctypes.c_size_t))
 # Without declared types this function takes half as long to convert its arguments. Each must have its C type: a plain int
 # would leave half of a size_t undefined.
 quick_text: Callable[..., int] = ctypes.PyDLL(_file()).resb_text

@@ -127,6 +127,13 @@ pub struct resb_found {
 }
 
 #[repr(C)]
+pub struct resb_child {
+    pub key: *const u8,
+    pub key_len: usize,
+    pub item: resb_found,
+}
+
+#[repr(C)]
 #[derive(Clone, Copy)]
 pub struct resb_locale {
     pub version: u64,
@@ -333,5 +340,17 @@ extern "C" {
         out: *mut u8,
         capacity: usize,
         len: *mut usize,
+    ) -> u32;
+    pub fn resb_children(
+        engine: *mut resb,
+        app: *const u8,
+        app_len: usize,
+        locale: *const u8,
+        locale_len: usize,
+        path: *const u8,
+        path_len: usize,
+        children: *mut resb_child,
+        capacity: usize,
+        count: *mut usize,
     ) -> u32;
 }

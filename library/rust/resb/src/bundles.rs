@@ -5,7 +5,7 @@ use std::cell::UnsafeCell;
 use std::collections::hash_map::RandomState;
 use std::hash::{BuildHasher, Hasher};
 use std::mem::MaybeUninit;
-use std::{ptr, slice};
+use std::{ptr, slice, str};
 
 /// A bundle to install: a text, or a `.res` file.
 #[derive(Clone, Copy, Debug)]
@@ -64,6 +64,31 @@ unsafe fn items<'a, T>(found: &sys::resb_found) -> &'a [T] {
     match found.count {
         0 => &[],
         count => slice::from_raw_parts(found.at.cast(), count),
+    }
+}
+
+/// An item of a table or an array.
+#[derive(Clone, Copy, Debug, PartialEq, Eq)]
+pub enum Child<'a> {
+    Item(Item<'a>),
+    /// The UTF-16 units of an alias, which a lookup of the item's path follows.
+    Alias(&'a [u16]),
+}
+
+impl<'a> Child<'a> {
+    /// # Safety
+    /// A lookup wrote `child`, and its engine doesn't change while 'a lasts.
+    unsafe fn with_key(child: sys::resb_child) -> (&'a str, Child<'a>) {
+        let key = match child.key_len {
+            0 => &[],
+            len => slice::from_raw_parts(child.key, len),
+        };
+        let item = match child.item.kind {
+            sys::RESB_ALIAS => Child::Alias(items(&child.item)),
+            _ => Child::Item(Item::of(child.item)),
+        };
+        // A key is ASCII.
+        (str::from_utf8(key).unwrap_or_default(), item)
     }
 }
 
@@ -289,6 +314,36 @@ impl Bundles {
         self.found(|found| unsafe {
             sys::resb_look_within(self.0.get(), a, an, l, ln, p, pn, steps, found)
         })
+    }
+
+    /// Looks up a table or an array, and returns its items in their order with their keys, which are
+    /// empty in an array; without what it inherits. RESB_OTHER_KIND, and the errors of
+    /// [`Bundles::look`].
+    pub fn children(
+        &self,
+        app: &str,
+        locale: &str,
+        path: &str,
+    ) -> Result<Vec<(&str, Child<'_>)>, Error> {
+        let (a, an, l, ln) = (app.as_ptr(), app.len(), locale.as_ptr(), locale.len());
+        let (p, pn) = (path.as_ptr(), path.len());
+        let call = |found: &mut Vec<sys::resb_child>, count: &mut usize| {
+            let (to, room) = (found.as_mut_ptr(), found.capacity());
+            // SAFETY: the pointers have the lengths of what they point to.
+            unsafe { sys::resb_children(self.0.get(), a, an, l, ln, p, pn, to, room, count) }
+        };
+        let (mut found, mut count) = (Vec::new(), 0);
+        if call(&mut found, &mut count) == sys::RESB_NO_ROOM {
+            found.reserve_exact(count);
+        }
+        result_of(call(&mut found, &mut count))?;
+        // SAFETY: the call has written this many items.
+        unsafe { found.set_len(count) };
+        // SAFETY: as of an item that a lookup finds.
+        Ok(found
+            .into_iter()
+            .map(|it| unsafe { Child::with_key(it) })
+            .collect())
     }
 
     /// Looks up like [`Bundles::look_within`], and returns the item as the reply of `resb serve`

@@ -25,7 +25,7 @@ mod bundles;
 mod error;
 
 pub use bundle::Bundle;
-pub use bundles::{Bundles, Content, Item, Locale};
+pub use bundles::{Bundles, Child, Content, Item, Locale};
 pub use error::{Error, Place};
 pub use resb_sys as sys;
 

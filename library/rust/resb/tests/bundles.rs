@@ -1,4 +1,6 @@
-use resb::{check, check_for_icu, compile, sys, Bundle, Bundles, Content, Error, Item, Place};
+use resb::{
+    check, check_for_icu, compile, sys, Bundle, Bundles, Child, Content, Error, Item, Place,
+};
 
 const GERMAN: &str = "de{greeting{\"Grüß\"} low:int{-1} v:intvector{1,-2} b:bin{00ff} e:bin{\"\"} \
                       list{\"a\",\"bc\"} menu{open{\"Auf\"} close{\"Zu\"}}}";
@@ -75,6 +77,28 @@ fn changes_and_counts() {
         bundles.look("shop", "de", ""),
         Err(error(sys::RESB_NO_BUNDLE))
     );
+}
+
+#[test]
+fn lists_children() {
+    let mut bundles = opened();
+    let text = "xx{a:alias{\"/LOCALE/b\"} b{\"c\"} l{\"d\",:int{-1}} t:table{}}";
+    bundles.install("shop", "xx", Content::Text(text)).unwrap();
+    let (target, c): (Vec<u16>, Vec<u16>) = ("/LOCALE/b".encode_utf16().collect(), vec![0x63]);
+    assert_eq!(
+        bundles.children("shop", "xx_YY", "").unwrap(),
+        [
+            ("a", Child::Alias(&target)),
+            ("b", Child::Item(Item::String(&c))),
+            ("l", Child::Item(Item::Array(2))),
+            ("t", Child::Item(Item::Table(0)))
+        ]
+    );
+    let items = bundles.children("shop", "xx", "l").unwrap();
+    assert_eq!(items[1], ("", Child::Item(Item::Int(-1))));
+    assert_eq!(bundles.children("shop", "xx", "t"), Ok(vec![]));
+    let other = bundles.children("shop", "xx", "b");
+    assert_eq!(other, Err(error(sys::RESB_OTHER_KIND)));
 }
 
 #[test]

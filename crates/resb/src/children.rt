@@ -1,0 +1,159 @@
+//! The items of a table or an array, described by one lookup.
+ghost use Rattle.std.specs.Prelude.{◌≡◌, ◌≢◌, ◌<◌, ◌≤◌, IfNone, IfSome, Some, length, map};
+ghost use Rattle.std.specs.Prelude.{option_map, slice_get, take};
+ghost use Rattle.rb_views.specs.Seen.{entries_seen, tree_seen, trees_seen};
+ghost use Rattle.rb_handle.specs.Stored.{engine_of};
+ghost use Rattle.resb.specs.Children.{CopiesChildren, children_of, listed, shown, shown_child};
+ghost use Rattle.resb.specs.Children.{shown_entry, shown_item, size_of};
+ghost use Rattle.resb.specs.Looks.{answer_in};
+
+use crate::found::{Found, start_of};
+use crate::held::take;
+use crate::looks::keep_open;
+use crate::numbers::{CLOSED, NO_ROOM, OTHER_KIND, look_number};
+use rb_engine::Engine;
+use rb_handle::Handle;
+use rb_views::{Array, Item, Table};
+use std::alloc::Global;
+
+/// An item of a table, with its key, or of an array. `key` and `item.at` point into the file that
+/// the engine stores, until the next change.
+#[repr(C)]
+#[derive(Drop)]
+pub struct Child {
+    pub key: *mut u8,
+    pub key_len: usize,
+    pub item: Found,
+}
+
+/// The items of a table or of an array.
+#[derive(Clone, Copy)]
+enum Items<'a> {
+    Table(Table<'a>),
+    Array(Array<'a>),
+}
+
+fn items_of(item: Item<'_>) -> Option<Items<'_>>
+    ensures { option_map listed result ≡ children_of (tree_seen item.entry) }
+{
+    if let Some(table) = item.table() {
+        return Some(Items::Table(table));
+    }
+    match item.array() {
+        Some(array) => Some(Items::Array(array)),
+        None => None,
+    }
+}
+
+fn count_of(items: Items<'_>) -> usize
+    ensures listed { result ≡ length (listed items.entry) }
+    ensures size { result ≡ size_of items.entry }
+{
+    match items {
+        Items::Table(table) => table.len(),
+        Items::Array(array) => array.len(),
+    }
+}
+
+fn child_of(key: &[u8], item: Item<'_>) -> Child
+    ensures { shown_child result ≡ shown key.now (tree_seen item.entry) }
+{
+    Child {
+        key: start_of(key),
+        key_len: key.len(),
+        item: Found::of(item),
+    }
+}
+
+#[tactic(auto, using(crate::proofs::Shown::entry_shown))]
+fn entry_at(table: Table<'_>, i: usize) -> Child
+    requires { i < length (entries_seen table) }
+    ensures { Some (shown_child result)
+        ≡ slice_get (map shown_entry (entries_seen table.entry)) i }
+{
+    child_of(table.key(i), table.item(i))
+}
+
+#[tactic(auto, using(crate::proofs::Shown::item_shown))]
+fn item_at(array: Array<'_>, i: usize) -> Child
+    requires { i < length (trees_seen array) }
+    ensures { Some (shown_child result)
+        ≡ slice_get (map shown_item (trees_seen array.entry)) i }
+{
+    child_of(&[], array.item(i))
+}
+
+fn child_at(items: Items<'_>, i: usize) -> Child
+    requires { i < size_of items }
+    ensures { Some (shown_child result) ≡ slice_get (listed items.entry) i }
+{
+    match items {
+        Items::Table(table) => entry_at(table, i),
+        Items::Array(array) => item_at(array, i),
+    }
+}
+
+#[tactic(auto, using(crate::proofs::Shown::one_more))]
+fn describe_all(items: Items<'_>, out: &mut [Child])
+    requires { length (listed items) ≤ length out.old }
+    ensures { map shown_child (take (length (listed items.entry)) out.new) ≡ listed items.entry }
+{
+    for i in 0..count_of(items) {
+        out[i] = child_at(items, i);
+    }
+}
+
+fn children_in(
+    engine: &Engine,
+    app: &[u8],
+    locale: &[u8],
+    path: &[u8],
+    out: &mut [Child],
+    count: &mut usize,
+) -> u32
+    ensures children { CopiesChildren (answer_in engine.now app.now locale.now path.now) result
+        count.new (length out.old) (map shown_child (take count.new out.new)) }
+    ensures unchanged { result ≢ 0 → out.new ≡ out.old }
+{
+    let item = match engine.look(app, locale, path) {
+        Ok(it) => it.node,
+        Err(fault) => return look_number(fault),
+    };
+    let Some(items) = items_of(item) else {
+        return OTHER_KIND;
+    };
+    *count = count_of(items);
+    if *count > out.len() {
+        return NO_ROOM;
+    }
+    describe_all(items, out);
+    0
+}
+
+/// Looks up a table or an array, and describes its items in their order. For a short `out` it
+/// writes only their number.
+#[unsafe(no_mangle)]
+pub extern "C" fn resb_children(
+    alloc: Global,
+    handle: &mut Handle,
+    app: &[u8],
+    locale: &[u8],
+    path: &[u8],
+    out: &mut [Child],
+    count: &mut usize,
+) -> u32
+    ensures stays { engine_of handle.new ≡ engine_of handle.old }
+    ensures children { IfSome (engine_of handle.old) (λ e. CopiesChildren
+        (answer_in e app.now locale.now path.now) result count.new (length out.old)
+        (map shown_child (take count.new out.new))) }
+    ensures unchanged { result ≢ 0 → out.new ≡ out.old }
+    ensures closed { IfNone (engine_of handle.old) (result ≡ 2) }
+{
+    let Some(mut engine) = take(alloc, handle) else {
+        return CLOSED;
+    };
+    keep_open(&mut engine, app, locale);
+    let result = children_in(&engine, app, locale, path, out, count);
+    *handle = Handle::of(engine);
+    result
+}
