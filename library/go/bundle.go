@@ -285,7 +285,7 @@ func (b *Bundles) TreeJSON(app, locale, path string, steps uint64) ([]byte, erro
 	})
 }
 
-// CheckForICU checks a file like Check, and that ures_open of libicu opens no other bundle because of its root.
+// CheckForICU checks a file like Check, and for what makes libicu crash on a bundle.
 func CheckForICU(file []byte) error {
 	p, n := bytes(file)
 	return errorOf(C.resb_check_for_icu(unsafe.Pointer(p), n))

@@ -259,7 +259,7 @@ static void fills(resb *e) {
 }
 
 static uint32_t checked(const char *text) {
-    static uint8_t file[4096];
+    static uint8_t file[1 << 15];
     size_t size;
     EXPECT(resb_compile(S(text), file, sizeof file, &size, &line) == RESB_OK && resb_check(file, size) == RESB_OK);
     uint32_t error = resb_check_for_icu(file, size);
@@ -275,7 +275,44 @@ static void checks_for_icu(void) {
     EXPECT(checked("de{a{\"%%ALIAS\"{\"de\"} \"%%Parent\"{\"de\"}}}") == RESB_OK);
     EXPECT(checked("de{a:alias{\"fr/x\"} \"%%ALIA\"{\"de\"} \"%%Version\"{\"1\"}}") == RESB_OK);
     EXPECT(checked("de{}") == RESB_OK);
+    EXPECT(checked("de{a{\"b\"} c{\"d\",:alias{\"/LOCALE/\"}}}") == RESB_ICU_TARGET);
+    EXPECT(checked("de{a:alias{\"de/\"} \"%%Parent\"{\"root\"}}") == RESB_ICU_PARENT);
+    EXPECT(checked("de{a:alias{\"/ICUDATA/de/\"}}") == RESB_ICU_TARGET);
+    EXPECT(checked("de{t{a:alias{\"/LOCALE/\\u0000x\"}}}") == RESB_ICU_TARGET);
+    EXPECT(checked("de{a{\"/LOCALE/\"} b:alias{\"/LOCALE/a\"} c:alias{\"\"} d:alias{\"/LOCALE\"} \"e/\"{\"x/\"}}") == RESB_OK);
     EXPECT(resb_check_for_icu(out, 0) == RESB_FILE_HEADER);
+}
+
+/* Checks that aliases may share a text of usual length. */
+static void shares_a_target(void) {
+    char source[1 << 14] = "de{t{\"x\"} a:array{";
+    for (int i = 0; i < 300; i++)
+        strcat(source, ":alias{\"/LOCALE/calendar/gregorian/t\"},");
+    EXPECT(checked(strcat(source, "}}")) == RESB_OK);
+}
+
+/* Makes a file of an array whose items are one array of ints, and checks it. */
+static uint32_t checked_sharing(int number) {
+    static uint8_t file[1 << 16];
+    char source[1 << 12] = "de{a{{";
+    size_t size;
+    uint32_t word, shared = 0;
+    for (int i = 0; i < number; i++)
+        strcat(source, ":int{2},");
+    strcat(source, "},");
+    for (int i = 0; i < number; i++)
+        strcat(source, ":int{1},");
+    strcat(source, "}}");
+    EXPECT(resb_compile(S(source), file, sizeof file, &size, &line) == RESB_OK && resb_check_for_icu(file, size) == RESB_OK);
+    for (size_t at = 0; at + 4 <= size; at += 4) {
+        uint32_t before = shared;
+        memcpy(&word, file + at, 4);
+        shared = word >> 28 == RESB_ARRAY ? word : before;
+        if (word == 0x70000001u)
+            memcpy(file + at, &shared, 4);
+    }
+    EXPECT(resb_check(file, size) == RESB_OK);
+    return resb_check_for_icu(file, size);
 }
 
 int main(int argc, char **argv) {
@@ -296,6 +333,8 @@ int main(int argc, char **argv) {
     if (!quick)
         fills(&e);
     checks_for_icu();
+    shares_a_target();
+    EXPECT(checked_sharing(1) == RESB_OK && checked_sharing(100) == RESB_ICU_ITEMS);
     resb_close(&e);
     puts("items, trees and bundles were written, prepared and released as expected");
     return 0;

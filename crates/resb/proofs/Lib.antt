@@ -1,6 +1,7 @@
 pub mod Copies
 pub mod FoundItems
 pub mod Named
+pub mod OpenAliases
 pub mod Releasing
 pub mod Shown
 pub mod ZeroEnded

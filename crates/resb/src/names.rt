@@ -108,6 +108,8 @@ fn parents_name(error: u32) -> &'static Name
         73 => b"ParentsTwoParents\0",
         75 => b"IcuAlias\0\0\0\0\0\0\0\0\0\0",
         76 => b"IcuParent\0\0\0\0\0\0\0\0\0",
+        77 => b"IcuTarget\0\0\0\0\0\0\0\0\0",
+        78 => b"IcuItems\0\0\0\0\0\0\0\0\0\0",
         _ => UNNAMED,
     }
 }

@@ -46,6 +46,12 @@ pub(crate) const ICU_ALIAS: u32 = 75;
 
 pub(crate) const ICU_PARENT: u32 = 76;
 
+/// An alias ends with a slash.
+pub(crate) const ICU_TARGET: u32 = 77;
+
+/// The tree has more items than the file has words.
+pub(crate) const ICU_ITEMS: u32 = 78;
+
 /// The lookup takes more steps than the caller allows.
 pub(crate) const TOO_MANY_STEPS: u32 = 30;
 

@@ -86,7 +86,7 @@ def check(file: BytesLike) -> None:
 
 
 def check_for_icu(file: BytesLike) -> None:
-    """Checks a file like `check`, and that ures_open of libicu opens no other bundle because of its root."""
+    """Checks a file like `check`, and for what makes libicu crash on a bundle."""
     with _library.bytes_of(file) as (at, length):
         _must(_library.check_for_icu(at, length))
 

@@ -35,8 +35,8 @@ pub fn check(file: &[u8]) -> Result<(), Error> {
     error::result_of(unsafe { sys::resb_check(file.as_ptr(), file.len()) })
 }
 
-/// Checks a file like [`check`], and that `ures_open` of libicu opens no other bundle because of its
-/// root: RESB_ICU_ALIAS, RESB_ICU_PARENT.
+/// Checks a file like [`check`], and for what makes libicu crash on a bundle: RESB_ICU_ALIAS,
+/// RESB_ICU_PARENT, RESB_ICU_TARGET, RESB_ICU_ITEMS.
 pub fn check_for_icu(file: &[u8]) -> Result<(), Error> {
     // SAFETY: the pointer has the length of its slice.
     error::result_of(unsafe { sys::resb_check_for_icu(file.as_ptr(), file.len()) })
