@@ -4,7 +4,9 @@
 # steps of deploy/Containerfile are done, with the root read-only.
 #
 # usage: clean_root.sh OLD NEW
-# OLD and NEW are folders with packages: of version 1.1.0, and those to try.
+#        clean_root.sh --library FOLDER
+# OLD and NEW are folders with packages: of version 1.1.0, and those to try. With --library, FOLDER is what `tools/library --wheel --packages` wrote:
+# a new user's way is gone from the commands of docs/LIBRARY.md alone, and each example's time printed.
 # Says `skipped` if it isn't root, or if debootstrap or Debian's mirror isn't there.
 set -eu
 here=$(cd "$(dirname "$0")" && pwd -P)
@@ -237,6 +239,43 @@ run_image() {
     say 'the image: its user, a read-only root, the health check, and bundles that stay in the volume'
 }
 
+# page WORDS: prints the command of docs/LIBRARY.md that begins with these words
+page() { grep -m 1 "^    $1" "$top/docs/LIBRARY.md" | sed 's|CHECKOUT|/work|g; s/^ *//'; }
+
+# example NAME FOLDER COMMAND: runs a command in a folder of the root $root, whose last line must be a text of the examples; prints its time
+example() {
+    local began=$SECONDS
+    quietly in_root "$root" "$2" "$3"
+    [ "$(tail -n 1 "$log")" = Öffnen ] || fail "$1 prints: $(cat "$log")"
+    say "$1, $((SECONDS - began)) s"
+}
+
+# web COMMAND: has a program serve the examples, asks it for a text, and ends it
+web() {
+    printf '%s' "$1 >/tmp/url & server=\$!; while ! grep -q http /tmp/url; do sleep 0.1; kill -0 \$server || exit 1; done;"
+    printf '%s' ' curl -s -H "Accept-Language: de-AT" "$(sed -n "1s|/greeting$||p" /tmp/url)/menu/open"; kill $server'
+}
+
+# Goes a new user's way over the packages: installs them, and builds and runs each example by the command of the page.
+run_library() {
+    local root=$1 began=$SECONDS
+    mount -t proc proc "$root/proc"
+    fetching in_root "$root" /work 'apt-get install gcc libc6-dev pkg-config python3-venv golang-go cargo curl ca-certificates'
+    say "compilers and interpreters of Debian, $((SECONDS - began)) s"
+    began=$SECONDS
+    fetching in_root "$root" /work "$(grep -o 'apt-get install ./out/\*.deb' "$top/docs/LIBRARY.md")"
+    say "the packages of the library, $((SECONDS - began)) s"
+    ip link set lo up
+    example 'the command in C' /work "$(page 'cc ') && $(page ./lookup)"
+    example 'the wheel for Python' /work "python3 -m venv /env && PATH=/env/bin:\$PATH && $(page 'pip install') && python3 -c 'import resb
+with resb.Bundles() as bundles:
+    bundles.install(\"shop\", \"de\", open(\"library/examples/texts/de.txt\").read())
+    print(bundles.text(\"shop\", \"de_AT\", \"menu/open\"))'"
+    example 'the handler in Python' /work "$(web "$(grep -o 'python3 library/examples/web.py[^`]*' "$top/docs/LIBRARY.md") 0")"
+    example 'the handler in Go' /work/library/go "$(web "$(page 'go run') -listen 127.0.0.1:0")"
+    example 'the command in Rust' /work/library/rust "$(page 'cargo run')"
+}
+
 if [ "${1-}" = --within ]; then
     shift
     "$@"
@@ -249,12 +288,9 @@ for tool in debootstrap unshare chroot python3 curl apt-get ip; do
 done
 made=$(mktemp -d)
 trap 'rm -rf "$made"' EXIT
-old_version=$(version_of "$1"/resb_*.deb)
-new_version=$(version_of "$2"/resb_*.deb)
 log=$made/log
 program=$made/program/usr/bin/resb
-export log old_version new_version program
-dpkg-deb -x "$2"/resb_*_amd64.deb "$made/program"
+export log program
 mirror=$(mirror)
 began=$SECONDS
 apart '' make_root "$made/image" "${mirror:-http://deb.debian.org/debian}" || {
@@ -263,6 +299,17 @@ apart '' make_root "$made/image" "${mirror:-http://deb.debian.org/debian}" || {
 }
 cp -a "$made/image" "$made/root"
 say "a root by debootstrap, $((SECONDS - began)) s"
+if [ "$1" = --library ]; then
+    mkdir "$made/root/work"
+    git -C "$top" archive HEAD library docs | tar -x -C "$made/root/work"
+    cp -r "$2" "$made/root/work/out"
+    tried '' run_library "$made/root"
+    exit 0
+fi
+old_version=$(version_of "$1"/resb_*.deb)
+new_version=$(version_of "$2"/resb_*.deb)
+export old_version new_version
+dpkg-deb -x "$2"/resb_*_amd64.deb "$made/program"
 mkdir "$made/root/packages" "$made/image/packages"
 cp -r "$1" "$made/root/packages/old"
 cp -r "$2" "$made/root/packages/new"
