@@ -1,7 +1,7 @@
 use crate::collector::Collector;
 use crate::piece::{Piece, PieceKind, narrow};
 use crate::warning::Doubt;
-use std::alloc::{AllocError, Global};
+use std::alloc::Global;
 
 /// The body after an open brace.
 #[derive(Clone, Copy)]
@@ -52,28 +52,31 @@ impl AdjacentSearch {
         }
     }
 
-    fn enter(&mut self, of_type: &[u8]) -> Result<(), AllocError> {
-        self.open.push(body_of(of_type, self.noted.len()))?;
-        Ok(())
+    fn enter(&mut self, of_type: &[u8], warnings: &mut Collector<'_>) {
+        let body = body_of(of_type, self.noted.len());
+        warnings.heap.push(&mut self.open, body);
     }
 
     /// Closes a body. Only in a list are adjacent texts doubtful.
-    fn leave(&mut self, warnings: &mut Collector<'_>) -> Result<(), AllocError> {
+    fn leave(&mut self, warnings: &mut Collector<'_>) {
         let Some(open) = self.open.pop() else {
-            return Ok(());
+            return;
         };
-        let first = open.noted as usize;
         if open.is_list {
-            for past in self.noted.get(first..).unwrap_or(&[]) {
-                warnings.add(*past as usize, Doubt::Joined)?;
-            }
+            self.leave_list(open, warnings);
         }
-        self.noted.truncate(first);
-        match open.loose {
-            Some(at) if open.is_list && open.has_quoted => {
-                warnings.add(at as usize, Doubt::LooseItem)
+        self.noted.truncate(open.noted as usize);
+    }
+
+    /// Reports adjacent texts of a list, and a text without quotes among others.
+    fn leave_list(&self, open: OpenBody, warnings: &mut Collector<'_>) {
+        for past in self.noted.get(open.noted as usize..).unwrap_or(&[]) {
+            warnings.add(*past as usize, Doubt::Joined);
+        }
+        if let Some(at) = open.loose {
+            if open.has_quoted {
+                warnings.add(at as usize, Doubt::LooseItem);
             }
-            _ => Ok(()),
         }
     }
 
@@ -98,15 +101,9 @@ impl AdjacentSearch {
     }
 
     /// Takes two texts side by side.
-    fn meet(
-        &mut self,
-        text: &[u8],
-        a: &Piece,
-        b: &Piece,
-        warnings: &mut Collector<'_>,
-    ) -> Result<(), AllocError> {
+    fn meet(&mut self, text: &[u8], a: &Piece, b: &Piece, warnings: &mut Collector<'_>) {
         if a.spans_lines || b.spans_lines {
-            return Ok(());
+            return;
         }
         if a.kind != b.kind {
             return warnings.add(b.first, Doubt::Mixed);
@@ -119,9 +116,8 @@ impl AdjacentSearch {
             self.note_loose(a);
         }
         if (a.kind == PieceKind::Quoted || is_vector) && !is_continued(text, a, b) {
-            self.noted.push(narrow(a.past as u64))?;
+            warnings.heap.push(&mut self.noted, narrow(a.past as u64));
         }
-        Ok(())
     }
 
     /// Takes the next piece, and the one before it.
@@ -131,23 +127,17 @@ impl AdjacentSearch {
         before: &Piece,
         piece: &Piece,
         warnings: &mut Collector<'_>,
-    ) -> Result<(), AllocError> {
+    ) {
         self.note_kind(piece);
         match piece.kind {
-            PieceKind::LeftBrace if before.is_text() => {
-                self.enter(text.get(before.first..before.past).unwrap_or(&[]))
-            }
-            PieceKind::LeftBrace => self.enter(b""),
+            PieceKind::LeftBrace if before.is_text() => self.enter(before.of(text), warnings),
+            PieceKind::LeftBrace => self.enter(b"", warnings),
             PieceKind::RightBrace => self.leave(warnings),
-            PieceKind::Comma => {
-                self.comma();
-                Ok(())
-            }
-            PieceKind::Colon => Ok(()),
+            PieceKind::Comma => self.comma(),
             PieceKind::Quoted | PieceKind::Unquoted if before.is_text() => self.meet(
                 text, before, piece, warnings,
             ),
-            PieceKind::Quoted | PieceKind::Unquoted => Ok(()),
+            _ => {}
         }
     }
 }

@@ -1,6 +1,7 @@
 //! Comments that allow warnings: `// resb-lint: allow NAME` before an entry.
+use crate::heap::Heap;
 use crate::lengths::longest_of;
-use crate::piece::{Piece, PieceKind};
+use crate::piece::{Piece, PieceKind, line_width};
 use crate::rule::{Rule, RuleSet};
 use crate::scan::{Quoting, Visit, visit_pieces};
 use std::alloc::{AllocError, Global};
@@ -25,9 +26,9 @@ impl Allowances {
     /// Returns the rules that are allowed at a byte.
     pub(crate) fn at(&self, at: usize) -> RuleSet {
         let past = self.changes.partition_point(|change| change.at <= at);
-        match past.checked_sub(1).and_then(|i| self.changes.get(i)) {
-            Some(change) => change.rules,
-            None => RuleSet::none(),
+        match self.changes.get(..past) {
+            Some([.., change]) => change.rules,
+            _ => RuleSet::none(),
         }
     }
 
@@ -53,45 +54,59 @@ struct AllowSearch {
     rules: RuleSet,
     open: Vec<OpenAllowance>,
     found: Allowances,
+    heap: Heap,
 }
 
 const PREFIX: &str = "resb-lint:";
 
 /// Returns what follows `resb-lint:` in a comment, up to the end of its line.
 pub(crate) fn directive(window: &[u8]) -> Option<&str> {
-    let end = window
-        .iter()
-        .position(|byte| *byte == b'\n' || *byte == b'\r')
-        .unwrap_or(window.len());
-    let comment = str::from_utf8(window.get(2..end)?).ok()?;
-    comment.trim().strip_prefix(PREFIX)
+    let comment = window.get(2..line_width(window))?;
+    match str::from_utf8(comment) {
+        Ok(comment) => comment.trim().strip_prefix(PREFIX),
+        Err(_) => None,
+    }
 }
 
 impl AllowSearch {
     /// Adds the rules that a comment names after `allow`.
-    fn allow(&mut self, at: usize, names: &str) -> Result<(), AllocError> {
+    fn allow(&mut self, at: usize, names: &str) {
         let before = self.rules;
-        for name in names.split(|c: char| c == ',' || c.is_whitespace()) {
-            match Rule::named(name) {
-                Some(rule) => self.rules = self.rules.with(rule),
-                None if name.is_empty() => {}
-                None => self.found.unknown.push(at)?,
-            }
+        for names in names.split(',') {
+            self.allow_names(at, names);
         }
-        self.open.push(OpenAllowance {
+        let open = OpenAllowance {
             depth: self.depth,
             before,
             has_begun: false,
-        })?;
-        self.found.changes.push(Change {
-            at,
-            rules: self.rules,
-        })?;
-        Ok(())
+        };
+        self.heap.push(&mut self.open, open);
+        self.change(at);
+    }
+
+    /// Adds the rules with names between blanks.
+    fn allow_names(&mut self, at: usize, names: &str) {
+        for name in names.split_whitespace() {
+            match Rule::named(name) {
+                Some(rule) => self.rules = self.rules.with(rule),
+                None => self.unknown(at),
+            }
+        }
+    }
+
+    fn unknown(&mut self, at: usize) {
+        self.heap.push(&mut self.found.unknown, at);
+    }
+
+    /// Notes the rules that are allowed from a byte on.
+    fn change(&mut self, at: usize) {
+        let rules = self.rules;
+        self.heap
+            .push(&mut self.found.changes, Change { at, rules });
     }
 
     /// Ends the entries at this depth or deeper that have begun.
-    fn end(&mut self, depth: u64, past: usize) -> Result<(), AllocError> {
+    fn end(&mut self, depth: u64, past: usize) {
         let count = self.open.len();
         for _ in 0..count {
             match self.open.last() {
@@ -103,12 +118,8 @@ impl AllowSearch {
             let _ = self.open.pop();
         }
         if self.open.len() < count {
-            self.found.changes.push(Change {
-                at: past,
-                rules: self.rules,
-            })?;
+            self.change(past);
         }
-        Ok(())
     }
 
     /// Notes that the entries after the last comments have begun.
@@ -123,41 +134,41 @@ impl AllowSearch {
 }
 
 impl Visit for AllowSearch {
-    fn piece(&mut self, piece: &Piece) -> Result<(), AllocError> {
+    fn piece(&mut self, piece: &Piece) {
         match piece.kind {
             PieceKind::LeftBrace => {
                 self.begin();
                 self.depth = self.depth.saturating_add(1);
-                Ok(())
             }
             PieceKind::RightBrace => {
                 self.depth = self.depth.saturating_sub(1);
-                self.end(self.depth, piece.past)
+                self.end(self.depth, piece.past);
             }
             PieceKind::Comma => self.end(self.depth, piece.past),
-            PieceKind::Quoted | PieceKind::Unquoted | PieceKind::Colon => {
-                self.begin();
-                Ok(())
-            }
+            PieceKind::Quoted | PieceKind::Unquoted | PieceKind::Colon => self.begin(),
         }
     }
 
-    fn comment(&mut self, at: usize, window: &[u8]) -> Result<(), AllocError> {
+    fn comment(&mut self, at: usize, window: &[u8]) {
         let Some(words) = directive(window) else {
-            return Ok(());
+            return;
         };
         match words.trim().strip_prefix("allow") {
             Some(names) => self.allow(at, names),
-            None if longest_of(words).is_some() => Ok(()),
-            None => Ok(self.found.unknown.push(at)?),
+            None if longest_of(words).is_none() => self.unknown(at),
+            None => {}
         }
     }
 }
 
 /// Checks whether a text may have a comment for the linter, as nearly all have none.
 pub(crate) fn has_directive(text: &[u8]) -> bool {
-    text.windows(PREFIX.len())
-        .any(|window| window == PREFIX.as_bytes())
+    for window in text.windows(PREFIX.len()) {
+        if window == PREFIX.as_bytes() {
+            return true;
+        }
+    }
+    false
 }
 
 impl Allowances {
@@ -175,10 +186,11 @@ impl Allowances {
                 changes: Vec::new(alloc),
                 unknown: Vec::new(alloc),
             },
+            heap: Heap::new(alloc),
         };
         if has_directive(text) {
-            visit_pieces(alloc, text, quoting, &mut search)?;
+            visit_pieces(text, quoting, &mut search);
         }
-        Ok(search.found)
+        search.heap.finish(search.found)
     }
 }

@@ -3,7 +3,7 @@ use crate::collector::Collector;
 use crate::piece::{Piece, PieceKind, narrow};
 use crate::scan::Visit;
 use crate::warning::Doubt;
-use std::alloc::{AllocError, Global};
+use std::alloc::Global;
 
 /// The column of the entries of a brace whose line has the first one: further lines may be indented
 /// by any amount, and one of them may close the brace at its end.
@@ -29,72 +29,72 @@ pub(crate) struct BraceSearch<'a> {
 }
 
 impl<'a> BraceSearch<'a> {
-    pub(crate) fn new(
-        alloc: Global,
-        warnings: Collector<'a>,
-    ) -> Result<BraceSearch<'a>, AllocError> {
-        let mut open = Vec::new(alloc);
-        open.push(OpenBrace {
-            column: 0,
-            line: 0,
-            entries: 0,
-        })?;
-        Ok(BraceSearch {
-            open,
+    pub(crate) fn new(alloc: Global, warnings: Collector<'a>) -> BraceSearch<'a> {
+        let mut search = BraceSearch {
+            open: Vec::new(alloc),
             last_spanning: (0, 0),
             warnings,
-        })
+        };
+        search.open(0, 0, 0);
+        search
+    }
+
+    fn open(&mut self, column: u32, line: u32, entries: u32) {
+        let brace = OpenBrace {
+            column,
+            line,
+            entries,
+        };
+        self.warnings.heap.push(&mut self.open, brace);
     }
 
     /// Closes the braces that an earlier line opened at this column or further right: they lack
     /// their closing brace.
-    fn close_before(&mut self, piece: &Piece, column: u32) -> Result<(), AllocError> {
+    fn close_before(&mut self, piece: &Piece, column: u32) {
         for _ in 0..self.open.len() {
-            match self.open.last() {
+            match self.open.last().copied() {
                 Some(top) if u64::from(top.line) < piece.line && top.column >= column => {
                     if top.line != self.last_spanning.0 {
-                        self.warnings.add(piece.first, Doubt::NotClosed(top.line))?;
+                        self.warnings.add(piece.first, Doubt::NotClosed(top.line));
                     }
                 }
-                _ => return Ok(()),
+                _ => return,
             }
             let _ = self.open.pop();
         }
-        Ok(())
     }
 
-    fn begin_line(&mut self, piece: &Piece) -> Result<(), AllocError> {
+    fn begin_line(&mut self, piece: &Piece) {
         let column = narrow(piece.column);
-        self.close_before(piece, column)?;
+        self.close_before(piece, column);
         let Some(top) = self.open.last_mut() else {
-            return Ok(());
+            return;
         };
-        if top.entries == 0 {
+        let entries = top.entries;
+        if entries == 0 {
             top.entries = column;
-            return Ok(());
+        } else if piece.kind == PieceKind::Unquoted && column > entries {
+            self.warnings.add(piece.first, Doubt::FurtherRight);
+            self.open(entries, 0, column);
         }
-        if piece.kind != PieceKind::Unquoted || column <= top.entries {
-            return Ok(());
-        }
-        let brace = OpenBrace {
-            column: top.entries,
-            line: 0,
-            entries: column,
-        };
-        self.warnings.add(piece.first, Doubt::FurtherRight)?;
-        self.open.push(brace)?;
-        Ok(())
     }
 
-    fn close_line(&mut self, piece: &Piece) -> Result<(), AllocError> {
+    fn close_line(&mut self, piece: &Piece) {
         let column = narrow(piece.column);
-        self.close_before(piece, column.saturating_add(1))?;
-        match self.open.last() {
-            Some(top) if top.column == column => {
-                let _ = self.open.pop();
-                Ok(())
-            }
-            _ => self.warnings.add(piece.first, Doubt::NotOpened),
+        self.close_before(piece, column.saturating_add(1));
+        let is_closed = match self.open.last() {
+            Some(top) => top.column == column,
+            None => false,
+        };
+        self.close(piece, is_closed);
+    }
+
+    /// Closes the innermost brace, or reports a brace that closes none.
+    fn close(&mut self, piece: &Piece, is_closed: bool) {
+        if is_closed {
+            let _ = self.open.pop();
+        } else {
+            self.warnings.add(piece.first, Doubt::NotOpened);
         }
     }
 
@@ -107,14 +107,12 @@ impl<'a> BraceSearch<'a> {
             || top.entries == HANGING && top.column < narrow(piece.column)
     }
 
-    fn close_within(&mut self, piece: &Piece) -> Result<(), AllocError> {
-        match self.open.last() {
-            Some(top) if self.closes(piece, top) => {
-                let _ = self.open.pop();
-                Ok(())
-            }
-            _ => self.warnings.add(piece.first, Doubt::NotOpened),
-        }
+    fn close_within(&mut self, piece: &Piece) {
+        let is_closed = match self.open.last() {
+            Some(top) => self.closes(piece, top),
+            None => false,
+        };
+        self.close(piece, is_closed);
     }
 
     /// Notes whether a brace has its first entry in its own line.
@@ -128,29 +126,18 @@ impl<'a> BraceSearch<'a> {
 }
 
 impl<'a> Visit for BraceSearch<'a> {
-    fn piece(&mut self, piece: &Piece) -> Result<(), AllocError> {
-        if piece.kind == PieceKind::RightBrace {
-            return if piece.begins_line {
-                self.close_line(piece)
-            } else {
-                self.close_within(piece)
-            };
-        }
-        if piece.begins_line {
-            self.begin_line(piece)?;
-        } else {
-            self.continue_line(piece);
+    fn piece(&mut self, piece: &Piece) {
+        match (piece.kind, piece.begins_line) {
+            (PieceKind::RightBrace, true) => return self.close_line(piece),
+            (PieceKind::RightBrace, false) => return self.close_within(piece),
+            (_, true) => self.begin_line(piece),
+            (_, false) => self.continue_line(piece),
         }
         if piece.spans_lines {
             self.last_spanning = (narrow(piece.line), narrow(piece.last_line));
         }
         if piece.kind == PieceKind::LeftBrace {
-            self.open.push(OpenBrace {
-                column: narrow(piece.column),
-                line: narrow(piece.line),
-                entries: 0,
-            })?;
+            self.open(narrow(piece.column), narrow(piece.line), 0);
         }
-        Ok(())
     }
 }

@@ -1,5 +1,6 @@
 use crate::allowed::Allowances;
 use crate::finding::Message;
+use crate::heap::Heap;
 use crate::rule::{Levels, Rule};
 use crate::warning::Doubt;
 use std::alloc::{AllocError, Global};
@@ -21,6 +22,7 @@ pub(crate) struct Collector<'a> {
     limit: usize,
     found: Vec<Found>,
     count: u64,
+    pub(crate) heap: Heap,
 }
 
 impl<'a> Collector<'a> {
@@ -36,11 +38,12 @@ impl<'a> Collector<'a> {
             limit,
             found: Vec::new(alloc),
             count: 0,
+            heap: Heap::new(alloc),
         }
     }
 
-    pub(crate) fn add(&mut self, at: usize, doubt: Doubt) -> Result<(), AllocError> {
-        self.push(at, doubt.rule(), Message::Doubt(doubt))
+    pub(crate) fn add(&mut self, at: usize, doubt: Doubt) {
+        self.push(at, doubt.rule(), Message::Doubt(doubt));
     }
 
     /// Checks whether warnings of a rule are left out at a place.
@@ -48,46 +51,41 @@ impl<'a> Collector<'a> {
         self.levels.leaves_out(rule) || self.allowances.at(at).has(rule)
     }
 
-    pub(crate) fn push(
-        &mut self,
-        at: usize,
-        rule: Rule,
-        message: Message,
-    ) -> Result<(), AllocError> {
+    pub(crate) fn push(&mut self, at: usize, rule: Rule, message: Message) {
         if self.is_allowed(at, rule) {
-            return Ok(());
+            return;
         }
-        self.count = self.count.saturating_add(1);
-        self.found.push(Found {
+        self.skip();
+        let found = Found {
             at,
             rule: Some(rule),
             message,
-        })?;
+        };
+        self.heap.push(&mut self.found, found);
         if self.found.len() / 2 >= self.limit {
-            self.keep_first()?;
+            self.keep_first();
         }
-        Ok(())
     }
 
     pub(crate) fn limit(&self) -> usize {
         self.limit
     }
 
-    /// Counts a finding that comes after more than the limit.
+    /// Counts a finding.
     pub(crate) fn skip(&mut self) {
         self.count = self.count.saturating_add(1);
     }
 
     /// Keeps the first findings, in the order of the text.
-    fn keep_first(&mut self) -> Result<(), AllocError> {
-        self.found.sort_by_key(|found| found.at)?;
+    fn keep_first(&mut self) {
+        self.heap.note(self.found.sort_by_key(|found| found.at));
         self.found.truncate(self.limit);
-        Ok(())
     }
 
-    /// Returns the first findings in the order of the text, and the number of all.
+    /// Returns the first findings in the order of the text, and the number of all. `Err` means that the
+    /// search ran out of memory.
     pub(crate) fn ordered(mut self) -> Result<(Vec<Found>, u64), AllocError> {
-        self.keep_first()?;
-        Ok((self.found, self.count))
+        self.keep_first();
+        self.heap.finish((self.found, self.count))
     }
 }

@@ -1,12 +1,12 @@
 //! Compares a String with that of the root.
 use crate::difference::Change;
+use crate::heap::Heap;
 use crate::language::Language;
 use crate::messages::{Message, search_message};
 use crate::path::shown_name;
 use crate::pattern::PlacedDoubt;
 use crate::uses::{Named, ValueKind, find_named, without};
 use rb_strings::{Edge, Mark, MarkKind, lacking_ending, marks_lacking, marks_of, other_blanks};
-use std::alloc::{AllocError, Global};
 
 /// A change of a String, at one of its units or of all of it.
 #[derive(Drop)]
@@ -19,7 +19,7 @@ pub(crate) struct PlacedChange {
 
 #[derive(Drop)]
 struct Comparison {
-    alloc: Global,
+    heap: Heap,
     changes: Vec<PlacedChange>,
 }
 
@@ -33,7 +33,12 @@ fn plain_name(text: &[u16], name: &[u16]) -> Option<usize> {
     if name.len() < 2 || name.len() > NAME_LIMIT {
         return None;
     }
-    text.windows(name.len()).position(|window| window == name)
+    for (at, window) in text.windows(name.len()).enumerate() {
+        if window == name {
+            return Some(at);
+        }
+    }
+    None
 }
 
 /// Returns the kind of value that the root has for an argument, or the argument's own if one of them says
@@ -52,113 +57,84 @@ fn has_plain_numbers(here: &[u16], root: &[u16]) -> bool {
 }
 
 impl Comparison {
-    fn add(&mut self, at: usize, change: Change) -> Result<(), AllocError> {
-        self.changes.push(PlacedChange {
-            at,
-            is_whole: false,
-            change,
-        })?;
-        Ok(())
-    }
-
     /// Adds a change at a unit, or else of all of the String.
-    fn add_lack(&mut self, at: Option<usize>, change: Change) -> Result<(), AllocError> {
-        self.changes.push(PlacedChange {
+    fn add(&mut self, at: Option<usize>, change: Change) {
+        let placed = PlacedChange {
             at: at.unwrap_or(0),
             is_whole: at.is_none(),
             change,
-        })?;
-        Ok(())
+        };
+        self.heap.push(&mut self.changes, placed);
     }
 
     /// Reports arguments that a text lacks: at the first one that only it has, as that is often the same one
     /// with a mistake, or where the name is plain text.
-    fn lacking(
-        &mut self,
-        text: &[u16],
-        lacking: &[Named<'_>],
-        added: &[Named<'_>],
-    ) -> Result<(), AllocError> {
+    fn lacking(&mut self, text: &[u16], lacking: &[Named<'_>], added: &[Named<'_>]) {
         for argument in lacking {
             let place = match added.first() {
                 Some(argument) => Some(argument.at),
                 None => plain_name(text, argument.name),
             };
-            let name = shown_name(self.alloc, argument.name)?;
-            self.add_lack(place, Change::Lacks(name))?;
+            let name = shown_name(&mut self.heap, argument.name);
+            self.add(place, Change::Lacks(name));
         }
-        Ok(())
     }
 
-    fn added(&mut self, added: &[Named<'_>]) -> Result<(), AllocError> {
+    fn added(&mut self, added: &[Named<'_>]) {
         for argument in added {
-            let name = shown_name(self.alloc, argument.name)?;
-            self.add(argument.at, Change::Adds(name))?;
+            let name = shown_name(&mut self.heap, argument.name);
+            self.add(Some(argument.at), Change::Adds(name));
         }
-        Ok(())
     }
 
     /// Reports arguments that two messages use as other kinds of values.
-    fn uses(&mut self, here: &[Named<'_>], root: &[Named<'_>]) -> Result<(), AllocError> {
+    fn uses(&mut self, here: &[Named<'_>], root: &[Named<'_>]) {
         for argument in here {
             let kind = root_kind(*argument, root);
             if argument.kind != kind {
-                let name = shown_name(self.alloc, argument.name)?;
-                let change = Change::OtherUse {
-                    name,
-                    here: argument.kind,
-                    root: kind,
-                };
-                self.add(argument.at, change)?;
+                self.other_use(*argument, kind);
             }
         }
-        Ok(())
+    }
+
+    fn other_use(&mut self, argument: Named<'_>, root: ValueKind) {
+        let change = Change::OtherUse {
+            name: shown_name(&mut self.heap, argument.name),
+            here: argument.kind,
+            root,
+        };
+        self.add(Some(argument.at), change);
     }
 
     /// Compares the arguments of two messages.
-    fn arguments(
-        &mut self,
-        text: &[u16],
-        here: &[Named<'_>],
-        root: &[Named<'_>],
-    ) -> Result<(), AllocError> {
-        let added = without(self.alloc, here, root)?;
-        let lacking = without(self.alloc, root, here)?;
-        self.lacking(text, &lacking, &added)?;
-        self.added(&added)?;
-        self.uses(here, root)
+    fn arguments(&mut self, text: &[u16], here: &[Named<'_>], root: &[Named<'_>]) {
+        let added = without(&mut self.heap, here, root);
+        let lacking = without(&mut self.heap, root, here);
+        self.lacking(text, &lacking, &added);
+        self.added(&added);
+        self.uses(here, root);
     }
 
     /// Compares two texts as messages.
-    fn messages(
-        &mut self,
-        text: &[u16],
-        here: &Message<'_>,
-        root: &Message<'_>,
-    ) -> Result<(), AllocError> {
+    fn messages(&mut self, text: &[u16], here: &Message<'_>, root: &Message<'_>) {
         match (&here.named, &root.named) {
             (Ok(here), Ok(root)) => self.arguments(text, here, root),
             (Err(error), Ok(root)) if !root.is_empty() => {
-                self.add(error.at, Change::Unreadable(error.fault))
+                self.add(Some(error.at), Change::Unreadable(error.fault));
             }
-            _ => Ok(()),
+            _ => {}
         }
     }
 
     /// Reports a mark of the root that a text lacks, at a unit, or else at all of the String.
-    fn lacking_mark(
-        &mut self,
-        root: &[u16],
-        mark: Mark,
-        place: Option<usize>,
-    ) -> Result<(), AllocError> {
-        let name = shown_name(self.alloc, mark.of(root))?;
-        self.add_lack(place, Change::LacksMark(mark.kind, name))
+    fn lacking_mark(&mut self, root: &[u16], mark: Mark, place: Option<usize>) {
+        let name = shown_name(&mut self.heap, mark.of(root));
+        self.add(place, Change::LacksMark(mark.kind, name));
     }
 
-    fn added_mark(&mut self, here: &[u16], mark: Mark) -> Result<(), AllocError> {
-        let name = shown_name(self.alloc, mark.of(here))?;
-        self.add(mark.first, Change::AddsMark(mark.kind, name))
+    fn added_mark(&mut self, here: &[u16], mark: Mark) {
+        let name = shown_name(&mut self.heap, mark.of(here));
+        self.add(Some(mark.first), Change::AddsMark(mark.kind, name));
     }
 
     /// Reports the marks that a text lacks, and those that only it has, given the texts of both.
@@ -166,7 +142,7 @@ impl Comparison {
         &mut self,
         (here, added): (&[u16], &[Mark]),
         (root, lacking): (&[u16], &[Mark]),
-    ) -> Result<(), AllocError> {
+    ) {
         let has_numbers = has_plain_numbers(here, root);
         let place = match added.first() {
             Some(mark) => Some(mark.first),
@@ -174,28 +150,31 @@ impl Comparison {
         };
         for mark in lacking {
             if has_numbers || mark.kind != MarkKind::Number {
-                self.lacking_mark(root, *mark, place)?;
+                self.lacking_mark(root, *mark, place);
             }
         }
         for mark in added {
             if has_numbers || mark.kind != MarkKind::Number {
-                self.added_mark(here, *mark)?;
+                self.added_mark(here, *mark);
             }
         }
-        Ok(())
     }
 
     /// Reports the marks that a text lacks, at the first of those that only it has, and the latter.
-    fn marks(&mut self, here: &[u16], root: &[u16], is_set: bool) -> Result<(), AllocError> {
-        let alloc = self.alloc;
-        let (marks, others) = (marks_of(alloc, here)?, marks_of(alloc, root)?);
+    fn marks(&mut self, here: &[u16], root: &[u16], is_set: bool) {
+        let heap = &mut self.heap;
+        let alloc = heap.alloc;
+        let (marks, others) = (
+            heap.list(marks_of(alloc, here)),
+            heap.list(marks_of(alloc, root)),
+        );
         let (this, that) = ((here, marks.as_slice()), (root, others.as_slice()));
-        let added = marks_lacking(alloc, this, that, is_set)?;
-        let lacking = marks_lacking(alloc, that, this, is_set)?;
-        self.report_marks((here, &added), (root, &lacking))
+        let added = heap.list(marks_lacking(alloc, this, that, is_set));
+        let lacking = heap.list(marks_lacking(alloc, that, this, is_set));
+        self.report_marks((here, &added), (root, &lacking));
     }
 
-    fn blanks(&mut self, here: &[u16], root: &[u16]) -> Result<(), AllocError> {
+    fn blanks(&mut self, here: &[u16], root: &[u16]) {
         for edge in other_blanks(here, root) {
             if let Some(edge) = edge {
                 let at = match edge {
@@ -203,17 +182,19 @@ impl Comparison {
                     Edge::Last { .. } => here.len().saturating_sub(1),
                     Edge::Spelled(at) => at,
                 };
-                self.add(at, Change::Blanks(edge))?;
+                self.add(Some(at), Change::Blanks(edge));
             }
         }
-        Ok(())
     }
 
     /// Compares two texts that aren't empty.
-    fn texts(&mut self, here: &[u16], root: &[u16], is_set: bool) -> Result<(), AllocError> {
-        self.marks(here, root, is_set)?;
-        self.blanks(here, root)?;
-        self.ending(here, root)
+    fn texts(&mut self, here: &[u16], root: &[u16], is_set: bool) {
+        self.marks(here, root, is_set);
+        self.blanks(here, root);
+        if let Some(ending) = lacking_ending(here, root) {
+            let last = here.len().saturating_sub(1);
+            self.add(Some(last), Change::LacksEnding(ending));
+        }
     }
 
     /// Compares two different texts, as messages and in other ways.
@@ -221,21 +202,12 @@ impl Comparison {
         &mut self,
         (here, message): (&[u16], &Message<'_>),
         (root, other): (&[u16], &Message<'_>),
-    ) -> Result<(), AllocError> {
-        self.messages(here, message, other)?;
+    ) {
+        self.messages(here, message, other);
         if !here.is_empty() && !root.is_empty() {
-            self.texts(here, root, message.has_branches || other.has_branches)
+            self.texts(here, root, message.has_branches || other.has_branches);
         } else if self.changes.is_empty() && !root.is_empty() {
-            self.add_lack(None, Change::Empty)
-        } else {
-            Ok(())
-        }
-    }
-
-    fn ending(&mut self, here: &[u16], root: &[u16]) -> Result<(), AllocError> {
-        match lacking_ending(here, root) {
-            Some(ending) => self.add(here.len().saturating_sub(1), Change::LacksEnding(ending)),
-            None => Ok(()),
+            self.add(None, Change::Empty);
         }
     }
 }
@@ -257,41 +229,40 @@ fn is_broken(here: &Message<'_>, root: &Message<'_>) -> bool {
 
 /// Returns how a String differs from the root's, in the order of its units.
 fn string_changes(
-    alloc: Global,
-    here: &[u16],
-    message: &Message<'_>,
-    root: &[u16],
-    other: &Message<'_>,
-) -> Result<Vec<PlacedChange>, AllocError> {
+    heap: &mut Heap,
+    (here, message): (&[u16], &Message<'_>),
+    (root, other): (&[u16], &Message<'_>),
+) -> Vec<PlacedChange> {
     let mut comparison = Comparison {
-        alloc,
-        changes: Vec::new(alloc),
+        heap: *heap,
+        changes: Vec::new(heap.alloc),
     };
     if here == root && !here.is_empty() {
-        comparison.add_lack(None, Change::Same)?;
+        comparison.add(None, Change::Same);
     } else {
-        comparison.strings((here, message), (root, other))?;
+        comparison.strings((here, message), (root, other));
     }
+    *heap = comparison.heap;
     let mut changes = comparison.changes;
-    changes.sort_by_key(|change: &PlacedChange| change.at)?;
-    Ok(changes)
+    heap.note(changes.sort_by_key(|change: &PlacedChange| change.at));
+    changes
 }
 
-/// Reads a String and compares it with the root's. `Err` means out of memory.
+/// Reads a String and compares it with the root's.
 pub(crate) fn compare_strings(
-    alloc: Global,
+    heap: &mut Heap,
     units: &[u16],
     root: &[u16],
     language: Language,
-) -> Result<Compared, AllocError> {
-    let mut message = search_message(alloc, units, language)?;
-    let other = search_message(alloc, root, Language::unknown())?;
-    let changes = string_changes(alloc, units, &message, root, &other)?;
+) -> Compared {
+    let mut message = search_message(heap, units, language);
+    let other = search_message(heap, root, Language::unknown());
+    let changes = string_changes(heap, (units, &message), (root, &other));
     if is_broken(&message, &other) {
         message.doubts.clear();
     }
-    Ok(Compared {
+    Compared {
         doubts: message.doubts,
         changes,
-    })
+    }
 }

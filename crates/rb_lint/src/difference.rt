@@ -1,4 +1,4 @@
-use crate::pattern::alone;
+use crate::named_text::{shown, write_named};
 use crate::rule::Rule;
 use crate::uses::ValueKind;
 use rb_explain::kind_word;
@@ -98,10 +98,6 @@ fn edge_text(edge: Edge) -> &'static str {
     }
 }
 
-fn shown(bytes: &[u8]) -> &str {
-    str::from_utf8(bytes).unwrap_or("?")
-}
-
 fn value_word(kind: ValueKind) -> &'static str {
     match kind {
         ValueKind::Any => "it is",
@@ -111,29 +107,36 @@ fn value_word(kind: ValueKind) -> &'static str {
     }
 }
 
-/// Describes a change after the item's path: the words before a name, the name, and those after it.
-fn words_of(change: &Change) -> (&'static str, &str, &'static str) {
+/// Describes a change after the item's path, with `*` in place of its name.
+fn text_of(change: &Change) -> &'static str {
     match change {
-        Change::Absent => alone("isn't here, and is in the root"),
-        Change::Additional => alone("isn't in the root"),
-        Change::OtherKind { here, .. } => ("is ", kind_word(*here), ", and not in the root"),
-        Change::Lacks(name) => ("has no {", shown(name), "}, which it has in the root"),
-        Change::Adds(name) => ("has {", shown(name), "}, which it hasn't in the root"),
-        Change::OtherUse { name, .. } => ("uses {", shown(name), "} in another way than the root"),
-        Change::OtherLength { .. } => alone("has another number of items than in the root"),
-        Change::Unreadable(_) => alone("is a message in the root, and can't be formatted here"),
-        Change::LacksMark(_, mark) => ("has no ", shown(mark), ", which it has in the root"),
-        Change::AddsMark(_, mark) => ("has ", shown(mark), ", which it hasn't in the root"),
-        Change::Blanks(edge) => alone(edge_text(*edge)),
-        Change::LacksEnding(ending) => {
-            (
-                "doesn't end with '",
-                ending.shown(),
-                "', as it does in the root",
-            )
-        }
-        Change::Empty => alone("is empty, and not in the root"),
-        Change::Same => alone("is the root's text; is it to be translated?"),
+        Change::Absent => "isn't here, and is in the root",
+        Change::Additional => "isn't in the root",
+        Change::OtherKind { .. } => "is of another type than in the root",
+        Change::Lacks(_) => "has no {*}, which it has in the root",
+        Change::Adds(_) => "has {*}, which it hasn't in the root",
+        Change::OtherUse { .. } => "uses {*} in another way than the root",
+        Change::OtherLength { .. } => "has another number of items than in the root",
+        Change::Unreadable(_) => "is a message in the root, and can't be formatted here",
+        Change::LacksMark(..) => "has no *, which it has in the root",
+        Change::AddsMark(..) => "has *, which it hasn't in the root",
+        Change::Blanks(edge) => edge_text(*edge),
+        Change::LacksEnding(_) => "doesn't end with '*', as it does in the root",
+        Change::Empty => "is empty, and not in the root",
+        Change::Same => "is the root's text; is it to be translated?",
+    }
+}
+
+/// Returns the name that a change is about, or an empty one.
+fn name_of(change: &Change) -> &str {
+    match change {
+        Change::Lacks(name)
+        | Change::Adds(name)
+        | Change::OtherUse { name, .. }
+        | Change::LacksMark(_, name)
+        | Change::AddsMark(_, name) => shown(name),
+        Change::LacksEnding(ending) => ending.shown(),
+        _ => "",
     }
 }
 
@@ -159,20 +162,23 @@ fn write_fault<W: fmt::Write>(f: &mut fmt::Formatter<W>, fault: MessageFault) ->
     )
 }
 
+fn write_lengths<W: fmt::Write>(
+    f: &mut fmt::Formatter<W>,
+    here: usize,
+    root: usize,
+) -> fmt::Result {
+    write!(f, "has {here} items, and {root} in the root")
+}
+
 /// Describes a change after the item's path.
 impl fmt::Display for Change {
     fn fmt<W: fmt::Write>(&self, f: &mut fmt::Formatter<W>) -> fmt::Result {
         match self {
             Change::OtherKind { here, root } => write_kinds(f, *here, *root),
             Change::OtherUse { name, here, root } => write_uses(f, shown(name), *here, *root),
-            Change::OtherLength { here, root } => {
-                write!(f, "has {here} items, and {root} in the root")
-            }
+            Change::OtherLength { here, root } => write_lengths(f, *here, *root),
             Change::Unreadable(fault) => write_fault(f, *fault),
-            other => {
-                let (before, name, after) = words_of(other);
-                write!(f, "{before}{name}{after}")
-            }
+            other => write_named(f, text_of(other), name_of(other)),
         }
     }
 }

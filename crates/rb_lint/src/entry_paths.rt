@@ -1,5 +1,6 @@
 //! The paths of the entries at places of a text.
-use crate::piece::{Piece, PieceKind};
+use crate::heap::Heap;
+use crate::piece::{Piece, PieceKind, unquoted};
 use crate::position::Position;
 use crate::scan::{Quoting, Visit, visit_pieces};
 use std::alloc::{AllocError, Global};
@@ -7,7 +8,7 @@ use std::alloc::{AllocError, Global};
 /// A search for the paths of ascending places, each a line and a column.
 #[derive(Drop)]
 struct PathSearch<'a> {
-    alloc: Global,
+    heap: Heap,
     text: &'a [u8],
     places: &'a [(u64, u64)],
     position: Position,
@@ -20,18 +21,9 @@ struct PathSearch<'a> {
     found: Vec<String>,
 }
 
-/// Returns a key as it is written, without quotes.
-fn key_of(text: &[u8], piece: Piece) -> &[u8] {
-    let written = text.get(piece.first..piece.past).unwrap_or(&[]);
-    match written {
-        [b'"', inside @ .., b'"'] => inside,
-        written => written,
-    }
-}
-
 impl<'a> PathSearch<'a> {
     /// Gives the current path to the places before a byte.
-    fn flush(&mut self, at: usize) -> Result<(), AllocError> {
+    fn flush(&mut self, at: usize) {
         self.position.advance(self.text, at);
         let here = (self.position.line, self.position.column);
         let next = self.places.get(self.found.len()..).unwrap_or(&[]);
@@ -39,26 +31,36 @@ impl<'a> PathSearch<'a> {
             if *place >= here {
                 break;
             }
-            let path = String::from_utf8_lossy(self.alloc, &self.path)?;
-            self.found.push(path)?;
+            self.add_path();
         }
-        Ok(())
+    }
+
+    /// Gives the current path to the next place.
+    fn add_path(&mut self) {
+        match String::from_utf8_lossy(self.heap.alloc, &self.path) {
+            Ok(path) => self.heap.push(&mut self.found, path),
+            Err(_) => self.heap.fail(),
+        }
     }
 
     /// Adds the last key to the path. The first brace is the bundle's, whose name isn't in paths.
-    fn open(&mut self) -> Result<(), AllocError> {
+    fn open(&mut self) {
         let end = self.path.len();
         if !self.ends.is_empty() {
-            if end > 0 {
-                self.path.push(b'/')?;
-            }
-            if let Some(key) = self.key.take() {
-                self.path.extend_from_slice(key_of(self.text, key))?;
-            }
+            self.add_key();
         }
         self.key = None;
-        self.ends.push(end)?;
-        Ok(())
+        self.heap.push(&mut self.ends, end);
+    }
+
+    fn add_key(&mut self) {
+        if !self.path.is_empty() {
+            self.heap.push(&mut self.path, b'/');
+        }
+        if let Some(key) = self.key {
+            self.heap
+                .extend(&mut self.path, unquoted(key.of(self.text)));
+        }
     }
 
     fn close(&mut self) {
@@ -70,35 +72,30 @@ impl<'a> PathSearch<'a> {
 }
 
 impl<'a> Visit for PathSearch<'a> {
-    fn piece(&mut self, piece: &Piece) -> Result<(), AllocError> {
+    fn piece(&mut self, piece: &Piece) {
         let is_type = self.is_type;
         self.is_type = piece.kind == PieceKind::Colon;
         match piece.kind {
             PieceKind::Quoted | PieceKind::Unquoted if !is_type => {
-                self.flush(piece.first)?;
+                self.flush(piece.first);
                 self.key = Some(*piece);
             }
-            PieceKind::LeftBrace => self.open()?,
+            PieceKind::LeftBrace => self.open(),
             PieceKind::RightBrace => {
-                self.flush(piece.past)?;
+                self.flush(piece.past);
                 self.close();
             }
             PieceKind::Comma => self.key = None,
             _ => {}
         }
-        Ok(())
     }
 }
 
-/// Returns the paths of the entries at ascending places, each a line and a column: keys as they are
-/// written, with slashes between them. What is in an array has the path of the array.
-pub fn paths_at(
-    alloc: Global,
-    text: &[u8],
-    places: &[(u64, u64)],
-) -> Result<Vec<String>, AllocError> {
+/// Returns the paths of the entries at ascending places.
+pub(crate) fn paths_of(heap: &mut Heap, text: &[u8], places: &[(u64, u64)]) -> Vec<String> {
+    let alloc = heap.alloc;
     let mut search = PathSearch {
-        alloc,
+        heap: *heap,
         text,
         places,
         position: Position::first(),
@@ -108,7 +105,20 @@ pub fn paths_at(
         is_type: false,
         found: Vec::new(alloc),
     };
-    visit_pieces(alloc, text, Quoting::OverLines, &mut search)?;
-    search.flush(text.len())?;
-    Ok(search.found)
+    visit_pieces(text, Quoting::OverLines, &mut search);
+    search.flush(text.len());
+    heap.join(search.heap);
+    search.found
+}
+
+/// Returns the paths of the entries at ascending places, each a line and a column: keys as they are
+/// written, with slashes between them. What is in an array has the path of the array.
+pub fn paths_at(
+    alloc: Global,
+    text: &[u8],
+    places: &[(u64, u64)],
+) -> Result<Vec<String>, AllocError> {
+    let mut heap = Heap::new(alloc);
+    let paths = paths_of(&mut heap, text, places);
+    heap.finish(paths)
 }

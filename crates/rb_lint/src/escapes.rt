@@ -6,19 +6,24 @@ fn is_escape_letter(letter: u8) -> bool {
     b"abefnrtvuUxc".contains(&letter)
 }
 
-fn has_digits(window: &[u8], count: usize) -> bool {
-    match window.get(..count) {
-        Some(digits) => digits.iter().all(|digit| digit.is_ascii_hexdigit()),
-        None => false,
+/// Returns the number of hexadecimal digits that bytes begin with, up to a limit.
+pub(crate) fn digit_count(bytes: &[u8], limit: usize) -> usize {
+    let mut count: usize = 0;
+    for byte in bytes {
+        if count >= limit || !byte.is_ascii_hexdigit() {
+            break;
+        }
+        count = count.saturating_add(1);
     }
+    count
 }
 
 /// Checks for two backslashes where one would begin an escape by number.
 fn is_doubled(window: &[u8]) -> bool {
     match window {
-        [b'\\', b'\\', b'u', digits @ ..] => has_digits(digits, 4),
-        [b'\\', b'\\', b'U', digits @ ..] => has_digits(digits, 8),
-        [b'\\', b'\\', b'x', digits @ ..] => has_digits(digits, 2),
+        [b'\\', b'\\', b'u', digits @ ..] => digit_count(digits, 4) == 4,
+        [b'\\', b'\\', b'U', digits @ ..] => digit_count(digits, 8) == 8,
+        [b'\\', b'\\', b'x', digits @ ..] => digit_count(digits, 2) == 2,
         _ => false,
     }
 }

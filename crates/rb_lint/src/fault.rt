@@ -1,4 +1,6 @@
 //! Finds the error of a text that isn't compiled, and describes it.
+use crate::heap::Heap;
+use crate::named_text::shown;
 use crate::path::shown_source;
 use crate::piece::Piece;
 use crate::position::line_of;
@@ -38,10 +40,6 @@ pub struct FaultText {
 pub(crate) struct Fault {
     pub(crate) at: usize,
     pub(crate) text: FaultText,
-}
-
-fn shown(bytes: &[u8]) -> &str {
-    str::from_utf8(bytes).unwrap_or("?")
 }
 
 /// Says what to do about a type of genrb that isn't read.
@@ -158,114 +156,116 @@ struct EscapeSearch {
     first: usize,
     past: usize,
     found: Vec<usize>,
+    heap: Heap,
 }
 
 impl Visit for EscapeSearch {
-    fn piece(&mut self, _piece: &Piece) -> Result<(), AllocError> {
-        Ok(())
-    }
+    fn piece(&mut self, _piece: &Piece) {}
 
-    fn escape(&mut self, at: usize, _window: &[u8]) -> Result<(), AllocError> {
+    fn escape(&mut self, at: usize, _window: &[u8]) {
         if self.first <= at && at < self.past {
-            self.found.push(at)?;
+            self.heap.push(&mut self.found, at);
         }
-        Ok(())
     }
 }
 
 /// Returns the places of the escapes of a line.
-fn escapes_of(alloc: Global, text: &[u8], line: u64) -> Result<Vec<usize>, AllocError> {
+fn escapes_of(heap: &mut Heap, text: &[u8], line: u64) -> Vec<usize> {
     let (first, bytes) = line_of(text, line);
     let mut search = EscapeSearch {
         first,
         past: first.saturating_add(bytes.len()),
-        found: Vec::new(alloc),
+        found: Vec::new(heap.alloc),
+        heap: *heap,
     };
-    visit_pieces(alloc, text, Quoting::OverLines, &mut search)?;
-    Ok(search.found)
+    visit_pieces(text, Quoting::OverLines, &mut search);
+    heap.join(search.heap);
+    search.found
 }
 
 /// Returns the places of the tokens of a line, or none of a text that can't be split into tokens.
-fn tokens_of(alloc: Global, text: &[u8], line: u64) -> Result<Vec<(usize, usize)>, AllocError> {
-    let mut found = Vec::new(alloc);
-    let mut tokens = match TextTokens::of(alloc, text) {
-        Ok(tokens) => tokens,
-        Err(error) => return Err(error),
-    };
+fn tokens_of(heap: &mut Heap, text: &[u8], line: u64) -> Vec<(usize, usize)> {
+    let mut found = Vec::new(heap.alloc);
+    let mut tokens = TextTokens::of(heap, text);
     for _ in 0..u64::MAX {
-        let Some(token) = tokens.pop()? else {
+        let Some(token) = tokens.pop(heap) else {
             break;
         };
         if token.line == line {
-            found.push((token.first, token.past))?;
+            heap.push(&mut found, (token.first, token.past));
         }
     }
-    Ok(found)
+    found
+}
+
+/// Appends a part of a text, and a line feed.
+fn add_line(heap: &mut Heap, broken: &mut Vec<u8>, part: Option<&[u8]>) {
+    heap.extend(broken, part.unwrap_or(&[]));
+    heap.push(broken, b'\n');
 }
 
 /// Returns a text with a line feed before each of some places, in order, and at its end.
-fn with_breaks(alloc: Global, text: &[u8], places: &[usize]) -> Result<Vec<u8>, AllocError> {
-    let mut broken = Vec::new(alloc);
+fn with_breaks(heap: &mut Heap, text: &[u8], places: &[usize]) -> Vec<u8> {
+    let mut broken = Vec::new(heap.alloc);
     let mut last = 0;
     for place in places {
-        broken.extend_from_slice(text.get(last..*place).unwrap_or(&[]))?;
-        broken.push(b'\n')?;
+        add_line(heap, &mut broken, text.get(last..*place));
         last = *place;
     }
-    broken.extend_from_slice(text.get(last..).unwrap_or(&[]))?;
-    broken.push(b'\n')?;
-    Ok(broken)
+    add_line(heap, &mut broken, text.get(last..));
+    broken
 }
 
-/// Returns which of some offsets in one line has a fault. The text is parsed again with a line
-/// break before each of them, so that the fault's line identifies the offset.
-fn place_of(
-    alloc: Global,
+/// Returns the index of the offset in one line that has a fault, or a large one if none has it. The text
+/// is parsed again with a line break before each of them, so that the fault's line identifies the offset.
+fn place_of(heap: &mut Heap, text: &[u8], places: &[usize], fault: SourceFault) -> usize {
+    let broken = with_breaks(heap, text, places);
+    match parse_text(heap.alloc, &broken) {
+        Err(found) if found.kind == SourceKind::Memory => {
+            heap.fail();
+            usize::MAX
+        }
+        Err(found) if found.kind == fault.kind => {
+            let breaks = found.line.saturating_sub(fault.line);
+            usize::try_from(breaks.wrapping_sub(1)).unwrap_or(usize::MAX)
+        }
+        _ => usize::MAX,
+    }
+}
+
+/// Returns what is known of a token that has an error.
+fn token_about(
+    heap: &mut Heap,
     text: &[u8],
-    places: &[usize],
-    fault: SourceFault,
-) -> Result<Option<usize>, AllocError> {
-    let broken = with_breaks(alloc, text, places)?;
-    match parse_text(alloc, &broken) {
-        Err(found) if found.kind == SourceKind::Memory => Err(AllocError),
-        Err(found) if found.kind == fault.kind => Ok(
-            found
-                .line
-                .checked_sub(fault.line)
-                .and_then(|further| usize::try_from(further).ok())
-                .and_then(|further| further.checked_sub(1))
-                .filter(|i| *i < places.len()),
-        ),
-        _ => Ok(None),
+    (first, past): (usize, usize),
+    kind: SourceKind,
+) -> About {
+    let source = shown_source(heap, text.get(first..past).unwrap_or(&[]));
+    let line = match kind {
+        SourceKind::DuplicateKey => first_line_of(heap, text, first),
+        _ => None,
+    };
+    match line {
+        Some(line) => About::Key(source, line),
+        None => About::Source(source),
     }
 }
 
 /// Finds the token that has the error of a text.
-fn find_token(alloc: Global, text: &[u8], fault: SourceFault) -> Result<Fault, AllocError> {
-    let tokens = tokens_of(alloc, text, fault.line)?;
-    let mut places = Vec::new(alloc);
+fn find_token(heap: &mut Heap, text: &[u8], fault: SourceFault) -> Fault {
+    let tokens = tokens_of(heap, text, fault.line);
+    let mut places = Vec::new(heap.alloc);
     for token in &tokens {
-        places.push(token.0)?;
+        heap.push(&mut places, token.0);
     }
-    let found = place_of(alloc, text, &places, fault)?;
-    let Some((first, past)) = found.and_then(|i| tokens.get(i).copied()) else {
-        return Ok(not_found(text, fault));
-    };
-    let source = shown_source(alloc, text.get(first..past).unwrap_or(&[]))?;
-    let about = match fault.kind {
-        SourceKind::DuplicateKey => match first_line_of(alloc, text, first)? {
-            Some(line) => About::Key(source, line),
-            None => About::Source(source),
-        },
-        _ => About::Source(source),
-    };
-    Ok(Fault {
-        at: first,
-        text: FaultText {
-            kind: fault.kind,
-            about,
-        },
-    })
+    let found = place_of(heap, text, &places, fault);
+    match tokens.get(found) {
+        Some(token) => {
+            let about = token_about(heap, text, *token, fault.kind);
+            fault_at(token.0, fault.kind, about)
+        }
+        None => not_found(text, fault),
+    }
 }
 
 /// Returns an error at the beginning of its line, or at the end of the text if that comes too early.
@@ -273,16 +273,14 @@ fn not_found(text: &[u8], fault: SourceFault) -> Fault {
     let (first, line) = line_of(text, fault.line);
     let is_end = fault.kind == SourceKind::Unexpected
         && first.saturating_add(line.len()) >= text.len();
-    Fault {
-        at: if is_end { text.len() } else { first },
-        text: FaultText {
-            kind: fault.kind,
-            about: if is_end { About::End } else { About::Unknown },
-        },
+    if is_end {
+        fault_at(text.len(), fault.kind, About::End)
+    } else {
+        fault_at(first, fault.kind, About::Unknown)
     }
 }
 
-fn without_source(at: usize, kind: SourceKind, about: About) -> Fault {
+fn fault_at(at: usize, kind: SourceKind, about: About) -> Fault {
     Fault {
         at,
         text: FaultText { kind, about },
@@ -290,16 +288,17 @@ fn without_source(at: usize, kind: SourceKind, about: About) -> Fault {
 }
 
 /// Finds the escape that has the error of a text.
-fn find_escape(alloc: Global, text: &[u8], fault: SourceFault) -> Result<Fault, AllocError> {
-    let places = escapes_of(alloc, text, fault.line)?;
-    let found = place_of(alloc, text, &places, fault)?;
-    Ok(match found.and_then(|i| places.get(i).copied()) {
-        Some(at) if text.get(at.saturating_add(1)) == Some(&b'c') => {
-            without_source(at, fault.kind, About::Control)
-        }
-        Some(at) => without_source(at, fault.kind, About::Unknown),
-        None => not_found(text, fault),
-    })
+fn find_escape(heap: &mut Heap, text: &[u8], fault: SourceFault) -> Fault {
+    let places = escapes_of(heap, text, fault.line);
+    let found = place_of(heap, text, &places, fault);
+    let Some(at) = places.get(found).copied() else {
+        return not_found(text, fault);
+    };
+    let about = match text.get(at.saturating_add(1)) {
+        Some(b'c') => About::Control,
+        _ => About::Unknown,
+    };
+    fault_at(at, fault.kind, about)
 }
 
 /// Finds the place of the error of a text.
@@ -310,20 +309,22 @@ pub(crate) fn find_fault(
     open: Open,
 ) -> Result<Fault, AllocError> {
     if is_utf16(text) {
-        return Ok(without_source(0, fault.kind, About::Utf16));
+        return Ok(fault_at(0, fault.kind, About::Utf16));
     }
-    Ok(match (fault.kind, open) {
+    let mut heap = Heap::new(alloc);
+    let found = match (fault.kind, open) {
         (SourceKind::OpenQuote, Open::Quote(at)) | (SourceKind::OpenComment, Open::Comment(at)) => {
-            without_source(at, fault.kind, About::Unknown)
+            fault_at(at, fault.kind, About::Unknown)
         }
         (SourceKind::NotUtf8, _) => match str::from_utf8(text) {
             Ok(_) => not_found(text, fault),
-            Err(error) => without_source(error.valid_up_to(), fault.kind, About::Unknown),
+            Err(error) => fault_at(error.valid_up_to(), fault.kind, About::Unknown),
         },
-        (SourceKind::BadEscape, _) => find_escape(alloc, text, fault)?,
+        (SourceKind::BadEscape, _) => find_escape(&mut heap, text, fault),
         (SourceKind::TooLong | SourceKind::TooLarge | SourceKind::Memory, _) => {
-            without_source(0, fault.kind, About::Unknown)
+            fault_at(0, fault.kind, About::Unknown)
         }
-        _ => find_token(alloc, text, fault)?,
-    })
+        _ => find_token(&mut heap, text, fault),
+    };
+    heap.finish(found)
 }

@@ -2,7 +2,7 @@
 use crate::collector::Collector;
 use crate::piece::{Piece, PieceKind};
 use crate::warning::Doubt;
-use std::alloc::{AllocError, Global};
+use std::alloc::Global;
 
 /// The kind of a body, by its type or by its first entry or item.
 #[derive(Clone, Copy, PartialEq, Eq)]
@@ -59,13 +59,9 @@ const ENDING: [&[u8]; 7] = [
     b"\xC2\xBB",
 ];
 
-fn bytes_of<'a>(text: &'a [u8], piece: &Piece) -> &'a [u8] {
-    text.get(piece.first..piece.past).unwrap_or(&[])
-}
-
 /// Checks for a conflict marker at the beginning of a line.
 fn is_marker(text: &[u8], piece: &Piece) -> bool {
-    piece.begins_line && piece.column == 1 && MARKERS.contains(&bytes_of(text, piece))
+    piece.begins_line && piece.column == 1 && MARKERS.contains(&piece.of(text))
 }
 
 /// Checks for a character that is seldom meant in a key.
@@ -78,8 +74,12 @@ fn sign_doubt(text: &[u8], piece: &Piece) -> Option<Doubt> {
     if piece.kind != PieceKind::Unquoted {
         return None;
     }
-    let sign = bytes_of(text, piece).iter().find(|byte| is_sign(**byte))?;
-    Some(Doubt::KeyWith(char::from(*sign)))
+    for byte in piece.of(text) {
+        if is_sign(*byte) {
+            return Some(Doubt::KeyWith(char::from(*byte)));
+        }
+    }
+    None
 }
 
 /// Returns what is doubtful between two pieces of a key. A comment between them puts no space into it.
@@ -92,16 +92,26 @@ fn space_doubt(text: &[u8], before: &Piece, piece: &Piece) -> Option<Doubt> {
 }
 
 fn begins_with_quote(bytes: &[u8]) -> bool {
-    BEGINNING.iter().any(|quote| bytes.starts_with(quote))
+    for quote in BEGINNING {
+        if bytes.starts_with(quote) {
+            return true;
+        }
+    }
+    false
 }
 
 fn ends_with_quote(bytes: &[u8]) -> bool {
-    ENDING.iter().any(|quote| bytes.ends_with(quote))
+    for quote in ENDING {
+        if bytes.ends_with(quote) {
+            return true;
+        }
+    }
+    false
 }
 
 /// Checks whether a value begins and ends with quotes of another kind.
 fn is_quoted_otherwise(text: &[u8], texts: &Texts) -> bool {
-    let (first, last) = (bytes_of(text, &texts.first), bytes_of(text, &texts.last));
+    let (first, last) = (texts.first.of(text), texts.last.of(text));
     let is_long = texts.first.first < texts.last.first || first.len() > 1;
     texts.first.kind == PieceKind::Unquoted
         && texts.last.kind == PieceKind::Unquoted
@@ -144,7 +154,7 @@ impl KeySearch {
     /// Takes a piece of a text.
     fn text_piece(&mut self, text: &[u8], piece: &Piece) {
         if self.is_type {
-            self.of_type = Some(body_of(bytes_of(text, piece)));
+            self.of_type = Some(body_of(piece.of(text)));
             self.is_type = false;
             return;
         }
@@ -169,77 +179,66 @@ impl KeySearch {
     }
 
     /// Takes the text before a colon or a brace: a key, unless this is an array.
-    fn key(&mut self, warnings: &mut Collector<'_>) -> Result<(), AllocError> {
+    fn key(&mut self, warnings: &mut Collector<'_>) {
         let Some(texts) = self.texts.take() else {
             if !self.is_type && self.of_type.is_none() {
                 self.decide(Body::Array);
             }
-            return Ok(());
+            return;
         };
         self.decide(Body::Table);
-        if texts.is_conflict {
-            return Ok(());
+        if let Some(doubt) = self.key_doubt(&texts) {
+            warnings.add(texts.first.first, doubt);
         }
-        match (self.body(), texts.doubt) {
-            (Some(Body::Array), _) => warnings.add(texts.first.first, Doubt::EntryInArray),
-            (Some(Body::Table), Some(doubt)) if texts.first.kind == PieceKind::Unquoted => {
-                warnings.add(texts.first.first, doubt)
-            }
-            _ => Ok(()),
+    }
+
+    /// Returns what is doubtful in the text before a colon or a brace.
+    fn key_doubt(&self, texts: &Texts) -> Option<Doubt> {
+        match self.body()? {
+            _ if texts.is_conflict => None,
+            Body::Array => Some(Doubt::EntryInArray),
+            Body::Table if texts.first.kind == PieceKind::Unquoted => texts.doubt,
+            _ => None,
         }
     }
 
     /// Takes the text before a comma or a closing brace: a value.
-    fn value(&mut self, text: &[u8], warnings: &mut Collector<'_>) -> Result<(), AllocError> {
-        match self.texts.take() {
-            Some(texts) if is_quoted_otherwise(text, &texts) => {
-                warnings.add(texts.first.first, Doubt::OtherQuotes)
+    fn value(&mut self, text: &[u8], warnings: &mut Collector<'_>) {
+        if let Some(texts) = self.texts.take() {
+            if is_quoted_otherwise(text, &texts) {
+                warnings.add(texts.first.first, Doubt::OtherQuotes);
             }
-            _ => Ok(()),
         }
     }
 
-    fn comma(&mut self, text: &[u8], warnings: &mut Collector<'_>) -> Result<(), AllocError> {
-        self.decide(Body::Array);
-        self.value(text, warnings)
-    }
-
-    fn enter(&mut self, warnings: &mut Collector<'_>) -> Result<(), AllocError> {
-        self.key(warnings)?;
+    fn enter(&mut self, warnings: &mut Collector<'_>) {
+        self.key(warnings);
         let body = self.of_type.take().unwrap_or(Body::Unknown);
-        self.open.push(body)?;
-        Ok(())
-    }
-
-    fn leave(&mut self, text: &[u8], warnings: &mut Collector<'_>) -> Result<(), AllocError> {
-        self.value(text, warnings)?;
-        let _ = self.open.pop();
-        Ok(())
+        warnings.heap.push(&mut self.open, body);
     }
 
     /// Takes the next piece.
-    pub(crate) fn step(
-        &mut self,
-        text: &[u8],
-        piece: &Piece,
-        warnings: &mut Collector<'_>,
-    ) -> Result<(), AllocError> {
+    pub(crate) fn step(&mut self, text: &[u8], piece: &Piece, warnings: &mut Collector<'_>) {
         match piece.kind {
             PieceKind::Quoted | PieceKind::Unquoted => {
                 self.text_piece(text, piece);
                 if is_marker(text, piece) {
-                    return warnings.add(piece.first, Doubt::Conflict);
+                    warnings.add(piece.first, Doubt::Conflict);
                 }
-                Ok(())
             }
             PieceKind::Colon => {
-                self.key(warnings)?;
+                self.key(warnings);
                 self.is_type = true;
-                Ok(())
             }
             PieceKind::LeftBrace => self.enter(warnings),
-            PieceKind::RightBrace => self.leave(text, warnings),
-            PieceKind::Comma => self.comma(text, warnings),
+            PieceKind::RightBrace => {
+                self.value(text, warnings);
+                let _ = self.open.pop();
+            }
+            PieceKind::Comma => {
+                self.decide(Body::Array);
+                self.value(text, warnings);
+            }
         }
     }
 }

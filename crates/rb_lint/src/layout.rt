@@ -25,21 +25,18 @@ impl Layout {
         }
     }
 
-    /// Takes the next piece, and the one before it.
-    pub(crate) fn step(&mut self, before: Option<&Piece>, piece: &Piece) {
+    /// Takes the next piece.
+    pub(crate) fn step(&mut self, piece: &Piece) {
         match piece.kind {
             PieceKind::LeftBrace => self.open = self.open.saturating_add(1),
             PieceKind::RightBrace if self.open == 0 => self.has_extra = true,
             PieceKind::RightBrace => self.open = self.open.saturating_sub(1),
             _ => {}
         }
-        if let Some(before) = before {
-            self.compare(before, piece);
-        }
     }
 
     /// Compares the columns of a brace and of the line that follows it.
-    fn compare(&mut self, brace: &Piece, next: &Piece) {
+    pub(crate) fn compare(&mut self, brace: &Piece, next: &Piece) {
         if brace.kind != PieceKind::LeftBrace
             || !next.begins_line
             || next.kind == PieceKind::RightBrace

@@ -1,6 +1,7 @@
 //! Comments that limit the length of strings: `// resb-lint: max 20` before an entry.
 use crate::allowed::{directive, has_directive};
-use crate::entry_paths::paths_at;
+use crate::entry_paths::paths_of;
+use crate::heap::Heap;
 use crate::piece::Piece;
 use crate::position::Position;
 use crate::scan::{Quoting, Visit, visit_pieces};
@@ -21,6 +22,7 @@ struct LengthSearch<'a> {
     next: Option<usize>,
     places: Vec<(u64, u64)>,
     lengths: Vec<usize>,
+    heap: Heap,
 }
 
 /// Returns the number of a comment that limits the length, given its words after `resb-lint:`.
@@ -34,45 +36,49 @@ pub(crate) fn longest_of(words: &str) -> Option<usize> {
 }
 
 impl<'a> Visit for LengthSearch<'a> {
-    fn piece(&mut self, piece: &Piece) -> Result<(), AllocError> {
+    fn piece(&mut self, piece: &Piece) {
         if let Some(longest) = self.next.take() {
             self.position.advance(self.text, piece.first);
-            self.places
-                .push((self.position.line, self.position.column))?;
-            self.lengths.push(longest)?;
+            let place = (self.position.line, self.position.column);
+            self.heap.push(&mut self.places, place);
+            self.heap.push(&mut self.lengths, longest);
         }
-        Ok(())
     }
 
-    fn comment(&mut self, _at: usize, window: &[u8]) -> Result<(), AllocError> {
-        if let Some(longest) = directive(window).and_then(|words| longest_of(words)) {
-            self.next = Some(longest);
+    fn comment(&mut self, _at: usize, window: &[u8]) {
+        if let Some(words) = directive(window) {
+            self.next = longest_of(words).or(self.next);
         }
-        Ok(())
     }
+}
+
+/// Returns lengths with the paths of their entries.
+fn with_paths(heap: &mut Heap, paths: Vec<String>, lengths: &[usize]) -> Vec<PathLength> {
+    let mut found = Vec::new(heap.alloc);
+    for path in paths {
+        let longest = lengths.get(found.len()).copied().unwrap_or(usize::MAX);
+        heap.push(&mut found, PathLength { path, longest });
+    }
+    found
 }
 
 /// Returns the limits that comments of a text set, each with the path of the next entry, which is
 /// empty before the bundle's name. `Err` means out of memory.
 pub fn lengths_in(alloc: Global, text: &[u8]) -> Result<Vec<PathLength>, AllocError> {
+    if !has_directive(text) {
+        return Ok(Vec::new(alloc));
+    }
     let mut search = LengthSearch {
         text,
         position: Position::first(),
         next: None,
         places: Vec::new(alloc),
         lengths: Vec::new(alloc),
+        heap: Heap::new(alloc),
     };
-    let mut found = Vec::new(alloc);
-    if !has_directive(text) {
-        return Ok(found);
-    }
-    visit_pieces(alloc, text, Quoting::OverLines, &mut search)?;
-    let paths = paths_at(alloc, text, &search.places)?;
-    for (path, longest) in paths.iter().zip(&search.lengths) {
-        found.push(PathLength {
-            path: String::from_str(alloc, path.as_str())?,
-            longest: *longest,
-        })?;
-    }
-    Ok(found)
+    visit_pieces(text, Quoting::OverLines, &mut search);
+    let mut heap = search.heap;
+    let paths = paths_of(&mut heap, text, &search.places);
+    let found = with_paths(&mut heap, paths, &search.lengths);
+    heap.finish(found)
 }

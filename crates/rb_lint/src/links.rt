@@ -11,13 +11,24 @@ fn is_name_unit(unit: u16) -> bool {
     matches!(unit, 0x2D | 0x30..=0x39 | 0x41..=0x5A | 0x5F | 0x61..=0x7A)
 }
 
-/// Checks whether units are the ASCII name of a locale, in letters of any case.
-fn is_named(units: &[u16], name: &[u8]) -> bool {
+/// Checks whether units are the ASCII name of a locale.
+pub(crate) fn is_named(units: &[u16], name: &[u8]) -> bool {
+    for (unit, byte) in units.iter().zip(name) {
+        if *unit != u16::from(*byte) {
+            return false;
+        }
+    }
     units.len() == name.len()
-        && units
-            .iter()
-            .zip(name)
-            .all(|(unit, byte)| *unit == u16::from(*byte))
+}
+
+/// Checks whether all units are characters of a locale's name.
+fn is_name(units: &[u16]) -> bool {
+    for unit in units {
+        if !is_name_unit(*unit) {
+            return false;
+        }
+    }
+    units.len() <= NAME_LIMIT
 }
 
 /// Checks whether a parent can be that of a bundle with a name: it is a locale's name, or empty for the
@@ -27,10 +38,7 @@ pub(crate) fn is_parent(units: &[u16], name: &[u8]) -> bool {
         Some(first) => !matches!(*first, 0x2D | 0x30..=0x39 | 0x5F),
         None => true,
     };
-    is_locale
-        && units.len() <= NAME_LIMIT
-        && units.iter().all(|unit| is_name_unit(*unit))
-        && (units.is_empty() || !is_named(units, name))
+    is_locale && is_name(units) && (units.is_empty() || !is_named(units, name))
 }
 
 /// Checks whether an entry of a bundle with a key names another bundle.
@@ -57,10 +65,22 @@ fn entry_of<'a>(entries: &'a Entries, key: &[u16]) -> Option<&'a Tree> {
 fn index_of(units: &[u16]) -> Option<usize> {
     let mut index: usize = 0;
     for unit in units {
-        let digit = unit.checked_sub(0x30).filter(|digit| *digit < 10)?;
-        index = index.checked_mul(10)?.checked_add(usize::from(digit))?;
+        if !matches!(*unit, 0x30..=0x39) {
+            return None;
+        }
+        index = index
+            .checked_mul(10)?
+            .checked_add(usize::from(*unit & 0xF))?;
     }
     Some(index)
+}
+
+/// Returns the item of an array with an index in units.
+fn item_of<'a>(items: &'a [Tree], index: &[u16]) -> Option<&'a Tree> {
+    match index_of(index) {
+        Some(i) => items.get(i),
+        None => None,
+    }
 }
 
 /// The outcome of a walk by a path.
@@ -80,7 +100,7 @@ fn walk_path(tree: &Tree, path: &[u16]) -> Walked {
         }
         let next = match here {
             Tree::Table(entries) => entry_of(entries, segment),
-            Tree::Array(items) => index_of(segment).and_then(|i| items.as_slice().get(i)),
+            Tree::Array(items) => item_of(items.as_slice(), segment),
             Tree::Alias(_) => return Walked::Unknown,
             _ => None,
         };

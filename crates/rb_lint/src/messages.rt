@@ -1,4 +1,5 @@
 //! Finds what is doubtful in a message of ICU's MessageFormat.
+use crate::heap::Heap;
 use crate::language::Language;
 use crate::path::shown_name;
 use crate::pattern::{PatternDoubt, PlacedDoubt};
@@ -9,7 +10,6 @@ use rb_messages::{
     Span,
 };
 use rb_strings::{PatternFault, damage_in, date_fault, number_fault};
-use std::alloc::{AllocError, Global};
 
 /// The maximum number of doubts of one message.
 const DOUBT_LIMIT: usize = 100;
@@ -70,7 +70,7 @@ struct OpenArgument {
 
 #[derive(Drop)]
 struct MessageSearch<'a> {
-    alloc: Global,
+    heap: Heap,
     text: &'a [u16],
     language: Language,
     uses: Uses<'a>,
@@ -100,12 +100,13 @@ fn is_name_unit(unit: u16) -> bool {
 /// Returns the name of the argument that a text begins with: a brace, a name, and a comma or a brace.
 fn leading_argument(units: &[u16]) -> Option<&[u16]> {
     let inside = units.strip_prefix(&[BRACE])?;
-    let past = inside.iter().position(|unit| !is_name_unit(*unit))?;
-    let end = inside.get(past).copied()?;
-    if past == 0 || end != CLOSING_BRACE && end != COMMA {
-        return None;
+    for (past, unit) in inside.iter().enumerate() {
+        if !is_name_unit(*unit) {
+            let is_name = past > 0 && matches!(*unit, CLOSING_BRACE | COMMA);
+            return if is_name { inside.get(..past) } else { None };
+        }
     }
-    inside.get(..past)
+    None
 }
 
 /// Checks whether a text is a set of characters or rules of a transliteration, as ICU reads them: it begins
@@ -177,10 +178,26 @@ fn has_category(selectors: &[(&[u16], u32)], category: Category) -> bool {
     false
 }
 
+/// Returns the selectors at some ranges, in ascending order, each with its first unit.
+fn selectors_of<'a>(
+    heap: &mut Heap,
+    text: &'a [u16],
+    ranges: &[(u32, u32)],
+) -> Vec<(&'a [u16], u32)> {
+    let mut found = Vec::new(heap.alloc);
+    for (first, past) in ranges {
+        let range = *first as usize..*past as usize;
+        heap.push(&mut found, (text.get(range).unwrap_or(&[]), *first));
+    }
+    heap.note(found.sort());
+    found
+}
+
 impl<'a> MessageSearch<'a> {
-    fn new(alloc: Global, text: &'a [u16], language: Language) -> MessageSearch<'a> {
+    fn new(heap: Heap, text: &'a [u16], language: Language) -> MessageSearch<'a> {
+        let alloc = heap.alloc;
         MessageSearch {
-            alloc,
+            heap,
             text,
             language,
             uses: Uses::new(alloc, text),
@@ -193,11 +210,10 @@ impl<'a> MessageSearch<'a> {
         }
     }
 
-    fn add(&mut self, at: usize, doubt: PatternDoubt) -> Result<(), AllocError> {
+    fn add(&mut self, at: usize, doubt: PatternDoubt) {
         if self.doubts.len() < DOUBT_LIMIT {
-            self.doubts.push(PlacedDoubt { at, doubt })?;
+            self.heap.push(&mut self.doubts, PlacedDoubt { at, doubt });
         }
-        Ok(())
     }
 
     /// Returns the innermost branch.
@@ -205,51 +221,47 @@ impl<'a> MessageSearch<'a> {
         self.open.last()?.branch
     }
 
-    fn quoted(&mut self, span: Span) -> Result<(), AllocError> {
-        match leading_argument(span.of(self.text)) {
-            Some(name) => {
-                let name = shown_name(self.alloc, name)?;
-                self.add(span.first, PatternDoubt::Quoted(name))
-            }
-            None => Ok(()),
+    fn quoted(&mut self, span: Span) {
+        if let Some(name) = leading_argument(span.of(self.text)) {
+            let name = shown_name(&mut self.heap, name);
+            self.add(span.first, PatternDoubt::Quoted(name));
         }
     }
 
     /// Checks the pattern of a date or a number.
-    fn style(&mut self, argument: Argument) -> Result<(), AllocError> {
+    fn style(&mut self, argument: Argument) {
         let Some(span) = argument.style else {
-            return Ok(());
+            return;
         };
         let style = span.of(self.text);
-        match style_fault(argument.of_type, style) {
-            Some(fault) => {
-                let at = span.first.saturating_add(blank_count(style));
-                self.add(at, PatternDoubt::Style(fault))
-            }
-            None => Ok(()),
+        if let Some(fault) = style_fault(argument.of_type, style) {
+            let at = span.first.saturating_add(blank_count(style));
+            self.add(at, PatternDoubt::Style(fault));
         }
     }
 
-    fn argument(&mut self, argument: Argument) -> Result<(), AllocError> {
+    fn argument(&mut self, argument: Argument) {
         let around = self.branch_here();
-        self.style(argument)?;
-        self.uses.add(argument.name, argument.of_type, around)?;
-        if !argument.of_type.has_messages() {
-            return Ok(());
+        self.style(argument);
+        self.uses
+            .add(&mut self.heap, argument.name, argument.of_type, around);
+        if argument.of_type.has_messages() {
+            self.begin_choosing(argument.of_type, around);
         }
-        let owner = narrow(self.choosing.len() as u64);
-        self.choosing.push(Choosing {
-            of_type: argument.of_type,
-            count: 0,
-        })?;
-        self.open.push(OpenArgument {
-            of_type: argument.of_type,
-            owner,
+    }
+
+    /// Begins an argument of a type that has messages.
+    fn begin_choosing(&mut self, of_type: ArgumentType, around: Option<u32>) {
+        let open = OpenArgument {
+            of_type,
+            owner: narrow(self.choosing.len() as u64),
             around,
             branch: None,
             selectors: narrow(self.selectors.len() as u64),
-        })?;
-        Ok(())
+        };
+        let choosing = Choosing { of_type, count: 0 };
+        self.heap.push(&mut self.choosing, choosing);
+        self.heap.push(&mut self.open, open);
     }
 
     /// Ends the branch that is being read, if there is one.
@@ -262,115 +274,94 @@ impl<'a> MessageSearch<'a> {
         }
     }
 
-    fn branch(&mut self, selector: Span) -> Result<(), AllocError> {
+    fn branch(&mut self, selector: Span) {
         self.end_branch();
         let at = narrow(self.branches.len() as u64);
         let Some(open) = self.open.last_mut() else {
-            return Ok(());
+            return;
         };
         open.branch = Some(at);
-        let (owner, around) = (open.owner, open.around);
-        let is_counted = open.of_type != ArgumentType::Choice
-            && selector.of(self.text).first() != Some(&EQUALS);
-        if let Some(choosing) = self.choosing.get_mut(owner as usize) {
-            choosing.count = choosing.count.saturating_add(u32::from(is_counted));
-        }
-        self.branches.push(Branch {
-            owner,
-            around,
+        let branch = Branch {
+            owner: open.owner,
+            around: open.around,
             past: u32::MAX,
-            is_counted,
-        })?;
-        self.selectors.push((narrow(selector.first as u64), narrow(selector.past as u64)))?;
-        Ok(())
+            is_counted: open.of_type != ArgumentType::Choice
+                && selector.of(self.text).first() != Some(&EQUALS),
+        };
+        self.begin_branch(branch);
+        let range = (narrow(selector.first as u64), narrow(selector.past as u64));
+        self.heap.push(&mut self.selectors, range);
     }
 
-    /// Returns the selectors of an argument, in ascending order, each with its first unit.
-    fn selectors_of(&self, open: OpenArgument) -> Result<Vec<(&'a [u16], u32)>, AllocError> {
-        let mut found = Vec::new(self.alloc);
-        for (first, past) in self.selectors.get(open.selectors as usize..).unwrap_or(&[]) {
-            let range = *first as usize..*past as usize;
-            found.push((self.text.get(range).unwrap_or(&[]), *first))?;
+    fn begin_branch(&mut self, branch: Branch) {
+        if let Some(choosing) = self.choosing.get_mut(branch.owner as usize) {
+            choosing.count = choosing.count.saturating_add(u32::from(branch.is_counted));
         }
-        found.sort_by_key(|selector| selector.0)?;
-        Ok(found)
+        self.heap.push(&mut self.branches, branch);
     }
 
-    fn repeated(&mut self, selectors: &[(&'a [u16], u32)]) -> Result<(), AllocError> {
-        for (selector, next) in selectors.iter().zip(selectors.get(1..).unwrap_or(&[])) {
-            if selector.0 == next.0 {
-                let shown = shown_name(self.alloc, selector.0)?;
-                self.add(
-                    next.1.max(selector.1) as usize,
-                    PatternDoubt::Repeated(shown),
-                )?;
+    fn repeated(&mut self, selectors: &[(&'a [u16], u32)]) {
+        for pair in selectors.windows(2) {
+            if let [(selector, at), (next, next_at)] = pair {
+                if selector == next {
+                    let shown = shown_name(&mut self.heap, selector);
+                    self.add((*at).max(*next_at) as usize, PatternDoubt::Repeated(shown));
+                }
             }
         }
-        Ok(())
     }
 
     /// Reports words that are no category of the language.
-    fn unknown(
-        &mut self,
-        selectors: &[(&'a [u16], u32)],
-        categories: Option<Categories>,
-    ) -> Result<(), AllocError> {
+    fn unknown(&mut self, selectors: &[(&'a [u16], u32)], categories: Option<Categories>) {
         for (selector, at) in selectors {
             if selector.first() != Some(&EQUALS) {
-                self.word(*selector, *at as usize, categories)?;
+                self.word(*selector, *at as usize, categories);
             }
         }
-        Ok(())
     }
 
     /// Reports a word that is no category of the language.
-    fn word(
-        &mut self,
-        word: &[u16],
-        at: usize,
-        categories: Option<Categories>,
-    ) -> Result<(), AllocError> {
+    fn word(&mut self, word: &[u16], at: usize, categories: Option<Categories>) {
         match (Category::named(word), categories) {
             (None, _) => {
-                let shown = shown_name(self.alloc, word)?;
-                self.add(at, PatternDoubt::Unknown(shown))
+                let shown = shown_name(&mut self.heap, word);
+                self.add(at, PatternDoubt::Unknown(shown));
             }
             (Some(category), Some(known)) if !known.has(category) => {
-                self.add(at, PatternDoubt::Unused(category))
+                self.add(at, PatternDoubt::Unused(category));
             }
-            _ => Ok(()),
+            _ => {}
         }
     }
 
     /// Reports the categories of the language's integers for which no selector is. `=1` stands for `one` in
     /// languages in which that is no more than 1, and so on.
-    fn lacking(
-        &mut self,
-        at: usize,
-        selectors: &[(&'a [u16], u32)],
-        categories: Categories,
-    ) -> Result<(), AllocError> {
+    fn lacking(&mut self, at: usize, selectors: &[(&'a [u16], u32)], categories: Categories) {
         let is_simple = !categories.has(Category::Few) && !categories.has(Category::Many);
         if is_simple && has_number(selectors) {
-            return Ok(());
+            return;
         }
         for category in Category::ALL {
             if categories.is_common(category) && !has_category(selectors, category) {
-                self.add(at, PatternDoubt::Lacking(category))?;
+                self.add(at, PatternDoubt::Lacking(category));
             }
         }
-        Ok(())
     }
 
     /// Checks the selectors of an argument that ends at a brace.
-    fn end(&mut self, brace: usize) -> Result<(), AllocError> {
+    fn end(&mut self, brace: usize) {
         self.end_branch();
         let Some(open) = self.open.pop() else {
-            return Ok(());
+            return;
         };
-        let selectors = self.selectors_of(open)?;
+        let (mut heap, text) = (self.heap, self.text);
+        let selectors = match self.selectors.get(open.selectors as usize..) {
+            Some(ranges) => selectors_of(&mut heap, text, ranges),
+            None => Vec::new(heap.alloc),
+        };
+        self.heap = heap;
         self.selectors.truncate(open.selectors as usize);
-        self.check_selectors(open.of_type, brace, &selectors)
+        self.check_selectors(open.of_type, brace, &selectors);
     }
 
     /// Checks the selectors of an argument of a type, which ends at a brace.
@@ -379,15 +370,15 @@ impl<'a> MessageSearch<'a> {
         of_type: ArgumentType,
         brace: usize,
         selectors: &[(&'a [u16], u32)],
-    ) -> Result<(), AllocError> {
+    ) {
         if of_type == ArgumentType::Choice {
-            return Ok(());
+            return;
         }
-        self.repeated(selectors)?;
+        self.repeated(selectors);
         match of_type {
             ArgumentType::Plural => self.words(brace, selectors, self.language.cardinal),
             ArgumentType::SelectOrdinal => self.words(brace, selectors, self.language.ordinal),
-            _ => Ok(()),
+            _ => {}
         }
     }
 
@@ -397,40 +388,40 @@ impl<'a> MessageSearch<'a> {
         brace: usize,
         selectors: &[(&'a [u16], u32)],
         categories: Option<Categories>,
-    ) -> Result<(), AllocError> {
-        self.unknown(selectors, categories)?;
-        match categories {
-            Some(categories) => self.lacking(brace, selectors, categories),
-            None => Ok(()),
+    ) {
+        self.unknown(selectors, categories);
+        if let Some(categories) = categories {
+            self.lacking(brace, selectors, categories);
         }
     }
 
-    fn step(&mut self, part: Part) -> Result<(), AllocError> {
+    fn step(&mut self, part: Part) {
         match part {
             Part::Quoted(span) => self.quoted(span),
-            Part::Hash(_) => Ok(()),
+            Part::Hash(_) => {}
             Part::Argument(argument) => self.argument(argument),
             Part::Branch(selector) => self.branch(selector),
             Part::End(brace) => self.end(brace),
-            Part::Stray(at) => {
-                self.stray = self.stray.or(Some(at));
-                Ok(())
-            }
+            Part::Stray(at) => self.stray = self.stray.or(Some(at)),
         }
     }
 
     /// Reads all parts. Returns the error, if the text is no message.
-    fn read(&mut self) -> Result<Option<MessageError>, AllocError> {
-        let mut parser = MessageParser::new(self.alloc, self.text);
+    fn read(&mut self) -> Option<MessageError> {
+        let mut parser = MessageParser::new(self.heap.alloc, self.text);
         for _ in 0..u64::MAX {
             match parser.next_part() {
-                Ok(Some(part)) => self.step(part)?,
+                Ok(Some(part)) => self.step(part),
                 Ok(None) => break,
-                Err(error) if error.fault == MessageFault::Memory => return Err(AllocError),
-                Err(error) => return Ok(Some(error)),
+                Err(error) => {
+                    if error.fault == MessageFault::Memory {
+                        self.heap.fail();
+                    }
+                    return Some(error);
+                }
             }
         }
-        Ok(None)
+        None
     }
 
     /// Returns the innermost branch that all uses of an argument are in.
@@ -465,31 +456,28 @@ impl<'a> MessageSearch<'a> {
         }
     }
 
-    fn lonely(&mut self, named: &[Named<'a>]) -> Result<(), AllocError> {
+    fn lonely(&mut self, named: &[Named<'a>]) {
         if self.branches.is_empty() {
-            return Ok(());
+            return;
         }
         for argument in named {
             if self.is_lonely(argument) {
-                let shown = shown_name(self.alloc, argument.name)?;
-                self.add(argument.at, PatternDoubt::OneBranch(shown))?;
+                let shown = shown_name(&mut self.heap, argument.name);
+                self.add(argument.at, PatternDoubt::OneBranch(shown));
             }
         }
-        Ok(())
     }
 
     /// Finds what is doubtful in all of a message. Returns its arguments.
-    fn finish(&mut self) -> Result<Vec<Named<'a>>, AllocError> {
-        let named = self.uses.named()?;
-        self.lonely(&named)?;
-        match self.stray {
-            Some(at) if !named.is_empty() && !is_set(self.text) => {
-                self.add(at, PatternDoubt::Stray)?;
+    fn finish(&mut self) -> Vec<Named<'a>> {
+        let named = self.uses.named(&mut self.heap);
+        self.lonely(&named);
+        if let Some(at) = self.stray {
+            if !named.is_empty() && !is_set(self.text) {
+                self.add(at, PatternDoubt::Stray);
             }
-            _ => {}
         }
-        add_damage(&mut self.doubts, self.text)?;
-        Ok(named)
+        named
     }
 
     /// Checks whether a text that can't be parsed is clearly meant as a message: it has an argument with a
@@ -505,72 +493,51 @@ impl<'a> MessageSearch<'a> {
 }
 
 /// Reads a message, and finds what is doubtful in it.
-pub(crate) fn search_message(
-    alloc: Global,
-    text: &[u16],
-    language: Language,
-) -> Result<Message<'_>, AllocError> {
-    let mut search = MessageSearch::new(alloc, text, language);
-    if let Some(error) = search.read()? {
-        let is_meant = search.is_meant(error.fault);
-        return broken_message(alloc, text, error, is_meant);
-    }
-    let named = search.finish()?;
-    let has_branches = !search.branches.is_empty();
-    Ok(Message {
-        named: Ok(named),
-        doubts: search.doubts,
-        has_branches,
-    })
-}
-
-/// Returns what is doubtful in a text that can't be parsed.
-fn broken_message<'a>(
-    alloc: Global,
+pub(crate) fn search_message<'a>(
+    heap: &mut Heap,
     text: &'a [u16],
-    error: MessageError,
-    is_meant: bool,
-) -> Result<Message<'a>, AllocError> {
-    let mut doubts = Vec::new(alloc);
-    if is_meant {
-        doubts.push(PlacedDoubt {
-            at: error.at,
-            doubt: PatternDoubt::Invalid(error.fault),
-        })?;
+    language: Language,
+) -> Message<'a> {
+    let mut search = MessageSearch::new(*heap, text, language);
+    let named = match search.read() {
+        Some(error) => Err(error),
+        None => Ok(search.finish()),
+    };
+    if let Err(error) = &named {
+        search.doubts.clear();
+        if search.is_meant(error.fault) {
+            search.add(error.at, PatternDoubt::Invalid(error.fault));
+        }
     }
-    add_damage(&mut doubts, text)?;
-    Ok(Message {
-        named: Err(error),
+    let has_branches = named.is_ok() && !search.branches.is_empty();
+    *heap = search.heap;
+    let mut doubts = search.doubts;
+    add_damage(heap, &mut doubts, text);
+    Message {
+        named,
         doubts,
-        has_branches: false,
-    })
+        has_branches,
+    }
 }
 
 /// Returns what is doubtful in a String, in the order of its units: as a message, if it has a brace, and in
 /// its characters.
-pub(crate) fn read_string(
-    alloc: Global,
-    text: &[u16],
-    language: Language,
-) -> Result<Vec<PlacedDoubt>, AllocError> {
-    if !text.contains(&BRACE) {
-        let mut doubts = Vec::new(alloc);
-        add_damage(&mut doubts, text)?;
-        return Ok(doubts);
+pub(crate) fn read_string(heap: &mut Heap, text: &[u16], language: Language) -> Vec<PlacedDoubt> {
+    if text.contains(&BRACE) {
+        return search_message(heap, text, language).doubts;
     }
-    Ok(search_message(alloc, text, language)?.doubts)
+    let mut doubts = Vec::new(heap.alloc);
+    add_damage(heap, &mut doubts, text);
+    doubts
 }
 
 /// Adds characters that no one writes, and puts all doubts in order.
-fn add_damage(doubts: &mut Vec<PlacedDoubt>, text: &[u16]) -> Result<(), AllocError> {
+fn add_damage(heap: &mut Heap, doubts: &mut Vec<PlacedDoubt>, text: &[u16]) {
     for damage in damage_in(text) {
         if let Some((at, damage)) = damage {
-            doubts.push(PlacedDoubt {
-                at,
-                doubt: PatternDoubt::Damaged(damage),
-            })?;
+            let doubt = PatternDoubt::Damaged(damage);
+            heap.push(doubts, PlacedDoubt { at, doubt });
         }
     }
-    doubts.sort_by_key(|placed: &PlacedDoubt| placed.at)?;
-    Ok(())
+    heap.note(doubts.sort_by_key(|placed: &PlacedDoubt| placed.at));
 }

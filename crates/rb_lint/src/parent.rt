@@ -1,3 +1,4 @@
+use crate::links::is_named;
 use rb_tree::{Entries, Tree};
 
 /// The locale that a text inherits from.
@@ -9,20 +10,10 @@ pub(crate) enum Parent {
     Other,
 }
 
-const ROOT: &[u8] = b"root";
-
-fn is_root(units: &[u16]) -> bool {
-    units.len() == ROOT.len()
-        && units
-            .iter()
-            .zip(ROOT)
-            .all(|(unit, byte)| *unit == u16::from(*byte))
-}
-
 /// Returns the parent that an explicit `%%Parent` names, if there is one.
 fn explicit_parent(entries: &Entries) -> Option<Parent> {
     match entries.get(b"%%Parent")? {
-        Tree::String(units) if is_root(units.as_slice()) => Some(Parent::Root),
+        Tree::String(units) if is_named(units.as_slice(), b"root") => Some(Parent::Root),
         _ => Some(Parent::Other),
     }
 }

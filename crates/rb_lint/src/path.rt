@@ -1,4 +1,5 @@
-use std::alloc::{AllocError, Global};
+use crate::heap::Heap;
+use crate::piece::unquoted;
 
 /// The maximum length of a path in a message, in bytes.
 pub(crate) const SHOWN_PATH: usize = 200;
@@ -8,57 +9,55 @@ const SHOWN_NAME: usize = 100;
 
 /// Returns a text of ASCII, or its first and its last bytes with `..` between them if it is longer
 /// than `limit`.
-pub(crate) fn shortened(alloc: Global, bytes: &[u8], limit: usize) -> Result<Vec<u8>, AllocError> {
+pub(crate) fn shortened(heap: &mut Heap, bytes: &[u8], limit: usize) -> Vec<u8> {
+    let mut short = Vec::new(heap.alloc);
     if bytes.len() <= limit {
-        return bytes.to_vec(alloc);
+        heap.extend(&mut short, bytes);
+        return short;
     }
     let half = limit.saturating_sub(2) / 2;
-    let mut short = bytes.get(..half).unwrap_or(&[]).to_vec(alloc)?;
-    short.extend_from_slice(b"..")?;
-    short.extend_from_slice(bytes.get(bytes.len().saturating_sub(half)..).unwrap_or(&[]))?;
-    Ok(short)
+    let last = bytes.len().saturating_sub(half);
+    heap.extend(&mut short, bytes.get(..half).unwrap_or(&[]));
+    heap.extend(&mut short, b"..");
+    heap.extend(&mut short, bytes.get(last..).unwrap_or(&[]));
+    short
+}
+
+/// Returns a unit as it is shown in a name, which may be long.
+fn shown_unit(unit: u16, is_long: bool) -> char {
+    match char::from_u32(u32::from(unit)) {
+        Some(c) if c.is_ascii() || !is_long => c,
+        _ => '?',
+    }
 }
 
 /// Returns a name as UTF-8, with `?` for each half of a pair. Of a long name it has the first and the last
 /// characters, with `?` for those that aren't ASCII.
-pub(crate) fn shown_name(alloc: Global, units: &[u16]) -> Result<Vec<u8>, AllocError> {
-    let mut name = String::new(alloc);
+pub(crate) fn shown_name(heap: &mut Heap, units: &[u16]) -> Vec<u8> {
+    let is_long = units.len() > SHOWN_NAME;
+    let mut name = String::new(heap.alloc);
     for unit in units {
-        let c = match char::from_u32(u32::from(*unit)) {
-            Some(c) if c.is_ascii() || units.len() <= SHOWN_NAME => c,
-            _ => '?',
-        };
-        name.push(c)?;
+        heap.note(name.push(shown_unit(*unit, is_long)));
     }
-    if units.len() <= SHOWN_NAME {
-        return Ok(name.into_bytes());
+    if is_long {
+        shortened(heap, name.as_bytes(), SHOWN_NAME)
+    } else {
+        name.into_bytes()
     }
-    shortened(alloc, name.as_bytes(), SHOWN_NAME)
 }
 
 /// The maximum number of characters of a source in a message.
 const SHOWN_CHARACTERS: usize = 60;
 
-/// Returns the text between quotes, or all of a text that isn't in quotes.
-fn unquoted(source: &str) -> &str {
-    match source
-        .strip_prefix('"')
-        .and_then(|inside| inside.strip_suffix('"'))
-    {
-        Some(inside) => inside,
-        None => source,
-    }
-}
-
 /// Returns the first characters of a source, with `?` for each control character.
-pub(crate) fn shown_source(alloc: Global, bytes: &[u8]) -> Result<Vec<u8>, AllocError> {
-    let mut shown = String::new(alloc);
-    let source = unquoted(str::from_utf8(bytes).unwrap_or("?"));
+pub(crate) fn shown_source(heap: &mut Heap, bytes: &[u8]) -> Vec<u8> {
+    let mut shown = String::new(heap.alloc);
+    let source = str::from_utf8(unquoted(bytes)).unwrap_or("?");
     for c in source.chars().take(SHOWN_CHARACTERS) {
-        shown.push(if c.is_control() { '?' } else { c })?;
+        heap.note(shown.push(if c.is_control() { '?' } else { c }));
     }
     if source.chars().nth(SHOWN_CHARACTERS).is_some() {
-        shown.push_str("..")?;
+        heap.note(shown.push_str(".."));
     }
-    Ok(shown.into_bytes())
+    shown.into_bytes()
 }

@@ -1,3 +1,4 @@
+use crate::named_text::{shown, write_named};
 use crate::rule::Rule;
 use rb_messages::{Category, MessageFault};
 use rb_strings::{Damage, PatternFault};
@@ -63,10 +64,6 @@ impl PatternDoubt {
     }
 }
 
-fn shown(bytes: &[u8]) -> &str {
-    str::from_utf8(bytes).unwrap_or("?")
-}
-
 /// Says what ICU makes of a pattern, and what is probably meant.
 fn style_text(fault: PatternFault) -> &'static str {
     match fault {
@@ -96,48 +93,39 @@ fn damage_text(damage: Damage) -> &'static str {
     }
 }
 
-/// Describes something that has no name.
-pub(crate) fn alone<'a>(text: &'static str) -> (&'static str, &'a str, &'static str) {
-    (text, "", "")
+/// Describes a doubt, with `*` in place of its name.
+fn text_of(doubt: &PatternDoubt) -> &'static str {
+    match doubt {
+        PatternDoubt::Invalid(_) => "this message can't be formatted",
+        PatternDoubt::Stray => "a closing brace closes no argument; is an opening brace missing?",
+        PatternDoubt::Quoted(_) =>
+            "{*} is plain text after an apostrophe; an apostrophe that is meant is written ''",
+        PatternDoubt::Repeated(_) => "two messages are for '*'",
+        PatternDoubt::Unknown(_) =>
+            "'*' is no plural category: zero, one, two, few, many and other are",
+        PatternDoubt::Unused(_) =>
+            "the language has no plural category '*', so that its message is never chosen",
+        PatternDoubt::Lacking(_) =>
+            "the language has a plural category '*', for which no message is here",
+        PatternDoubt::OneBranch(_) =>
+            "{*} is in only one of the messages to choose from; is it missing in the others?",
+        PatternDoubt::Style(fault) => style_text(*fault),
+        PatternDoubt::Damaged(damage) => damage_text(*damage),
+        PatternDoubt::Forbidden(_) => "the settings forbid '*'",
+        PatternDoubt::Long { .. } => "this text is too long",
+    }
 }
 
-/// Describes a doubt: the words before a name, the name, and those after it.
-fn words_of(doubt: &PatternDoubt) -> (&'static str, &str, &'static str) {
+/// Returns the name that a doubt is about, or an empty one.
+fn name_of(doubt: &PatternDoubt) -> &str {
     match doubt {
-        PatternDoubt::Invalid(_) => alone("this message can't be formatted"),
-        PatternDoubt::Stray => alone(
-            "a closing brace closes no argument; is an opening brace missing?",
-        ),
-        PatternDoubt::Quoted(name) => (
-            "{",
-            shown(name),
-            "} is plain text after an apostrophe; an apostrophe that is meant is written ''",
-        ),
-        PatternDoubt::Repeated(selector) => ("two messages are for '", shown(selector), "'"),
-        PatternDoubt::Unknown(selector) => (
-            "'",
-            shown(selector),
-            "' is no plural category: zero, one, two, few, many and other are",
-        ),
-        PatternDoubt::Unused(category) => (
-            "the language has no plural category '",
-            category.name(),
-            "', so that its message is never chosen",
-        ),
-        PatternDoubt::Lacking(category) => (
-            "the language has a plural category '",
-            category.name(),
-            "', for which no message is here",
-        ),
-        PatternDoubt::OneBranch(name) => (
-            "{",
-            shown(name),
-            "} is in only one of the messages to choose from; is it missing in the others?",
-        ),
-        PatternDoubt::Style(fault) => alone(style_text(*fault)),
-        PatternDoubt::Damaged(damage) => alone(damage_text(*damage)),
-        PatternDoubt::Forbidden(word) => ("the settings forbid '", shown(word), "'"),
-        PatternDoubt::Long { .. } => alone("this text is too long"),
+        PatternDoubt::Quoted(name)
+        | PatternDoubt::Repeated(name)
+        | PatternDoubt::Unknown(name)
+        | PatternDoubt::OneBranch(name)
+        | PatternDoubt::Forbidden(name) => shown(name),
+        PatternDoubt::Unused(category) | PatternDoubt::Lacking(category) => category.name(),
+        _ => "",
     }
 }
 
@@ -159,16 +147,17 @@ fn write_letter<W: fmt::Write>(f: &mut fmt::Formatter<W>, letter: char) -> fmt::
     )
 }
 
+fn write_invalid<W: fmt::Write>(f: &mut fmt::Formatter<W>, fault: MessageFault) -> fmt::Result {
+    write!(f, "this message can't be formatted: {fault}")
+}
+
 impl fmt::Display for PatternDoubt {
     fn fmt<W: fmt::Write>(&self, f: &mut fmt::Formatter<W>) -> fmt::Result {
         match self {
-            PatternDoubt::Invalid(fault) => write!(f, "this message can't be formatted: {fault}"),
+            PatternDoubt::Invalid(fault) => write_invalid(f, *fault),
             PatternDoubt::Style(PatternFault::Letter(letter)) => write_letter(f, *letter),
             PatternDoubt::Long { length, longest } => write_length(f, *length, *longest),
-            other => {
-                let (before, name, after) = words_of(other);
-                write!(f, "{before}{name}{after}")
-            }
+            other => write_named(f, text_of(other), name_of(other)),
         }
     }
 }

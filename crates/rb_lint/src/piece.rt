@@ -31,6 +31,29 @@ impl Piece {
     pub(crate) fn is_text(&self) -> bool {
         matches!(self.kind, PieceKind::Quoted | PieceKind::Unquoted)
     }
+
+    /// Returns the bytes of the piece in its text.
+    pub(crate) fn of<'a>(&self, text: &'a [u8]) -> &'a [u8] {
+        text.get(self.first..self.past).unwrap_or(&[])
+    }
+}
+
+/// Returns the number of bytes before the end of a line.
+pub(crate) fn line_width(bytes: &[u8]) -> usize {
+    for (width, byte) in bytes.iter().enumerate() {
+        if matches!(*byte, b'\n' | b'\r') {
+            return width;
+        }
+    }
+    bytes.len()
+}
+
+/// Returns the bytes between quotes, or all of a text that isn't in quotes.
+pub(crate) fn unquoted(bytes: &[u8]) -> &[u8] {
+    match bytes {
+        [b'"', inside @ .., b'"'] => inside,
+        _ => bytes,
+    }
 }
 
 /// Converts a number to a narrow one, or to the largest: what is stored for each open brace is kept

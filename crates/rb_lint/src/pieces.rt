@@ -9,7 +9,7 @@ use crate::piece::Piece;
 use crate::report::Settings;
 use crate::scan::{Open, Quoting, Visit, visit_pieces};
 use crate::warning::Doubt;
-use std::alloc::{AllocError, Global};
+use std::alloc::Global;
 
 /// Searches the pieces of a text for what is doubtful in any layout.
 #[derive(Drop)]
@@ -51,12 +51,11 @@ impl<'a, 'c> PieceSearch<'a, 'c> {
     /// Checks whether a quoted piece over several lines lacks its quote. If all quotes of the text are
     /// closed, it does only if it has braces of the text in it.
     fn is_open(&self, piece: &Piece) -> bool {
-        self.quoting == Quoting::WithinLine
-            || closes_brace(self.text.get(piece.first..piece.past).unwrap_or(&[]))
+        self.quoting == Quoting::WithinLine || closes_brace(piece.of(self.text))
     }
 
     /// Takes a doubtful escape. Doubled backslashes are stored, up to some.
-    fn doubt(&mut self, at: usize, doubt: Doubt) -> Result<(), AllocError> {
+    fn doubt(&mut self, at: usize, doubt: Doubt) {
         if !matches!(doubt, Doubt::TwoBackslashes) {
             return self.found.add(at, doubt);
         }
@@ -64,66 +63,61 @@ impl<'a, 'c> PieceSearch<'a, 'c> {
         if matches!(before, b'g'..=b'z') {
             self.within = self.within.saturating_add(1);
         }
-        self.doubled.push(at)?;
-        Ok(())
+        self.found.heap.push(&mut self.doubled, at);
     }
 
     /// Reports doubled backslashes, unless they are the style of the text, as of rules of transliteration:
     /// it has many, and few are in words.
-    fn report_doubled(&mut self) -> Result<(), AllocError> {
+    fn report_doubled(&mut self) {
         let count = self.doubled.len();
         if count > STYLE && self.within < count / STYLE {
-            return Ok(());
+            return;
         }
         for at in &self.doubled {
-            self.found.add(*at, Doubt::TwoBackslashes)?;
+            self.found.add(*at, Doubt::TwoBackslashes);
         }
-        Ok(())
     }
 
-    fn compare(&mut self, before: &Piece, piece: &Piece) -> Result<(), AllocError> {
+    fn compare(&mut self, before: &Piece, piece: &Piece) {
         if let (1, Some(stem)) = (self.count, self.stem) {
             if is_other_name(self.text, before, piece, stem) {
-                self.found.add(before.first, Doubt::OtherName)?;
+                self.found.add(before.first, Doubt::OtherName);
             }
         }
         self.adjacent
-            .step(self.text, before, piece, &mut self.found)
+            .step(self.text, before, piece, &mut self.found);
     }
 }
 
 impl<'a, 'c> Visit for PieceSearch<'a, 'c> {
-    fn piece(&mut self, piece: &Piece) -> Result<(), AllocError> {
+    fn piece(&mut self, piece: &Piece) {
         if piece.spans_lines && self.is_open(piece) {
-            self.found.add(piece.first, Doubt::RunsOn)?;
+            self.found.add(piece.first, Doubt::RunsOn);
         }
         if piece.is_turned {
-            self.found.add(piece.first, Doubt::Direction)?;
+            self.found.add(piece.first, Doubt::Direction);
         }
-        let before = self.before;
-        self.layout.step(before.as_ref(), piece);
-        if let Some(before) = before {
-            self.compare(&before, piece)?;
+        self.layout.step(piece);
+        if let Some(before) = self.before {
+            self.layout.compare(&before, piece);
+            self.compare(&before, piece);
         }
-        self.keys.step(self.text, piece, &mut self.found)?;
+        self.keys.step(self.text, piece, &mut self.found);
         self.count = self.count.saturating_add(1).min(2);
         self.before = Some(*piece);
-        Ok(())
     }
 
-    fn escape(&mut self, at: usize, window: &[u8]) -> Result<(), AllocError> {
-        match escape_doubt(window) {
-            Some(doubt) => self.doubt(at, doubt),
-            None => Ok(()),
+    fn escape(&mut self, at: usize, window: &[u8]) {
+        if let Some(doubt) = escape_doubt(window) {
+            self.doubt(at, doubt);
         }
     }
 
-    fn comment(&mut self, at: usize, _window: &[u8]) -> Result<(), AllocError> {
+    fn comment(&mut self, at: usize, _window: &[u8]) {
         let before = self.text.get(..at).unwrap_or(&[]);
         if before.ends_with(b"http:") || before.ends_with(b"https:") {
-            return self.found.add(at, Doubt::UnquotedAddress);
+            self.found.add(at, Doubt::UnquotedAddress);
         }
-        Ok(())
     }
 }
 
@@ -142,7 +136,7 @@ pub(crate) fn search_pieces<'a, 'c>(
     settings: &Settings<'a>,
     allowances: &'c Allowances,
     quoting: Quoting,
-) -> Result<Searched<'c>, AllocError> {
+) -> Searched<'c> {
     let mut search = PieceSearch {
         text,
         stem: settings.name,
@@ -156,11 +150,11 @@ pub(crate) fn search_pieces<'a, 'c>(
         within: 0,
         found: Collector::new(alloc, settings.levels, allowances, settings.limit),
     };
-    let open = visit_pieces(alloc, text, quoting, &mut search)?;
-    search.report_doubled()?;
-    Ok(Searched {
+    let open = visit_pieces(text, quoting, &mut search);
+    search.report_doubled();
+    Searched {
         found: search.found,
         layout: search.layout,
         open,
-    })
+    }
 }

@@ -1,7 +1,7 @@
 //! Finds the first definition of a repeated key.
+use crate::heap::Heap;
 use crate::text_tokens::TextTokens;
 use rb_lexer::{Mark, Token};
-use std::alloc::{AllocError, Global};
 
 /// A text before a colon or a brace.
 #[derive(Clone, Copy)]
@@ -20,19 +20,20 @@ struct OpenKeys {
     depth: u64,
     keys: Vec<KeyAt>,
     units: Vec<u16>,
+    heap: Heap,
 }
 
 impl OpenKeys {
-    fn add(&mut self, units: &[u16], line: u64) -> Result<(), AllocError> {
+    fn add(&mut self, units: &[u16], line: u64) {
         let first = self.units.len();
-        self.units.extend_from_slice(units)?;
-        self.keys.push(KeyAt {
+        self.heap.note(self.units.extend_from_slice(units));
+        let key = KeyAt {
             depth: self.depth,
             first,
             past: self.units.len(),
             line,
-        })?;
-        Ok(())
+        };
+        self.heap.push(&mut self.keys, key);
     }
 
     /// Removes the keys of the body that ends.
@@ -63,45 +64,38 @@ impl OpenKeys {
     }
 
     /// Takes a token that isn't the repeated key.
-    fn step(&mut self, token: &Token) -> Result<(), AllocError> {
+    fn step(&mut self, token: &Token) {
         match &token.what {
             Mark::Text(units) => self.add(units.as_slice(), token.line),
-            Mark::LeftBrace => {
-                self.depth = self.depth.saturating_add(1);
-                Ok(())
-            }
-            Mark::RightBrace => {
-                self.leave();
-                Ok(())
-            }
-            Mark::Colon | Mark::Comma => Ok(()),
+            Mark::LeftBrace => self.depth = self.depth.saturating_add(1),
+            Mark::RightBrace => self.leave(),
+            Mark::Colon | Mark::Comma => {}
         }
     }
 }
 
 /// Returns the line of the first entry with the key that is at this byte of a text.
-pub(crate) fn first_line_of(
-    alloc: Global,
-    text: &[u8],
-    at: usize,
-) -> Result<Option<u64>, AllocError> {
-    let mut tokens = match TextTokens::of(alloc, text) {
-        Ok(tokens) => tokens,
-        Err(error) => return Err(error),
-    };
+pub(crate) fn first_line_of(heap: &mut Heap, text: &[u8], at: usize) -> Option<u64> {
     let mut open = OpenKeys {
         depth: 0,
-        keys: Vec::new(alloc),
-        units: Vec::new(alloc),
+        keys: Vec::new(heap.alloc),
+        units: Vec::new(heap.alloc),
+        heap: *heap,
     };
+    let mut tokens = TextTokens::of(heap, text);
+    let mut line = None;
     for _ in 0..u64::MAX {
-        let Some(token) = tokens.pop()? else {
+        let Some(token) = tokens.pop(heap) else {
             break;
         };
         match &token.what {
-            Mark::Text(units) if token.first == at => return Ok(open.line_of(units.as_slice())),
-            _ => open.step(&token)?,
+            Mark::Text(units) if token.first == at => {
+                line = open.line_of(units.as_slice());
+                break;
+            }
+            _ => open.step(&token),
         }
     }
-    Ok(None)
+    heap.join(open.heap);
+    line
 }

@@ -132,20 +132,20 @@ fn search_readable<'a, 'c>(
 ) -> Result<(Collector<'c>, Option<Fault>), AllocError>
     ensures { IfOk result (λ r. IsErr outcome.now → IsSome r.1) }
 {
-    let (mut found, open) = search_text(alloc, text, settings, allowances)?;
+    let (found, open) = search_text(alloc, text, settings, allowances);
     match outcome {
         Err(fault) => {
             let fault = find_fault(alloc, text, *fault, open)?;
             Ok((found, Some(fault)))
         }
         Ok(source) => {
-            search_values(alloc, text, &source.tree, settings, &mut found)?;
+            let found = search_values(text, &source.tree, settings, found);
             Ok((found, None))
         }
     }
 }
 
-/// What was found in a text.
+/// The findings of a search.
 #[derive(Drop)]
 struct Searched {
     /// The first warnings, in the order of the text.
@@ -243,6 +243,42 @@ fn with_fault(warnings: Vec<Found>, fault: Option<Fault>) -> Result<Vec<Found>, 
     }
 }
 
+/// The findings that are reported of a text.
+#[derive(Drop)]
+struct Reported {
+    found: Vec<Found>,
+    /// The number of warnings past the limit.
+    left_out: u64,
+}
+
+/// Returns the first warnings of a text, at most `limit`, with its error, if it has one.
+fn limited(searched: Searched, limit: usize) -> Result<Reported, AllocError>
+    ensures few { IfOk result (λ r. vec_len r.found ≤ limit + 1) }
+    ensures error { IfOk result (λ r. IfSome searched.fault
+        (λ f. All (λ g. IsSome g.rule) r.found.items → ⊥)) }
+{
+    let mut warnings = searched.warnings;
+    warnings.truncate(limit);
+    let left_out = searched.count.saturating_sub(warnings.len() as u64);
+    let found = with_fault(warnings, searched.fault)?;
+    Ok(Reported { found, left_out })
+}
+
+/// Finds what is reported of a text that was parsed.
+fn search_limited<'a>(
+    alloc: Global,
+    text: &'a [u8],
+    settings: &Settings<'a>,
+    outcome: &Result<Source, SourceFault>,
+) -> Result<Reported, AllocError>
+    ensures few { IfOk result (λ r. vec_len r.found ≤ settings.now.limit + 1) }
+    ensures error { IfOk result (λ r. IsErr outcome.now →
+        All (λ g. IsSome g.rule) r.found.items → ⊥) }
+{
+    let searched = search(alloc, text, settings, outcome)?;
+    limited(searched, settings.limit)
+}
+
 /// Finds what is doubtful in a bundle text, which may have any errors, and why it isn't compiled. The
 /// findings are in the order of the text: its first warnings, at most as many as the limit, and its
 /// error. The rules are this project's own. `Err` means out of memory.
@@ -268,11 +304,10 @@ pub fn find_all<'a>(
     ensures error { IfOk result (λ r. HasNoError r.findings.items → IsCompiled text.now) }
 {
     let outcome = parsed(alloc, text)?;
-    let searched = search(alloc, text, settings, &outcome)?;
-    let mut warnings = searched.warnings;
-    warnings.truncate(settings.limit);
-    let left_out = searched.count.saturating_sub(warnings.len() as u64);
-    let found = with_fault(warnings, searched.fault)?;
-    let findings = located(alloc, text, settings.levels, found)?;
-    Ok(Report { findings, left_out })
+    let reported = search_limited(alloc, text, settings, &outcome)?;
+    let findings = located(alloc, text, settings.levels, reported.found)?;
+    Ok(Report {
+        findings,
+        left_out: reported.left_out,
+    })
 }

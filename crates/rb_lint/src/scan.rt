@@ -1,7 +1,6 @@
 //! Splits a text into pieces. The text may have any errors.
 use crate::direction::Direction;
 use crate::piece::{Piece, PieceKind};
-use std::alloc::{AllocError, Global};
 
 /// A byte of the text, at its offset.
 #[derive(Clone, Copy)]
@@ -42,6 +41,14 @@ fn is_wide_white(window: &[u8]) -> bool {
     window.starts_with(b"\xE2\x80\xA9") || window.starts_with(b"\xEF\xBB\xBF")
 }
 
+/// Checks whether a text without quotes ends before a byte.
+fn ends_unquoted(byte: u8, window: &[u8]) -> bool {
+    b" \t\r\n\"{}:,".contains(&byte)
+        || window.starts_with(b"//")
+        || window.starts_with(b"/*")
+        || is_wide_white(window)
+}
+
 /// An event at a byte that is no piece.
 #[derive(Clone, Copy, PartialEq, Eq)]
 enum Event {
@@ -61,12 +68,13 @@ struct Scan {
     event: Option<Event>,
     /// The place of the last comment that began.
     comment_at: usize,
-    /// The pieces that ended at this byte: at most two.
-    ended: Vec<Piece>,
+    /// The text that ended at this byte, and the punctuation character after it.
+    ended: Option<Piece>,
+    mark: Option<Piece>,
 }
 
 impl Scan {
-    fn new(alloc: Global, quoting: Quoting) -> Scan {
+    fn new(quoting: Quoting) -> Scan {
         Scan {
             quoting,
             state: State::Between,
@@ -77,25 +85,27 @@ impl Scan {
             direction: Direction::new(),
             event: None,
             comment_at: 0,
-            ended: Vec::new(alloc),
+            ended: None,
+            mark: None,
         }
     }
 
-    /// Passes the ended pieces to a visitor.
-    fn flush<V: Visit>(&mut self, visitor: &mut V) -> Result<(), AllocError> {
-        for piece in &self.ended {
-            visitor.piece(piece)?;
+    /// Passes the pieces that ended to a visitor.
+    fn pass_pieces<V: Visit>(&mut self, visitor: &mut V) {
+        if let Some(piece) = self.ended.take() {
+            visitor.piece(&piece);
         }
-        self.ended.clear();
-        Ok(())
+        if let Some(piece) = self.mark.take() {
+            visitor.piece(&piece);
+        }
     }
 
     /// Passes the event at a byte to a visitor.
-    fn pass_event<V: Visit>(&mut self, input: Input, visitor: &mut V) -> Result<(), AllocError> {
+    fn pass_event<V: Visit>(&mut self, input: Input, visitor: &mut V) {
         match self.event.take() {
             Some(Event::Escape) => visitor.escape(input.at, input.window),
             Some(Event::LineComment) => visitor.comment(input.at, input.window),
-            None => Ok(()),
+            None => {}
         }
     }
 
@@ -108,39 +118,44 @@ impl Scan {
         }
     }
 
-    /// Begins a piece, and continues in a state.
-    fn begin(&mut self, kind: PieceKind, first: usize, state: State) {
-        self.piece = Some(Piece {
+    /// Returns a piece that begins here.
+    fn piece_at(&self, kind: PieceKind, first: usize, past: usize) -> Piece {
+        Piece {
             kind,
             first,
-            past: first,
+            past,
             line: self.line,
             last_line: self.line,
             column: self.column,
             begins_line: self.begins_line,
             spans_lines: false,
             is_turned: false,
-        });
+        }
+    }
+
+    /// Begins a text, and continues in a state.
+    fn begin(&mut self, kind: PieceKind, first: usize, state: State) {
+        self.piece = Some(self.piece_at(kind, first, first));
         self.begins_line = false;
         self.direction = Direction::new();
         self.state = state;
     }
 
-    fn end(&mut self, past: usize) -> Result<(), AllocError> {
+    fn end(&mut self, past: usize) {
         if let Some(mut piece) = self.piece.take() {
             piece.past = past;
             piece.is_turned = self.direction.is_open();
             piece.last_line = self.line;
-            self.ended.push(piece)?;
+            self.ended = Some(piece);
         }
         self.begins_line = false;
         self.state = State::Between;
-        Ok(())
     }
 
-    fn mark(&mut self, kind: PieceKind, at: usize) -> Result<(), AllocError> {
-        self.begin(kind, at, State::Between);
-        self.end(at.saturating_add(1))
+    /// Takes a punctuation character.
+    fn punctuation(&mut self, kind: PieceKind, at: usize) {
+        self.mark = Some(self.piece_at(kind, at, at.saturating_add(1)));
+        self.begins_line = false;
     }
 
     fn next_line(&mut self) {
@@ -163,90 +178,83 @@ impl Scan {
         }
     }
 
-    fn between(&mut self, input: Input) -> Result<(), AllocError> {
+    fn between(&mut self, input: Input) {
         let Input { at, byte, window } = input;
         match byte {
             b'\n' => self.next_line(),
             b' ' | b'\t' | b'\r' => self.indent(byte),
             b'"' => self.begin(PieceKind::Quoted, at, State::Quoted),
-            b'{' => self.mark(PieceKind::LeftBrace, at)?,
-            b'}' => self.mark(PieceKind::RightBrace, at)?,
-            b':' => self.mark(PieceKind::Colon, at)?,
-            b',' => self.mark(PieceKind::Comma, at)?,
+            b'{' => self.punctuation(PieceKind::LeftBrace, at),
+            b'}' => self.punctuation(PieceKind::RightBrace, at),
+            b':' => self.punctuation(PieceKind::Colon, at),
+            b',' => self.punctuation(PieceKind::Comma, at),
             b'\\' => {
                 self.event = Some(Event::Escape);
                 self.begin(PieceKind::Unquoted, at, State::UnquotedEscape);
             }
-            _ if window.starts_with(b"//") => {
-                self.event = Some(Event::LineComment);
-                self.state = State::LineComment;
-            }
-            _ if window.starts_with(b"/*") => {
-                self.comment_at = at;
-                self.state = State::BlockStart;
-            }
-            _ if is_wide_white(window) => self.state = State::Skip(2),
-            _ => {
-                self.begin(PieceKind::Unquoted, at, State::Unquoted);
-                self.direction.step(window);
-            }
+            _ => self.between_others(at, window),
         }
-        Ok(())
     }
 
-    fn unquoted(&mut self, input: Input) -> Result<(), AllocError> {
-        let Input { at, byte, window } = input;
-        let is_comment = window.starts_with(b"//") || window.starts_with(b"/*");
-        if b" \t\r\n\"{}:,".contains(&byte) || is_comment || is_wide_white(window) {
-            self.end(at)?;
+    /// Takes a byte between pieces that is neither white space nor punctuation of one byte.
+    fn between_others(&mut self, at: usize, window: &[u8]) {
+        if window.starts_with(b"//") {
+            self.event = Some(Event::LineComment);
+            self.state = State::LineComment;
+        } else if window.starts_with(b"/*") {
+            self.comment_at = at;
+            self.state = State::BlockStart;
+        } else if is_wide_white(window) {
+            self.state = State::Skip(2);
+        } else {
+            self.begin(PieceKind::Unquoted, at, State::Unquoted);
+            self.direction.step(window);
+        }
+    }
+
+    fn unquoted(&mut self, input: Input) {
+        if ends_unquoted(input.byte, input.window) {
+            self.end(input.at);
             return self.between(input);
         }
-        if byte == b'\\' {
+        if input.byte == b'\\' {
             self.event = Some(Event::Escape);
             self.state = State::UnquotedEscape;
         }
-        self.direction.step(window);
-        Ok(())
+        self.direction.step(input.window);
     }
 
-    fn run_on(&mut self, at: usize) -> Result<(), AllocError> {
-        if let Some(mut piece) = self.piece {
+    fn run_on(&mut self, at: usize) {
+        if let Some(piece) = &mut self.piece {
             piece.spans_lines = true;
-            self.piece = Some(piece);
         }
         if self.quoting == Quoting::WithinLine {
-            self.end(at)?;
+            self.end(at);
         }
         self.next_line();
-        Ok(())
     }
 
-    fn quoted(&mut self, input: Input) -> Result<(), AllocError> {
+    fn quoted(&mut self, input: Input) {
         match input.byte {
             b'\n' => self.run_on(input.at),
             b'"' => self.end(input.at.saturating_add(1)),
             b'\\' => {
                 self.state = State::QuotedEscape;
                 self.event = Some(Event::Escape);
-                Ok(())
             }
-            _ => {
-                self.direction.step(input.window);
-                Ok(())
-            }
+            _ => self.direction.step(input.window),
         }
     }
 
-    fn escaped(&mut self, input: Input, after: State) -> Result<(), AllocError> {
+    fn escaped(&mut self, input: Input, after: State) {
         self.state = after;
         if input.byte != b'\n' {
-            return Ok(());
+            return;
         }
-        if matches!(after, State::Quoted) {
-            return self.run_on(input.at);
+        match after {
+            State::Quoted => self.run_on(input.at),
+            _ => self.next_line(),
         }
-        self.next_line();
-        Ok(())
     }
 
     fn comment(&mut self, input: Input) {
@@ -263,42 +271,29 @@ impl Scan {
         }
     }
 
-    fn step(&mut self, input: Input) -> Result<(), AllocError> {
+    fn step(&mut self, input: Input) {
         match self.state {
             State::Between => self.between(input),
             State::Quoted => self.quoted(input),
             State::Unquoted => self.unquoted(input),
             State::QuotedEscape => self.escaped(input, State::Quoted),
             State::UnquotedEscape => self.escaped(input, State::Unquoted),
-            State::Skip(more) if more > 1 => {
-                self.state = State::Skip(more - 1);
-                Ok(())
-            }
-            State::Skip(_) => {
-                self.state = State::Between;
-                Ok(())
-            }
-            _ => {
-                self.comment(input);
-                Ok(())
-            }
+            State::Skip(more) if more > 1 => self.state = State::Skip(more - 1),
+            State::Skip(_) => self.state = State::Between,
+            _ => self.comment(input),
         }
     }
 }
 
 /// Takes the pieces of a text, one by one.
 pub(crate) trait Visit {
-    fn piece(&mut self, piece: &Piece) -> Result<(), AllocError>;
+    fn piece(&mut self, piece: &Piece);
 
     /// Takes the backslash of an escape, and the text from it on.
-    fn escape(&mut self, _at: usize, _window: &[u8]) -> Result<(), AllocError> {
-        Ok(())
-    }
+    fn escape(&mut self, _at: usize, _window: &[u8]) {}
 
     /// Takes the start of a comment of one line, and the text from it on.
-    fn comment(&mut self, _at: usize, _window: &[u8]) -> Result<(), AllocError> {
-        Ok(())
-    }
+    fn comment(&mut self, _at: usize, _window: &[u8]) {}
 }
 
 /// A quote or comment that isn't closed at the end of a text, with the offset at which it begins.
@@ -311,25 +306,20 @@ pub(crate) enum Open {
 
 /// Passes the pieces, escapes and comments of a text to a visitor. Returns what the text leaves open. No
 /// piece is stored: a text can have as many as it has bytes.
-pub(crate) fn visit_pieces<V: Visit>(
-    alloc: Global,
-    text: &[u8],
-    quoting: Quoting,
-    visitor: &mut V,
-) -> Result<Open, AllocError> {
-    let mut scan = Scan::new(alloc, quoting);
+pub(crate) fn visit_pieces<V: Visit>(text: &[u8], quoting: Quoting, visitor: &mut V) -> Open {
+    let mut scan = Scan::new(quoting);
     for (at, byte) in text.iter().enumerate() {
         let input = Input {
             at,
             byte: *byte,
             window: &text[at..],
         };
-        scan.step(input)?;
-        scan.flush(visitor)?;
-        scan.pass_event(input, visitor)?;
+        scan.step(input);
+        scan.pass_pieces(visitor);
+        scan.pass_event(input, visitor);
     }
     let open = scan.open();
-    scan.end(text.len())?;
-    scan.flush(visitor)?;
-    Ok(open)
+    scan.end(text.len());
+    scan.pass_pieces(visitor);
+    open
 }

@@ -6,7 +6,7 @@ use crate::pieces::{Searched, search_pieces};
 use crate::report::Settings;
 use crate::scan::{Open, Quoting, visit_pieces};
 use crate::warning::Doubt;
-use std::alloc::{AllocError, Global};
+use std::alloc::Global;
 
 /// Finds lost braces of a text by its layout.
 fn search_braces<'a>(
@@ -15,12 +15,13 @@ fn search_braces<'a>(
     quoting: Quoting,
     layout: &Layout,
     found: Collector<'a>,
-) -> Result<Collector<'a>, AllocError> {
-    let mut search = BraceSearch::new(alloc, found)?;
-    if layout.lacks_brace() && layout.is_indented() {
-        visit_pieces(alloc, text, quoting, &mut search)?;
+) -> Collector<'a> {
+    if !layout.lacks_brace() || !layout.is_indented() {
+        return found;
     }
-    Ok(search.warnings)
+    let mut search = BraceSearch::new(alloc, found);
+    visit_pieces(text, quoting, &mut search);
+    search.warnings
 }
 
 /// Returns how to split a text into pieces: if it ends inside a quoted piece, each quoted piece is taken
@@ -39,22 +40,18 @@ pub(crate) fn search_text<'a, 'c>(
     text: &'a [u8],
     settings: &Settings<'a>,
     allowances: &'c Allowances,
-) -> Result<(Collector<'c>, Open), AllocError> {
-    let whole = search_pieces(alloc, text, settings, allowances, Quoting::OverLines)?;
+) -> (Collector<'c>, Open) {
+    let whole = search_pieces(alloc, text, settings, allowances, Quoting::OverLines);
     let open = whole.open;
     let quoting = quoting_of(open);
     let searched = match quoting {
         Quoting::OverLines => whole,
-        Quoting::WithinLine => search_pieces(alloc, text, settings, allowances, quoting)?,
+        Quoting::WithinLine => search_pieces(alloc, text, settings, allowances, quoting),
     };
-    let Searched {
-        mut found,
-        layout,
-        ..
-    } = searched;
+    let mut found = searched.found;
     for at in allowances.unknown() {
-        found.add(*at, Doubt::UnknownAllowed)?;
+        found.add(*at, Doubt::UnknownAllowed);
     }
-    let found = search_braces(alloc, text, quoting, &layout, found)?;
-    Ok((found, open))
+    let found = search_braces(alloc, text, quoting, &searched.layout, found);
+    (found, open)
 }

@@ -3,6 +3,7 @@
 ghost use Rattle.std.specs.Prelude.{IfOk};
 ghost use Rattle.rb_lint.specs.Warnings.{IsCompiled};
 
+use crate::heap::Heap;
 use rb_lexer::{SourceFault, SourceKind, Token, Tokens};
 use rb_parser::{Source, parse};
 use std::alloc::{AllocError, Global};
@@ -21,22 +22,29 @@ pub(crate) struct TextTokens<'a> {
 }
 
 impl<'a> TextTokens<'a> {
-    /// Splits a text. `Err` means out of memory.
-    pub(crate) fn of(alloc: Global, text: &'a [u8]) -> Result<TextTokens<'a>, AllocError> {
-        match Tokens::of(alloc, text) {
-            Ok(tokens) => Ok(TextTokens {
+    /// Splits a text.
+    pub(crate) fn of(heap: &mut Heap, text: &'a [u8]) -> TextTokens<'a> {
+        match Tokens::of(heap.alloc, text) {
+            Ok(tokens) => TextTokens {
                 tokens: Some(tokens),
-            }),
-            Err(fault) if fault.kind == SourceKind::Memory => Err(AllocError),
-            Err(_) => Ok(TextTokens { tokens: None }),
+            },
+            Err(fault) => {
+                if fault.kind == SourceKind::Memory {
+                    heap.fail();
+                }
+                TextTokens { tokens: None }
+            }
         }
     }
 
     /// Takes the next token, if there is one.
-    pub(crate) fn pop(&mut self) -> Result<Option<Token>, AllocError> {
-        match &mut self.tokens {
-            Some(tokens) => tokens.pop(),
-            None => Ok(None),
+    pub(crate) fn pop(&mut self, heap: &mut Heap) -> Option<Token> {
+        match self.tokens.as_mut()?.pop() {
+            Ok(token) => token,
+            Err(_) => {
+                heap.fail();
+                None
+            }
         }
     }
 }

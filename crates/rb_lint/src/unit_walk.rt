@@ -1,3 +1,6 @@
+use crate::escapes::digit_count;
+use crate::piece::line_width;
+
 /// The context of the next byte of a walk.
 #[derive(Clone, Copy, PartialEq, Eq)]
 enum State {
@@ -34,43 +37,29 @@ fn gap_width(rest: &[u8]) -> usize {
 /// Returns the width of the comment that a source begins with, or 0.
 fn comment_width(rest: &[u8]) -> usize {
     if rest.starts_with(b"//") {
-        let end = rest
-            .iter()
-            .position(|byte| *byte == b'\n' || *byte == b'\r');
-        return end.unwrap_or(rest.len());
+        return line_width(rest);
     }
     if !rest.starts_with(b"/*") {
         return 0;
     }
-    let inside = rest.get(2..).unwrap_or(&[]);
-    match inside.windows(2).position(|pair| pair == b"*/".as_slice()) {
-        Some(count) => count.saturating_add(4),
-        None => rest.len(),
+    for (count, pair) in rest.get(2..).unwrap_or(&[]).windows(2).enumerate() {
+        if pair == b"*/".as_slice() {
+            return count.saturating_add(4);
+        }
     }
-}
-
-/// Returns the number of hexadecimal digits that bytes begin with, up to a limit.
-fn digit_count(bytes: &[u8], limit: usize) -> usize {
-    let some = match bytes.get(..limit) {
-        Some(some) => some,
-        None => bytes,
-    };
-    match some.iter().position(|byte| !byte.is_ascii_hexdigit()) {
-        Some(count) => count,
-        None => some.len(),
-    }
+    rest.len()
 }
 
 /// Returns the number of octal digits that bytes begin with, up to three.
 fn octal_count(bytes: &[u8]) -> usize {
-    let some = match bytes.get(..3) {
-        Some(some) => some,
-        None => bytes,
-    };
-    match some.iter().position(|byte| !matches!(*byte, b'0'..=b'7')) {
-        Some(count) => count,
-        None => some.len(),
+    let mut count: usize = 0;
+    for byte in bytes {
+        if count >= 3 || !matches!(*byte, b'0'..=b'7') {
+            break;
+        }
+        count = count.saturating_add(1);
     }
+    count
 }
 
 /// Returns the widths of a character in bytes and in units, by its first byte.

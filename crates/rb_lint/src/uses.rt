@@ -1,7 +1,8 @@
 //! The arguments that a message uses.
+use crate::heap::Heap;
 use crate::piece::narrow;
 use rb_messages::{ArgumentType, Span};
-use std::alloc::{AllocError, Global};
+use std::alloc::Global;
 
 /// A use of an argument. Numbers are narrow, since a text can have one use in three units.
 #[derive(Clone, Copy)]
@@ -63,7 +64,6 @@ impl<'a> Named<'a> {
 /// The uses of arguments in a message, in its order.
 #[derive(Drop)]
 pub(crate) struct Uses<'a> {
-    alloc: Global,
     text: &'a [u16],
     pub(crate) uses: Vec<Use>,
 }
@@ -71,27 +71,26 @@ pub(crate) struct Uses<'a> {
 impl<'a> Uses<'a> {
     pub(crate) fn new(alloc: Global, text: &'a [u16]) -> Uses<'a> {
         Uses {
-            alloc,
             text,
             uses: Vec::new(alloc),
         }
     }
 
-    /// Adds a use, and returns its index.
+    /// Adds a use.
     pub(crate) fn add(
         &mut self,
+        heap: &mut Heap,
         name: Span,
         of_type: ArgumentType,
         branch: Option<u32>,
-    ) -> Result<u32, AllocError> {
-        let at = self.uses.len();
-        self.uses.push(Use {
+    ) {
+        let used = Use {
             first: narrow(name.first as u64),
             past: narrow(name.past as u64),
             of_type,
             branch,
-        })?;
-        Ok(narrow(at as u64))
+        };
+        heap.push(&mut self.uses, used);
     }
 
     /// Checks whether an argument is a number, such as `{0}`.
@@ -115,14 +114,15 @@ impl<'a> Uses<'a> {
     }
 
     /// Returns the names of all uses in ascending order, each with its index.
-    fn names(&self) -> Result<Vec<(&'a [u16], usize)>, AllocError> {
-        let mut all = Vec::with_capacity(self.alloc, self.uses.len())?;
+    fn names(&self, heap: &mut Heap) -> Vec<(&'a [u16], usize)> {
+        let mut all = Vec::new(heap.alloc);
         for (i, used) in self.uses.iter().enumerate() {
             let range = used.first as usize..used.past as usize;
-            all.push((self.text.get(range).unwrap_or(&[]), i))?;
+            let entry = (self.text.get(range).unwrap_or(&[]), i);
+            heap.push(&mut all, entry);
         }
-        all.sort_by_key(|entry| entry.0)?;
-        Ok(all)
+        heap.note(all.sort());
+        all
     }
 
     /// Returns the argument of one use, whose name is given.
@@ -141,17 +141,16 @@ impl<'a> Uses<'a> {
     }
 
     /// Returns the arguments by ascending names.
-    pub(crate) fn named(&self) -> Result<Vec<Named<'a>>, AllocError> {
-        let all = self.names()?;
-        let mut named: Vec<Named<'a>> = Vec::new(self.alloc);
-        for (name, i) in &all {
+    pub(crate) fn named(&self, heap: &mut Heap) -> Vec<Named<'a>> {
+        let mut named: Vec<Named<'a>> = Vec::new(heap.alloc);
+        for (name, i) in &self.names(heap) {
             let one = self.named_by(*name, *i);
             match named.last_mut() {
                 Some(before) if before.name == one.name => before.add(&one),
-                _ => named.push(one)?,
+                _ => heap.push(&mut named, one),
             }
         }
-        Ok(named)
+        named
     }
 }
 
@@ -165,16 +164,16 @@ pub(crate) fn find_named<'a>(named: &[Named<'a>], name: &[u16]) -> Option<Named<
 
 /// Returns the arguments that are not among others, in the order of the text. Both are by ascending names.
 pub(crate) fn without<'a>(
-    alloc: Global,
+    heap: &mut Heap,
     named: &[Named<'a>],
     others: &[Named<'_>],
-) -> Result<Vec<Named<'a>>, AllocError> {
-    let mut found = Vec::new(alloc);
+) -> Vec<Named<'a>> {
+    let mut found = Vec::new(heap.alloc);
     for argument in named {
         if find_named(others, argument.name).is_none() {
-            found.push(*argument)?;
+            heap.push(&mut found, *argument);
         }
     }
-    found.sort_by_key(|argument| argument.first)?;
-    Ok(found)
+    heap.note(found.sort_by_key(|argument| argument.first));
+    found
 }

@@ -3,6 +3,7 @@ use crate::collector::Collector;
 use crate::compare::{PlacedChange, compare_strings};
 use crate::difference::{Change, Difference};
 use crate::finding::Message;
+use crate::heap::Heap;
 use crate::language::Language;
 use crate::links::{is_bundle_key, is_misspelled, is_parent, leads_nowhere};
 use crate::messages::read_string;
@@ -17,7 +18,7 @@ use crate::warning::Doubt;
 use rb_lexer::{Mark, Token};
 use rb_strings::{character_count, find_word};
 use rb_tree::{Entries, Kind, Node, Tree};
-use std::alloc::{AllocError, Global};
+use std::alloc::Global;
 
 /// The last part of the path of an item.
 #[derive(Drop)]
@@ -52,14 +53,14 @@ fn is_icu_key(key: &[u8]) -> bool {
 }
 
 /// Returns the characters of a token in ASCII, with `?` for each other one.
-fn key_of(alloc: Global, token: &Token) -> Result<Vec<u8>, AllocError> {
-    let mut key = Vec::new(alloc);
+fn key_of(heap: &mut Heap, token: &Token) -> Vec<u8> {
+    let mut key = Vec::new(heap.alloc);
     if let Mark::Text(units) = &token.what {
         for unit in units.as_slice() {
-            key.push(u8::try_from(*unit).unwrap_or(b'?'))?;
+            heap.push(&mut key, u8::try_from(*unit).unwrap_or(b'?'));
         }
     }
-    Ok(key)
+    key
 }
 
 fn entry_of<'a>(table: Option<&'a Tree>, key: &[u8]) -> Option<&'a Tree> {
@@ -111,24 +112,25 @@ fn top_key<'a>(levels: &'a [Level<'_>]) -> &'a [u8] {
     }
 }
 
-/// Adds the key or the index of a level to a path.
-fn add_segment(alloc: Global, path: &mut Vec<u8>, segment: &Segment) -> Result<(), AllocError> {
-    match segment {
-        Segment::Bundle => Ok(()),
-        Segment::Key(key) => path.extend_from_slice(&shortened(alloc, key, SHOWN_PATH)?),
-        Segment::Index(index) => {
-            let index = format!(in alloc; "{index}")?;
-            path.extend_from_slice(index.as_bytes())
-        }
+/// Adds a key to a path, after a slash if it isn't the first one.
+fn add_key(heap: &mut Heap, path: &mut Vec<u8>, key: &[u8]) {
+    if !path.is_empty() {
+        heap.push(path, b'/');
     }
+    let key = shortened(heap, key, SHOWN_PATH);
+    heap.extend(path, &key);
 }
 
-/// Adds a slash between the segments of a path.
-fn add_slash(path: &mut Vec<u8>) -> Result<(), AllocError> {
-    if !path.is_empty() {
-        path.push(b'/')?;
+/// Adds the key or the index of a level to a path.
+fn add_segment(heap: &mut Heap, path: &mut Vec<u8>, segment: &Segment) {
+    match segment {
+        Segment::Bundle => {}
+        Segment::Key(key) => add_key(heap, path, key),
+        Segment::Index(index) => match format!(in heap.alloc; "{index}") {
+            Ok(index) => add_key(heap, path, index.as_bytes()),
+            Err(_) => heap.fail(),
+        },
     }
-    Ok(())
 }
 
 /// Checks whether an entry of a table of the text, with a key, isn't in the root's table.
@@ -144,8 +146,7 @@ fn is_array(level: &Level<'_>) -> bool {
 }
 
 #[derive(Drop)]
-struct ValueSearch<'a> {
-    alloc: Global,
+struct ValueSearch<'a, 'c> {
     source: &'a [u8],
     /// The name that the bundle should have, or else the one that it has.
     name: Vec<u8>,
@@ -166,96 +167,69 @@ struct ValueSearch<'a> {
     is_type: bool,
     /// The number of differences that were passed on.
     passed: usize,
+    found: Collector<'c>,
 }
 
-impl<'a> ValueSearch<'a> {
+impl<'a, 'c> ValueSearch<'a, 'c> {
     /// Returns the path of the innermost level, and of an entry in it: keys and indexes with slashes between
     /// them. Of a long key, and of a long path, it has the first and the last bytes.
-    fn path(&self, entry: Option<&[u8]>) -> Result<Vec<u8>, AllocError> {
-        let mut path = Vec::new(self.alloc);
+    fn path(&mut self, entry: Option<&[u8]>) -> Vec<u8> {
+        let heap = &mut self.found.heap;
+        let mut path = Vec::new(heap.alloc);
         for level in &self.levels {
-            add_slash(&mut path)?;
-            add_segment(self.alloc, &mut path, &level.segment)?;
+            add_segment(heap, &mut path, &level.segment);
         }
         if let Some(key) = entry {
-            add_slash(&mut path)?;
-            path.extend_from_slice(&shortened(self.alloc, key, SHOWN_PATH)?)?;
+            add_key(heap, &mut path, key);
         }
-        shortened(self.alloc, &path, SHOWN_PATH)
+        shortened(heap, &path, SHOWN_PATH)
     }
 
     /// Passes a difference on. Paths are built only of the first ones that aren't allowed.
-    fn report(
-        &mut self,
-        first: usize,
-        entry: Option<&[u8]>,
-        change: Change,
-        found: &mut Collector<'_>,
-    ) -> Result<(), AllocError> {
+    fn report(&mut self, first: usize, entry: Option<&[u8]>, change: Change) {
         let rule = change.rule();
-        if found.is_allowed(first, rule) {
-            return Ok(());
+        if self.found.is_allowed(first, rule) {
+            return;
         }
-        if self.passed >= found.limit() {
-            found.skip();
-            return Ok(());
+        if self.passed >= self.found.limit() {
+            return self.found.skip();
         }
         self.passed = self.passed.saturating_add(1);
-        let path = self.path(entry)?;
-        found.push(
-            first,
-            rule,
-            Message::Difference(Difference { path, change }),
-        )
+        let path = self.path(entry);
+        let difference = Difference { path, change };
+        self.found
+            .push(first, rule, Message::Difference(difference));
     }
 
     /// Reports the keys that only the root's table has: those that are neither inherited from another locale
     /// nor the same in all languages.
-    fn absences(
-        &mut self,
-        first: usize,
-        tree: &'a Entries,
-        root: &'a Entries,
-        found: &mut Collector<'_>,
-    ) -> Result<(), AllocError> {
+    fn absences(&mut self, first: usize, tree: &'a Entries, root: &'a Entries) {
         if self.parent != Parent::Root {
-            return Ok(());
+            return;
         }
         for i in 0..root.len() {
             let key = root.key_at(i);
             if tree.get(key).is_none() && is_translated(root.at(i)) && !is_icu_key(key) {
-                self.report(first, Some(key), Change::Absent, found)?;
+                self.report(first, Some(key), Change::Absent);
             }
         }
-        Ok(())
     }
 
     /// Passes on what is doubtful in a String, whose text is between two offsets.
-    fn doubts(
-        &mut self,
-        span: (usize, usize),
-        doubts: Vec<PlacedDoubt>,
-        found: &mut Collector<'_>,
-    ) -> Result<(), AllocError> {
+    fn doubts(&mut self, span: (usize, usize), doubts: Vec<PlacedDoubt>) {
         let mut walk = UnitWalk::new(self.source, span.0, span.1);
         for placed in doubts {
             let rule = placed.doubt.rule();
             let at = walk.place_of(placed.at);
             // An escape for U+FFFD is meant.
             if rule != Rule::ReplacementCharacter || self.source.get(at) != Some(&b'\\') {
-                found.push(at, rule, Message::Pattern(placed.doubt))?;
+                self.found.push(at, rule, Message::Pattern(placed.doubt));
             }
         }
-        Ok(())
     }
 
     /// Passes on how a String differs from the root's.
-    fn changes(
-        &mut self,
-        span: (usize, usize),
-        changes: Vec<PlacedChange>,
-        found: &mut Collector<'_>,
-    ) -> Result<(), AllocError> {
+    fn changes(&mut self, span: (usize, usize), changes: Vec<PlacedChange>) {
         let mut walk = UnitWalk::new(self.source, span.0, span.1);
         for placed in changes {
             let at = if placed.is_whole {
@@ -263,126 +237,94 @@ impl<'a> ValueSearch<'a> {
             } else {
                 walk.place_of(placed.at)
             };
-            self.report(at, None, placed.change, found)?;
+            self.report(at, None, placed.change);
         }
-        Ok(())
     }
 
     /// Reports the words of a String that the settings forbid.
-    fn words(
-        &self,
-        span: (usize, usize),
-        units: &[u16],
-        found: &mut Collector<'_>,
-    ) -> Result<(), AllocError> {
+    fn words(&mut self, span: (usize, usize), units: &[u16]) {
         for word in self.forbidden {
             if let Some(unit) = find_word(units, word) {
-                let at = UnitWalk::new(self.source, span.0, span.1).place_of(unit);
-                let word = PatternDoubt::Forbidden(shown_name(self.alloc, word)?);
-                found.push(at, Rule::ForbiddenWord, Message::Pattern(word))?;
+                self.forbidden_word(span, unit, word);
             }
         }
-        Ok(())
+    }
+
+    /// Reports a forbidden word, which begins at a unit of a String.
+    fn forbidden_word(&mut self, span: (usize, usize), unit: usize, word: &[u16]) {
+        let at = UnitWalk::new(self.source, span.0, span.1).place_of(unit);
+        let word = shown_name(&mut self.found.heap, word);
+        let doubt = PatternDoubt::Forbidden(word);
+        self.found
+            .push(at, Rule::ForbiddenWord, Message::Pattern(doubt));
     }
 
     /// Reports a String that is longer than the settings allow.
-    fn length(
-        &self,
-        first: usize,
-        units: &[u16],
-        found: &mut Collector<'_>,
-    ) -> Result<(), AllocError> {
+    fn length(&mut self, first: usize, units: &[u16]) {
         let (length, longest) = (character_count(units), self.longest);
-        if length <= longest {
-            return Ok(());
+        if length > longest {
+            let doubt = PatternDoubt::Long { length, longest };
+            self.found
+                .push(first, Rule::TooLong, Message::Pattern(doubt));
         }
-        let doubt = PatternDoubt::Long { length, longest };
-        found.push(first, Rule::TooLong, Message::Pattern(doubt))
     }
 
     /// Checks a String, and compares it with the root's.
-    fn string(
-        &mut self,
-        span: (usize, usize),
-        units: &[u16],
-        root: Option<&Tree>,
-        found: &mut Collector<'_>,
-    ) -> Result<(), AllocError> {
+    fn string(&mut self, span: (usize, usize), units: &[u16], root: Option<&Tree>) {
         let language = self.language.unwrap_or(Language::unknown());
-        let Some(Tree::String(root)) = root else {
-            let doubts = read_string(self.alloc, units, language)?;
-            return self.doubts(span, doubts, found);
-        };
-        let compared = compare_strings(self.alloc, units, root.as_slice(), language)?;
-        self.changes(span, compared.changes, found)?;
-        self.doubts(span, compared.doubts, found)
+        let heap = &mut self.found.heap;
+        match root {
+            Some(Tree::String(root)) => {
+                let compared = compare_strings(heap, units, root.as_slice(), language);
+                self.changes(span, compared.changes);
+                self.doubts(span, compared.doubts);
+            }
+            _ => {
+                let doubts = read_string(heap, units, language);
+                self.doubts(span, doubts);
+            }
+        }
     }
 
     /// Checks a String by itself, and compares it with the root's.
-    fn whole_string(
-        &mut self,
-        span: (usize, usize),
-        units: &[u16],
-        root: Option<&Tree>,
-        found: &mut Collector<'_>,
-    ) -> Result<(), AllocError> {
+    fn whole_string(&mut self, span: (usize, usize), units: &[u16], root: Option<&Tree>) {
         if is_bundle_key(top_key(&self.levels)) && !is_parent(units, &self.name) {
-            found.add(span.0, Doubt::BadParent)?;
+            self.found.add(span.0, Doubt::BadParent);
         }
-        self.length(span.0, units, found)?;
-        self.words(span, units, found)?;
-        self.string(span, units, root, found)
+        self.length(span.0, units);
+        self.words(span, units);
+        self.string(span, units, root);
     }
 
     /// Checks what the text of a String or an alias says, which is between two offsets.
-    fn text_value(
-        &mut self,
-        span: (usize, usize),
-        found: &mut Collector<'_>,
-    ) -> Result<(), AllocError> {
+    fn text_value(&mut self, span: (usize, usize)) {
         let Some(level) = self.levels.last() else {
-            return Ok(());
+            return;
         };
         match (level.tree, level.root) {
-            (Some(Tree::String(units)), root) => {
-                self.whole_string(span, units.as_slice(), root, found)
-            }
+            (Some(Tree::String(units)), root) => self.whole_string(span, units.as_slice(), root),
             (Some(Tree::Alias(units)), _)
                 if leads_nowhere(units.as_slice(), self.tree, self.root, &self.name) => {
-                found.add(span.0, Doubt::AliasToNothing)
+                self.found.add(span.0, Doubt::AliasToNothing);
             }
-            _ => Ok(()),
+            _ => {}
         }
     }
 
     /// Reports another kind than the root's; an alias may lead to any kind.
-    fn kinds(
-        &mut self,
-        first: usize,
-        here: Kind,
-        root: Kind,
-        found: &mut Collector<'_>,
-    ) -> Result<(), AllocError> {
-        if root == here || root == Kind::Alias || here == Kind::Alias {
-            return Ok(());
+    fn kinds(&mut self, first: usize, here: Kind, root: Kind) {
+        if root != here && root != Kind::Alias && here != Kind::Alias {
+            self.report(first, None, Change::OtherKind { here, root });
         }
-        self.report(first, None, Change::OtherKind { here, root }, found)
     }
 
     /// Reports another number of items than the root's.
-    fn lengths(
-        &mut self,
-        first: usize,
-        tree: &Tree,
-        root: &Tree,
-        found: &mut Collector<'_>,
-    ) -> Result<(), AllocError> {
+    fn lengths(&mut self, first: usize, tree: &Tree, root: &Tree) {
         match (item_count(tree), item_count(root)) {
             (Some(here), Some(other)) if here != other && tree.kind() == root.kind() => {
-                let change = Change::OtherLength { here, root: other };
-                self.report(first, None, change, found)
+                self.report(first, None, Change::OtherLength { here, root: other });
             }
-            _ => Ok(()),
+            _ => {}
         }
     }
 
@@ -394,225 +336,193 @@ impl<'a> ValueSearch<'a> {
     }
 
     /// Reports the missing keys of the innermost level, if that was deferred.
-    fn deferred(&mut self, first: usize, found: &mut Collector<'_>) -> Result<(), AllocError> {
+    fn deferred(&mut self, first: usize) {
         let Some(level) = self.levels.last_mut() else {
-            return Ok(());
+            return;
         };
         let is_deferred = level.is_deferred;
         level.is_deferred = false;
         match (level.tree, level.root) {
             (Some(Tree::Table(tree)), Some(Tree::Table(root))) if is_deferred => {
-                self.absences(first, tree, root, found)
+                self.absences(first, tree, root);
             }
-            _ => Ok(()),
+            _ => {}
         }
     }
 
     /// Takes the value of the innermost level, which is at a byte.
-    fn value(&mut self, first: usize, found: &mut Collector<'_>) -> Result<(), AllocError> {
+    fn value(&mut self, first: usize) {
         let Some(level) = self.levels.last() else {
-            return Ok(());
+            return;
         };
-        let (Some(tree), root) = (level.tree, level.root) else {
-            return Ok(());
-        };
-        let Some(root) = root else {
-            return Ok(());
-        };
-        self.kinds(first, tree.kind(), root.kind(), found)?;
+        if let (Some(tree), Some(root)) = (level.tree, level.root) {
+            self.compare(first, tree, root);
+        }
+    }
+
+    /// Compares a value, which is at a byte, with the root's.
+    fn compare(&mut self, first: usize, tree: &'a Tree, root: &'a Tree) {
+        self.kinds(first, tree.kind(), root.kind());
         match (tree, root) {
             (Tree::Table(tree), Tree::Table(root)) if !has_added(tree, root) => {
-                self.absences(first, tree, root, found)
+                self.absences(first, tree, root);
             }
-            (Tree::Table(_), _) => {
-                self.defer();
-                Ok(())
-            }
-            _ => self.lengths(first, tree, root, found),
+            (Tree::Table(_), _) => self.defer(),
+            _ => self.lengths(first, tree, root),
         }
     }
 
     /// Begins a level.
-    fn open(
-        &mut self,
-        segment: Segment,
-        tree: Option<&'a Tree>,
-        root: Option<&'a Tree>,
-    ) -> Result<(), AllocError> {
-        self.levels.push(Level {
+    fn open(&mut self, segment: Segment, tree: Option<&'a Tree>, root: Option<&'a Tree>) {
+        let level = Level {
             segment,
             tree,
             root,
             next: 0,
             is_deferred: false,
-        })?;
-        Ok(())
+        };
+        self.found.heap.push(&mut self.levels, level);
     }
 
     /// Begins an item of the innermost level, which is an array.
-    fn item(&mut self, first: usize, found: &mut Collector<'_>) -> Result<(), AllocError> {
+    fn item(&mut self, first: usize) {
         let Some(level) = self.levels.last_mut() else {
-            return Ok(());
+            return;
         };
         let i = level.next;
         level.next = i.saturating_add(1);
         let (tree, root) = (item_of(level.tree, i), item_of(level.root, i));
-        self.open(Segment::Index(i), tree, root)?;
-        self.value(first, found)
+        self.open(Segment::Index(i), tree, root);
+        self.value(first);
     }
 
     /// Takes an item of the innermost level that is a text.
-    fn item_text(&mut self, token: &Token, found: &mut Collector<'_>) -> Result<(), AllocError> {
-        self.item(token.first, found)?;
-        self.text_value((token.first, token.past), found)?;
+    fn item_text(&mut self, token: &Token) {
+        self.item(token.first);
+        self.text_value((token.first, token.past));
         let _ = self.levels.pop();
-        Ok(())
     }
 
     /// Begins an entry of the innermost level, which is a table.
-    fn entry(&mut self, token: &Token, found: &mut Collector<'_>) -> Result<(), AllocError> {
-        let key = key_of(self.alloc, token)?;
+    fn entry(&mut self, token: &Token) {
+        let key = key_of(&mut self.found.heap, token);
         let Some(level) = self.levels.last() else {
-            return Ok(());
+            return;
         };
         let (tree, root) = (entry_of(level.tree, &key), entry_of(level.root, &key));
-        if is_added(level, root, &key) {
-            self.deferred(token.first, found)?;
-            self.open(Segment::Key(key), tree, root)?;
-            self.report(token.first, None, Change::Additional, found)?;
-        } else {
-            self.open(Segment::Key(key), tree, root)?;
+        let is_added = is_added(level, root, &key);
+        if is_added {
+            self.deferred(token.first);
         }
-        self.entry_value(token.first, found)
+        self.open(Segment::Key(key), tree, root);
+        if is_added {
+            self.report(token.first, None, Change::Additional);
+        }
+        self.entry_value(token.first);
     }
 
     /// Takes the value of an entry that has begun at a byte.
-    fn entry_value(&mut self, first: usize, found: &mut Collector<'_>) -> Result<(), AllocError> {
+    fn entry_value(&mut self, first: usize) {
         if is_misspelled(top_key(&self.levels)) {
-            found.add(first, Doubt::MisspelledKey)?;
+            self.found.add(first, Doubt::MisspelledKey);
         }
-        self.value(first, found)
+        self.value(first);
     }
 
-    /// Takes the value of the bundle.
-    fn bundle(
-        &mut self,
-        name: Option<Token>,
-        brace: usize,
-        found: &mut Collector<'_>,
-    ) -> Result<(), AllocError> {
+    /// Takes the value of the bundle, which is at its name or else at its brace.
+    fn bundle(&mut self, name: Option<Token>, brace: usize) {
+        self.open(Segment::Bundle, Some(self.tree), self.root);
         let Some(token) = name else {
-            return self.value(brace, found);
+            return self.value(brace);
         };
         if self.language.is_none() {
-            self.name = key_of(self.alloc, &token)?;
+            self.name = key_of(&mut self.found.heap, &token);
             self.language = Some(Language::of(&self.name));
         }
-        self.value(token.first, found)
+        self.value(token.first);
     }
 
     /// Begins a body at a brace; the text before it, if there is one, is its key, or an item before it.
-    fn enter(&mut self, brace: usize, found: &mut Collector<'_>) -> Result<(), AllocError> {
+    fn enter(&mut self, brace: usize) {
         self.is_type = false;
         let text = self.text.take();
         match self.levels.last() {
             Some(level) => {
                 let is_list = is_array(level);
-                self.enter_level(text, is_list, brace, found)
+                self.enter_level(text, is_list, brace);
             }
-            None => {
-                self.open(Segment::Bundle, Some(self.tree), self.root)?;
-                self.bundle(text, brace, found)
-            }
+            None => self.bundle(text, brace),
         }
     }
 
     /// Begins a body in another one, given the text before its brace.
-    fn enter_level(
-        &mut self,
-        text: Option<Token>,
-        is_list: bool,
-        brace: usize,
-        found: &mut Collector<'_>,
-    ) -> Result<(), AllocError> {
+    fn enter_level(&mut self, text: Option<Token>, is_list: bool, brace: usize) {
         match text {
             Some(token) if is_list => {
-                self.item_text(&token, found)?;
-                self.item(brace, found)
+                self.item_text(&token);
+                self.item(brace);
             }
-            Some(token) => self.entry(&token, found),
-            None => self.item(brace, found),
+            Some(token) => self.entry(&token),
+            None => self.item(brace),
         }
     }
 
     /// Ends a text before a comma or a brace at an offset.
-    fn end_text(&mut self, at: usize, found: &mut Collector<'_>) -> Result<(), AllocError> {
+    fn end_text(&mut self, at: usize) {
         let is_list = match self.levels.last() {
             Some(level) => is_array(level),
             None => false,
         };
         match self.text.take() {
-            Some(token) if is_list => self.item_text(&token, found),
-            Some(token) => self.text_value((token.first, token.past), found),
-            None if is_list => Ok(()),
-            None => self.text_value((at, at), found),
+            Some(token) if is_list => self.item_text(&token),
+            Some(token) => self.text_value((token.first, token.past)),
+            None if is_list => {}
+            None => self.text_value((at, at)),
         }
     }
 
     /// Takes all tokens.
-    fn run(
-        &mut self,
-        tokens: &mut TextTokens<'_>,
-        found: &mut Collector<'_>,
-    ) -> Result<(), AllocError> {
+    fn run(&mut self, tokens: &mut TextTokens<'_>) {
         for _ in 0..u64::MAX {
-            let Some(token) = tokens.pop()? else {
+            let Some(token) = tokens.pop(&mut self.found.heap) else {
                 break;
             };
-            self.step(token, found)?;
+            self.step(token);
         }
-        Ok(())
     }
 
-    fn step(&mut self, token: Token, found: &mut Collector<'_>) -> Result<(), AllocError> {
+    fn step(&mut self, token: Token) {
         match &token.what {
-            Mark::Text(_) if self.is_type => Ok(()),
-            Mark::Text(_) => {
-                self.text = Some(token);
-                Ok(())
-            }
-            Mark::Colon => {
-                self.is_type = true;
-                Ok(())
-            }
-            Mark::LeftBrace => self.enter(token.first, found),
-            Mark::Comma => self.end_text(token.first, found),
+            Mark::Text(_) if self.is_type => {}
+            Mark::Text(_) => self.text = Some(token),
+            Mark::Colon => self.is_type = true,
+            Mark::LeftBrace => self.enter(token.first),
+            Mark::Comma => self.end_text(token.first),
             Mark::RightBrace => {
-                self.end_text(token.first, found)?;
+                self.end_text(token.first);
                 let _ = self.levels.pop();
-                Ok(())
             }
         }
     }
 }
 
 /// Makes a search in a text at its beginning.
-fn search_of<'a>(
-    alloc: Global,
+fn search_of<'a, 'c>(
     text: &'a [u8],
     tree: &'a Tree,
     settings: &Settings<'a>,
-) -> Result<ValueSearch<'a>, AllocError> {
+    mut found: Collector<'c>,
+) -> ValueSearch<'a, 'c> {
+    let alloc = found.heap.alloc;
     let name = settings.name.unwrap_or(b"");
-    Ok(ValueSearch {
-        alloc,
+    ValueSearch {
         tree,
         root: settings.root,
         forbidden: settings.forbidden,
         longest: settings.longest,
         parent: Parent::of(name, tree),
         source: text,
-        name: name.to_vec(alloc)?,
+        name: found.heap.list(name.to_vec(alloc)),
         language: match settings.name {
             Some(name) => Some(Language::of(name)),
             None => None,
@@ -621,7 +531,8 @@ fn search_of<'a>(
         text: None,
         is_type: false,
         passed: 0,
-    })
+        found,
+    }
 }
 
 /// Checks the messages of a bundle text, and compares the text with that of the root locale, if it is
@@ -632,20 +543,15 @@ fn search_of<'a>(
 /// A missing key is reported at its table, or at the first key there that the root lacks, if its parent
 /// is the root and the root's item has text: a String, an array or a table. Keys that begin with `%%` and
 /// aliases are skipped, and of arrays only the items that both have are compared. Of a long path and a
-/// long name a warning has the first and the last bytes. `Err` means out of memory.
-pub(crate) fn search_values(
-    alloc: Global,
-    text: &[u8],
-    tree: &Tree,
-    settings: &Settings<'_>,
-    found: &mut Collector<'_>,
-) -> Result<(), AllocError> {
-    let mut search = search_of(alloc, text, tree, settings)?;
-    match TextTokens::of(alloc, text) {
-        Ok(tokens) => {
-            let mut tokens = tokens;
-            search.run(&mut tokens, found)
-        }
-        Err(error) => Err(error),
-    }
+/// long name a warning has the first and the last bytes.
+pub(crate) fn search_values<'a, 'c>(
+    text: &'a [u8],
+    tree: &'a Tree,
+    settings: &Settings<'a>,
+    found: Collector<'c>,
+) -> Collector<'c> {
+    let mut search = search_of(text, tree, settings, found);
+    let mut tokens = TextTokens::of(&mut search.found.heap, text);
+    search.run(&mut tokens);
+    search.found
 }

@@ -71,74 +71,91 @@ impl Doubt {
         }
     }
 
+    /// Describes a doubt without what it names.
     fn fixed_text(self) -> &'static str {
         match self {
-            Doubt::RunsOn => {
-                "a quoted text goes on over the end of this line; is its closing quote missing?"
-            }
-            Doubt::Mixed => {
-                "a quoted and an unquoted text side by side are joined with a space; is a quote missing?"
-            }
-            Doubt::LooseItem => {
-                "this text of several words isn't in quotes, and others of its array are; are quotes missing?"
-            }
+            Doubt::RunsOn =>
+                "a quoted text goes on over the end of this line; is its closing quote missing?",
+            Doubt::Mixed =>
+                "a quoted and an unquoted text side by side are joined with a space; is a quote missing?",
+            Doubt::LooseItem =>
+                "this text of several words isn't in quotes, and others of its array are; are quotes missing?",
             Doubt::Joined => "two texts side by side are joined into one; is a comma missing?",
-            Doubt::NotClosed(_) => "a brace isn't closed; is a closing brace missing?",
-            Doubt::NotOpened => {
-                "this brace closes none that is opened as far left; is an opening brace missing?"
-            }
-            Doubt::FurtherRight => {
-                "this line is further right than the entry before it; is an opening brace missing?"
-            }
             Doubt::Escape(_) => "a backslash has no effect before this letter",
-            Doubt::TwoBackslashes => {
-                "two backslashes are one backslash, and what follows is no escape"
-            }
-            Doubt::OtherName => "the bundle's name isn't the file's",
-            Doubt::Direction => {
-                "a control of the writing direction isn't closed in this text, which is shown in another order; is it meant?"
-            }
-            Doubt::Conflict =>
-                "this line looks like a conflict marker of Git; is a merge unfinished?",
-            Doubt::KeyWith(_) => "this key has a character that is seldom meant in a key",
-            Doubt::KeyWithSpace => {
-                "this key has a space; is a brace missing before it? A key with a space is written in quotes"
-            }
-            Doubt::EntryInArray => {
-                "this is an array, in which a text and the braces after it are two items; is a table meant?"
-            }
-            Doubt::OtherQuotes => { "the quotes around this value are part of it; is \" meant?" }
-            Doubt::UnknownAllowed => {
-                "this comment allows a warning that doesn't exist; resb lint --list has the names"
-            }
-            Doubt::UnquotedAddress => { "// begins a comment; an address is written in quotes" }
-            Doubt::AliasToNothing => "this alias leads to nothing in this bundle and in the root",
-            Doubt::BadParent => {
-                "this isn't the name of another locale, so that each lookup in this bundle fails"
-            }
-            Doubt::MisspelledKey => {
-                "this key is nearly one of ICU's, which are %%ALIAS and %%Parent"
-            }
+            Doubt::TwoBackslashes =>
+                "two backslashes are one backslash, and what follows is no escape",
+            Doubt::Direction =>
+                "a control of the writing direction isn't closed in this text, which is shown in another order; is it meant?",
+            Doubt::OtherQuotes => "the quotes around this value are part of it; is \" meant?",
+            other => other.layout_text(),
         }
     }
+
+    /// Describes a doubt about braces, lines and comments.
+    fn layout_text(self) -> &'static str {
+        match self {
+            Doubt::NotClosed(_) => "a brace isn't closed; is a closing brace missing?",
+            Doubt::NotOpened =>
+                "this brace closes none that is opened as far left; is an opening brace missing?",
+            Doubt::FurtherRight =>
+                "this line is further right than the entry before it; is an opening brace missing?",
+            Doubt::Conflict =>
+                "this line looks like a conflict marker of Git; is a merge unfinished?",
+            Doubt::UnknownAllowed =>
+                "this comment allows a warning that doesn't exist; resb lint --list has the names",
+            Doubt::UnquotedAddress => "// begins a comment; an address is written in quotes",
+            other => other.entry_text(),
+        }
+    }
+
+    /// Describes a doubt about names, keys, aliases and parents.
+    fn entry_text(self) -> &'static str {
+        match self {
+            Doubt::OtherName => "the bundle's name isn't the file's",
+            Doubt::KeyWithSpace =>
+                "this key has a space; is a brace missing before it? A key with a space is written in quotes",
+            Doubt::EntryInArray =>
+                "this is an array, in which a text and the braces after it are two items; is a table meant?",
+            Doubt::AliasToNothing => "this alias leads to nothing in this bundle and in the root",
+            Doubt::BadParent =>
+                "this isn't the name of another locale, so that each lookup in this bundle fails",
+            Doubt::MisspelledKey =>
+                "this key is nearly one of ICU's, which are %%ALIAS and %%Parent",
+            _ => "this key has a character that is seldom meant in a key",
+        }
+    }
+}
+
+fn write_not_closed<W: fmt::Write>(f: &mut fmt::Formatter<W>, line: u32) -> fmt::Result {
+    write!(
+        f,
+        "the brace that opens in line {line} isn't closed before this line; is a closing brace missing?"
+    )
+}
+
+fn write_escape<W: fmt::Write>(f: &mut fmt::Formatter<W>, letter: char) -> fmt::Result {
+    write!(
+        f,
+        "\\{letter} is the letter {letter} alone; is another escape meant, or \\\\{letter}?"
+    )
+}
+
+fn write_sign<W: fmt::Write>(f: &mut fmt::Formatter<W>, sign: char) -> fmt::Result {
+    if sign == '\0' {
+        return f.write_str("this key has a NUL; is the file damaged?");
+    }
+    write!(
+        f,
+        "this key has a {sign}; is it meant? A key with a {sign} is written in quotes"
+    )
 }
 
 impl fmt::Display for Doubt {
     fn fmt<W: fmt::Write>(&self, f: &mut fmt::Formatter<W>) -> fmt::Result {
         match self {
-            Doubt::NotClosed(line) => write!(
-                f,
-                "the brace that opens in line {line} isn't closed before this line; is a closing brace missing?"
-            ),
-            Doubt::Escape(letter) => write!(
-                f,
-                "\\{letter} is the letter {letter} alone; is another escape meant, or \\\\{letter}?"
-            ),
-            Doubt::KeyWith('\0') => f.write_str("this key has a NUL; is the file damaged?"),
-            Doubt::KeyWith(sign) => write!(
-                f,
-                "this key has a {sign}; is it meant? A key with a {sign} is written in quotes"
-            ),
+            Doubt::NotClosed(line) => write_not_closed(f, *line),
+            Doubt::Escape(letter) => write_escape(f, *letter),
+            Doubt::KeyWith(sign) => write_sign(f, *sign),
             other => f.write_str(other.fixed_text()),
         }
     }
