@@ -142,3 +142,81 @@ def test_limits(resb):
     assert status == 0 and found == [("m/de.txt", *one) for one in german] + [("m/fr.txt", *one) for one in french]
     limits = [int(line.split(b"at most ")[1].split()[0]) for line in stdout.splitlines() if b"too-long" in line]
     assert limits == [4, 8, 3, 4, 6, 6, 3]
+
+
+# A path in ICUDATA by an alias of each kind, from a locale of a module.
+ALIASES = {"de": ["/ICUDATA/de/menu/open", "/ICUDATA/de_AT/menu/open", "/ICUDATA/de/none", "/ICUDATA/fr/menu/close", "/ICUDATA/fr/menu/none", "/ICUDATA/root/short",
+                  "/ICUDATA/root/list/1", "/ICUDATA/root/list/2", "/ICUDATA/iw/menu/open", "/ICUDATA/iw/menu/none", "/ICUDATA/root/there", "/ICUDATA/root/gone",
+                  "/ICUDATA/alone/menu/close", "/ICUDATA/alone/menu/open", "/ICUDATA/en_GB/x", "/ICUDATA/zh_Hant/x"],
+           "nl": ["/ICUDATA/root/short", "/ICUDATA/root/only"], "it": ["/ICUDATA/root/only"]}
+DATA = {
+    "root": 'root{menu{open{"O"} close{"C"}} months{"M"} short:alias{"/LOCALE/months"} list{"0","1"} there:alias{"de/menu/open"} gone:alias{"de/no"}'
+            ' only:alias{"/LOCALE/it"}}',
+    "de": 'de{menu{open{"Ö"}} months{"Monate"}}', "iw": 'iw{%%ALIAS{"he"}}', "he": 'he{menu{open{"H"}}}', "it": 'it{it{"I"}}', "en": 'en{x{"X"}}',
+    "en_GB": 'en_GB{%%Parent{"root"}}', "zh": 'zh{x{"X"}}', "alone": 'alone:table(nofallback){menu{open{"A"}}}',
+}
+
+
+def test_aliases_beside_the_server(resb):
+    """A lookup of an alias is Missing exactly if `lint` calls it one to nothing."""
+    resb.put("parents.txt", 'p{parentLocales{root{"zh_Hant"}}}')
+    resb.put("resb.toml", '[data]\nicudata = "icu"\nparents = "parents.txt"\n[[module]]\nfolder = "m"\n')
+    words = [f"{name}={resb.put(f'icu/{name}.txt', text)}" for name, text in DATA.items()]
+    requests = []
+    for locale, aliases in ALIASES.items():
+        text = locale + "{\n" + "".join(f'k{at}:alias{{"{alias}"}}\n' for at, alias in enumerate(aliases)) + "}"
+        resb.put(f"m/{locale}.txt", text)
+        requests += [{"op": "install", "app": "a", "locale": locale, "text": text}]
+    requests += [{"op": "look", "app": "a", "locale": locale, "path": f"k{at}"} for locale, aliases in ALIASES.items() for at in range(len(aliases))]
+    lines = "".join(json.dumps(request) + "\n" for request in requests)
+    done = resb("serve", "--parents", "parents.txt", *words, stdin=lines.encode())
+    replies = [json.loads(line) for line in done.stdout.splitlines()][len(ALIASES):]
+    wanted = [reply.get("error") == "Missing" for reply in replies]
+    assert True in wanted and False in wanted and not [reply for reply in replies if reply.get("error") not in (None, "Missing")]
+    found = {tuple(line.split(b":")[:2]) for line in resb("lint", *(f"m/{locale}.txt" for locale in ALIASES)).stdout.splitlines()
+             if line.endswith(b"[alias-to-nothing]")}
+    assert [(b"m/%s.txt" % locale.encode(), b"%d" % (at + 2)) in found for locale, aliases in ALIASES.items() for at in range(len(aliases))] == wanted
+
+
+# The texts of a module, and the keys whose strings in `de` are the root's where others translate them.
+SAME = {
+    "a": ('"Save the file"', '"Save the file"', '"Enregistrer"', '"Salva"', True),
+    "b": ('"Save the file"', '"Save the file"', '"Save the file"', '"Salva"', False),
+    "c": ('"Name"', '"Name"', '"Nom"', '"Nome"', False),
+    "d": ('"Save {0, number} of {name}"', '"Save {0, number} of {name}"', '"{name} : {0, number}"', '"{0, number} di {name}"', True),
+    "e": ('"<b>OK</b> {long name}"', '"<b>OK</b> {long name}"', '"{long name}"', '"<b>OK</b>"', False),
+    "f": ('"x", "Log out"', '"x", "Log out"', '"x", "Quitter"', '"x", "Esci"', True),
+    "g": ('"2 + 3"', '"2 + 3"', '"3 + 2"', '"5"', False),
+    "h": ('"Log out"', '"Abmelden"', '"Quitter"', '"Esci"', False),
+    "i": ('"New York"', '"New York"', '"New York"', '"New York"', False),
+}
+
+
+def same_texts(resb, *names, settings="", words=("lint", "m")):
+    """Returns the lines of a module's texts that are called the root's, by files."""
+    resb.put("resb.toml", f'[[module]]\nfolder = "m"\n{settings}')
+    for place, name in enumerate(("root", *names)):
+        texts = (column[0 if name.startswith("en") else place] for column in SAME.values())
+        resb.put(f"m/{name}.txt", name + "{\n" + "".join(f"{key} {{ {text} }}\n" for key, text in zip(SAME, texts)) + "}")
+    found = [line.decode().split(":")[:2] for line in resb(*words).stdout.splitlines() if line.endswith(b"[same-text]")]
+    return {name: sorted({list(SAME)[int(line) - 2] for file, line in found if file == f"m/{name}.txt"}) for name in ("root", *names)}
+
+
+def test_texts_that_others_translate(resb):
+    wanted = [key for key, row in SAME.items() if row[4]]
+    assert same_texts(resb, "de", "fr", "it") == {"root": [], "de": wanted, "fr": [], "it": []}
+    assert same_texts(resb, "de", "fr", "it", "en_GB")["en_GB"] == []
+    assert same_texts(resb, "de", "fr", "it", settings='source-language = "de"\n')["de"] == []
+    assert same_texts(resb, "de", "fr", "it", words=("lint", "--allow", "same-text", "m"))["de"] == []
+    assert same_texts(resb, "de", "fr", "it", words=("lint", "m/de.txt", "m/fr.txt"))["de"] == []
+    denied = same_texts(resb, "de", "fr", "it", words=("lint", "--deny", "same-text", "m"))
+    assert denied["de"] == [key for key, row in SAME.items() if row[0] == row[1]] and denied["fr"] == ["b", "f", "i"]
+
+
+def test_a_root_in_no_language(resb):
+    """A root beside which its language has other texts isn't that language's, unless the settings say so."""
+    same_texts(resb, "de", "fr", "it")
+    resb.put("m/en.txt", 'en{a{"Save file"}}')
+    assert b"same-text" not in resb("lint", "m").stdout
+    resb.put("resb.toml", '[[module]]\nfolder = "m"\nsource-language = "en"\n')
+    assert b"same-text" in resb("lint", "m").stdout

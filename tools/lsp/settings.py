@@ -18,6 +18,7 @@ PLACE = re.compile(r"\(at line (\d+), column (\d+)\)|\(at end of document\)")
 LINE = re.compile(r"^[ \t]*(?:\[+[ \t]*([^\]\n]*?)[ \t]*\]|\"?([^=\"\n]*?)\"?[ \t]*=)", re.M)
 TEXT, TEXTS, NAMES, FLAG = "a string", "an array of strings", "the names of warnings", "true or false"
 KEYS = {
+    "data": {"icudata": TEXT, "parents": TEXT, "cldr-parents": FLAG},
     "lint": {"allow": NAMES, "deny": NAMES, "strict": FLAG, "baseline": TEXT},
     "fmt": {"indent": (1, 16), "width": (20, 1000)},
     "coverage": {"parents": TEXT, "cldr-parents": FLAG, "complete": (0, 100)},

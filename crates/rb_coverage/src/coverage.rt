@@ -1,10 +1,10 @@
 use crate::chain::{Chain, chains_of, index_of};
 use crate::compare::Items;
+use crate::data::ProjectData;
 use crate::fault::CoverageFault;
 use crate::finding::Found;
-use crate::walk::{Member, Walk};
+use crate::walk::{Links, Member, Walk};
 use rb_locales::Name;
-use rb_parents::Parents;
 use rb_tree::Tree;
 use std::alloc::{AllocError, Global};
 
@@ -30,30 +30,35 @@ fn trees_of<'a>(
         trees.push(Member {
             bundle,
             tree: &entry.1,
+            is_linked: false,
         })?;
     }
     Ok(trees)
 }
 
 /// Begins to walk through the keys of a module's bundles.
-fn walk_of<'a>(alloc: Global, module: &'a [(Name, Tree, bool)]) -> Result<Walk<'a>, AllocError> {
+fn walk_of<'a>(
+    alloc: Global,
+    module: &'a [(Name, Tree, bool)],
+    data: &'a ProjectData,
+) -> Result<Walk<'a>, AllocError> {
     let trees = trees_of(alloc, module)?;
-    Walk::new(alloc, &trees)
+    Walk::new(alloc, Links { module, data }, &trees)
 }
 
 impl<'a> Coverage<'a> {
     /// Begins to compare bundles, each with its locale and its flag *no fallback*. Of bundles with
-    /// one locale the first counts.
+    /// one locale the first counts. An alias of a locale to ICUDATA counts as what it leads to.
     pub fn new(
         alloc: Global,
         module: &'a [(Name, Tree, bool)],
-        parents: &Parents,
+        data: &'a ProjectData,
     ) -> Result<Coverage<'a>, CoverageFault> {
         let Some(root) = index_of(module, &Name::root()) else {
             return Err(CoverageFault::NoRoot);
         };
-        let chains = chains_of(alloc, module, parents)?;
-        let Ok(walk) = walk_of(alloc, module) else {
+        let chains = chains_of(alloc, module, data.parents())?;
+        let Ok(walk) = walk_of(alloc, module, data) else {
             return Err(CoverageFault::Memory);
         };
         Ok(Coverage {

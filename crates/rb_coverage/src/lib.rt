@@ -7,13 +7,17 @@ mod chain;
 mod compare;
 mod counts;
 mod coverage;
+mod data;
 mod fault;
 mod finding;
 mod path;
 mod same;
+mod translations;
 mod walk;
 
 pub use counts::Counts;
 pub use coverage::Coverage;
+pub use data::ProjectData;
 pub use fault::CoverageFault;
 pub use finding::{Finding, Found};
+pub use translations::{Translations, translated_paths};

@@ -122,6 +122,13 @@ fn split_alias(units: &[u16]) -> Option<(&[u16], &[u16])> {
     Some((rest.get(..count)?, rest.get(count.saturating_add(1)..)?))
 }
 
+/// Checks whether texts in ascending order have one of these units.
+pub(crate) fn has_units(texts: &[Vec<u16>], units: &[u16]) -> bool {
+    texts
+        .binary_search_by(|text| text.as_slice().cmp(units))
+        .is_ok()
+}
+
 /// Checks whether an alias of a bundle with a name leads to nothing in the bundle and in the root, as far
 /// as both are known. One of the root by `/LOCALE` may lead to what only other locales have.
 pub(crate) fn leads_nowhere(

@@ -35,6 +35,10 @@ pub struct Settings<'a> {
     pub forbidden: &'a [Vec<u16>],
     /// The maximum number of characters of a string.
     pub longest: usize,
+    /// The explicit parent of the bundle's locale.
+    pub parent: Option<&'a [u8]>,
+    /// The texts of aliases that lead to nothing in ICUDATA, ascending.
+    pub dead: &'a [Vec<u16>],
 }
 
 /// The findings of a text, in its order.

@@ -155,7 +155,7 @@ other-placeholders: conversions such as %d other than the root's
 other-punctuation: an end without the root's punctuation, or its peer; only with --deny
 other-tags: tags such as <b> other than the root's
 other-type: another type than the root's
-same-text: the text of the root; only with --deny
+same-text: the text of the root, where other locales translate it; each with --deny
 unused-key: a key that the root doesn't have";
 
 impl Rule {
@@ -240,12 +240,14 @@ pub struct Levels {
     pub allowed: RuleSet,
     /// The rules whose warnings are errors.
     pub denied: RuleSet,
+    /// The rules that are on although they are off by default.
+    pub wanted: RuleSet,
 }
 
 impl Levels {
     /// Checks whether warnings of a rule are left out.
     pub(crate) fn leaves_out(self, rule: Rule) -> bool {
-        self.allowed.has(rule) || rule.is_optional() && !self.denied.has(rule)
+        self.allowed.has(rule) || rule.is_optional() && !self.denied.and(self.wanted).has(rule)
     }
 
     /// Checks whether a finding of a rule is an error.
@@ -258,6 +260,7 @@ impl Levels {
         Levels {
             allowed: RuleSet::none(),
             denied: RuleSet::none(),
+            wanted: RuleSet::none(),
         }
     }
 }

@@ -5,7 +5,7 @@ use crate::difference::{Change, Difference};
 use crate::finding::Message;
 use crate::heap::Heap;
 use crate::language::Language;
-use crate::links::{is_bundle_key, is_misspelled, is_parent, leads_nowhere};
+use crate::links::{has_units, is_bundle_key, is_misspelled, is_parent, leads_nowhere};
 use crate::messages::read_string;
 use crate::parent::Parent;
 use crate::path::{SHOWN_PATH, shortened, shown_name};
@@ -155,6 +155,8 @@ struct ValueSearch<'a, 'c> {
     /// The words that no string may have, and the maximum number of characters of one.
     forbidden: &'a [Vec<u16>],
     longest: usize,
+    /// The aliases that lead to nothing in ICUDATA.
+    dead: &'a [Vec<u16>],
     parent: Parent,
     /// The language of the name that the bundle should have, or else of the one that it has.
     language: Option<Language>,
@@ -296,6 +298,15 @@ impl<'a, 'c> ValueSearch<'a, 'c> {
         self.string(span, units, root);
     }
 
+    /// Reports an alias that leads to nothing.
+    fn alias(&mut self, first: usize, units: &[u16]) {
+        if leads_nowhere(units, self.tree, self.root, &self.name) {
+            self.found.add(first, Doubt::AliasToNothing);
+        } else if has_units(self.dead, units) {
+            self.found.add(first, Doubt::NothingInData);
+        }
+    }
+
     /// Checks what the text of a String or an alias says, which is between two offsets.
     fn text_value(&mut self, span: (usize, usize)) {
         let Some(level) = self.levels.last() else {
@@ -303,10 +314,7 @@ impl<'a, 'c> ValueSearch<'a, 'c> {
         };
         match (level.tree, level.root) {
             (Some(Tree::String(units)), root) => self.whole_string(span, units.as_slice(), root),
-            (Some(Tree::Alias(units)), _)
-                if leads_nowhere(units.as_slice(), self.tree, self.root, &self.name) => {
-                self.found.add(span.0, Doubt::AliasToNothing);
-            }
+            (Some(Tree::Alias(units)), _) => self.alias(span.0, units.as_slice()),
             _ => {}
         }
     }
@@ -520,7 +528,8 @@ fn search_of<'a, 'c>(
         root: settings.root,
         forbidden: settings.forbidden,
         longest: settings.longest,
-        parent: Parent::of(name, tree),
+        dead: settings.dead,
+        parent: Parent::of(name, tree, settings.parent),
         source: text,
         name: found.heap.list(name.to_vec(alloc)),
         language: match settings.name {

@@ -41,6 +41,8 @@ pub enum Doubt {
     UnquotedAddress,
     /// An alias leads to nothing in the bundle and in the root.
     AliasToNothing,
+    /// An alias leads to nothing in ICUDATA.
+    NothingInData,
     /// A %%Parent or %%ALIAS is no locale, or the bundle itself.
     BadParent,
     /// A key is %%Parent or %%ALIAS in other letters.
@@ -65,7 +67,7 @@ impl Doubt {
             Doubt::OtherQuotes => Rule::OtherQuotes,
             Doubt::UnknownAllowed => Rule::UnknownAllowed,
             Doubt::UnquotedAddress => Rule::UnquotedAddress,
-            Doubt::AliasToNothing => Rule::AliasToNothing,
+            Doubt::AliasToNothing | Doubt::NothingInData => Rule::AliasToNothing,
             Doubt::BadParent => Rule::BadParent,
             Doubt::MisspelledKey => Rule::MisspelledKey,
         }
@@ -117,6 +119,7 @@ impl Doubt {
             Doubt::EntryInArray =>
                 "this is an array, in which a text and the braces after it are two items; is a table meant?",
             Doubt::AliasToNothing => "this alias leads to nothing in this bundle and in the root",
+            Doubt::NothingInData => "this alias leads to nothing in ICUDATA",
             Doubt::BadParent =>
                 "this isn't the name of another locale, so that each lookup in this bundle fails",
             Doubt::MisspelledKey =>

@@ -13,6 +13,10 @@ use std::rt::Files;
 const HEAD: &str = "\
 # Settings of resb for the texts in this folder and below.
 
+[data]
+# icudata = \"icudata\"         # the texts of ICUDATA, to which aliases may lead
+# parents = \"parents.txt\"     # explicit parents, or: cldr-parents = true
+
 [lint]
 # allow = [\"bundle-name\"]      # warnings to leave out
 # deny = [\"other-arguments\"]   # warnings that are errors

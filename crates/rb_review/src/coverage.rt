@@ -1,12 +1,12 @@
 //! `resb coverage`.
 use crate::coverage_output::{CoverageFormat, Printed, name_at, put_head};
+use crate::data::read_data;
 use rb_console::{
     CommandError, Console, Form, Given, ParentsSource, StartError, all_given, finish, folder_of,
-    not_started_on, parents_of, printed, read_given, refused_on,
+    not_started_on, printed, read_given, refused_on,
 };
-use rb_coverage::{Counts, Coverage, CoverageFault, Found};
+use rb_coverage::{Counts, Coverage, CoverageFault, Found, ProjectData};
 use rb_locales::Name;
-use rb_parents::Parents;
 use rb_parser::{Source, parse};
 use rb_project::{Configured, Modules, Project, Text, names_of, open_project, texts_of};
 use rb_settings::Section;
@@ -29,11 +29,11 @@ pub struct CoverageWords<'a> {
 
 /// The bundles of one folder.
 #[derive(Clone, Copy)]
-struct Module<'a> {
-    folder: &'a str,
+pub(crate) struct Module<'a> {
+    pub(crate) folder: &'a str,
     /// The indexes of its first bundle, and after its last one.
-    first: usize,
-    past: usize,
+    pub(crate) first: usize,
+    pub(crate) past: usize,
 }
 
 /// The settings of a command, and all its bundles.
@@ -41,7 +41,7 @@ struct Module<'a> {
 struct Common<'a> {
     console: Console,
     format: CoverageFormat,
-    parents: &'a Parents,
+    data: &'a ProjectData,
     bundles: &'a [Given<'a>],
     has_modules: bool,
     /// The percentage of the root's keys that each locale has at least.
@@ -68,7 +68,7 @@ fn modules_of<'a>(alloc: Global, bundles: &[Given<'a>]) -> Result<Vec<Module<'a>
 
 /// Returns the second file of a locale, if a locale has two in a module. The bundles are in the
 /// order of names.
-fn second_file<'a>(bundles: &[Given<'a>], module: Module<'_>) -> Option<&'a str> {
+pub(crate) fn second_file<'a>(bundles: &[Given<'a>], module: Module<'_>) -> Option<&'a str> {
     let mut before: Option<Name> = None;
     for i in module.first..module.past {
         let bundle = bundles.get(i)?;
@@ -96,7 +96,7 @@ fn read_source<'a, R: Files + AllocGlobal>(
 }
 
 /// Reads the texts of a module, up to the first that is refused.
-fn read_module<'a, R: Files + AllocGlobal>(
+pub(crate) fn read_module<'a, R: Files + AllocGlobal>(
     rt: &R,
     bundles: &[Given<'a>],
     module: Module<'_>,
@@ -237,7 +237,7 @@ fn cover_read<R: AllocGlobal + Print + Eprint>(
     trees: &[(Name, Tree, bool)],
 ) -> Result<bool, ExitCode> {
     let console = common.console;
-    let mut coverage = match Coverage::new(rt.alloc(), trees, common.parents) {
+    let mut coverage = match Coverage::new(rt.alloc(), trees, common.data) {
         Ok(coverage) => coverage,
         Err(fault) => return Err(fault_status(rt, console, common.bundles, module, fault)),
     };
@@ -292,7 +292,7 @@ fn cover_modules<R: Files + AllocGlobal + Print + Eprint>(
     rt: &R,
     console: Console,
     (format, least): (CoverageFormat, u64),
-    parents: &Parents,
+    data: &ProjectData,
     bundles: &[Given<'_>],
 ) -> ExitCode {
     let Ok(modules) = modules_of(rt.alloc(), bundles) else {
@@ -304,7 +304,7 @@ fn cover_modules<R: Files + AllocGlobal + Print + Eprint>(
     let common = Common {
         console,
         format,
-        parents,
+        data,
         bundles,
         has_modules: modules.len() > 1,
         least,
@@ -313,7 +313,10 @@ fn cover_modules<R: Files + AllocGlobal + Print + Eprint>(
 }
 
 /// Returns the bundles of a command line in the order of folders and names.
-fn ordered_bundles<'a>(alloc: Global, files: &[&'a str]) -> Result<Vec<Given<'a>>, StartError<'a>> {
+pub(crate) fn ordered_bundles<'a>(
+    alloc: Global,
+    files: &[&'a str],
+) -> Result<Vec<Given<'a>>, StartError<'a>> {
     let mut bundles = all_given(alloc, Form::ByStem, files)?;
     match bundles.sort_by_key(|bundle| (folder_of(bundle.file), bundle.name)) {
         Ok(()) => Ok(bundles),
@@ -321,33 +324,17 @@ fn ordered_bundles<'a>(alloc: Global, files: &[&'a str]) -> Result<Vec<Given<'a>
     }
 }
 
-/// Returns the place of the parents that settings name, given the name by which their file is
-/// opened, or an empty one.
-fn settings_source<'a>(section: Section<'_>, file: &'a str) -> Option<ParentsSource<'a>> {
-    if section.flag("cldr-parents") {
-        return Some(ParentsSource::Cldr);
-    }
-    if file.is_empty() {
-        return None;
-    }
-    Some(ParentsSource::File(file))
-}
-
-/// Compares bundles with the parents of the settings, or reports why these can't be read.
-fn cover_settled<R: Files + AllocGlobal + Print + Eprint>(
-    rt: &R,
-    console: Console,
-    (format, least): (CoverageFormat, u64),
-    source: Option<ParentsSource<'_>>,
-    bundles: &[Given<'_>],
-) -> ExitCode {
-    match parents_of(rt, source) {
-        Ok(parents) => cover_modules(rt, console, (format, least), &parents, bundles),
-        Err(error) => not_started_on(rt, console, error),
+/// Returns the table of the settings that names explicit parents: `coverage`, or else `data`.
+fn parents_section(project: &Project) -> Section<'_> {
+    let section = project.settings.section("coverage");
+    if section.flag("cldr-parents") || section.text("parents").is_some() {
+        section
+    } else {
+        project.settings.section("data")
     }
 }
 
-/// Compares bundles with the parents of the command line, or else those of the settings.
+/// Compares bundles with the data of the settings, or reports why these can't be read.
 fn cover_bundles<R: Files + AllocGlobal + Print + Eprint>(
     rt: &R,
     console: Console,
@@ -355,18 +342,22 @@ fn cover_bundles<R: Files + AllocGlobal + Print + Eprint>(
     words: &CoverageWords<'_>,
     project: &Project,
     bundles: &[Given<'_>],
-) -> Result<ExitCode, AllocError> {
-    let section = project.settings.section("coverage");
-    let least = section.number("complete").unwrap_or(0);
-    if words.parents.is_some() {
-        return Ok(cover_settled(rt, console, (format, least), words.parents, bundles));
+) -> ExitCode {
+    let least = project
+        .settings
+        .section("coverage")
+        .number("complete")
+        .unwrap_or(0);
+    match read_data(
+        rt,
+        console,
+        project,
+        words.parents,
+        parents_section(project),
+    ) {
+        Ok(data) => cover_modules(rt, console, (format, least), &data, bundles),
+        Err(status) => status,
     }
-    let file = match section.text("parents") {
-        Some(file) => project.opened(rt.alloc(), file)?,
-        None => String::new(rt.alloc()),
-    };
-    let source = settings_source(section, file.as_str());
-    Ok(cover_settled(rt, console, (format, least), source, bundles))
 }
 
 /// Compares the bundles of a command in a project.
@@ -380,7 +371,7 @@ fn cover_project<R: Files + AllocGlobal + Print + Eprint>(
 ) -> Result<ExitCode, AllocError> {
     let names = names_of(rt.alloc(), texts)?;
     match ordered_bundles(rt.alloc(), &names) {
-        Ok(bundles) => cover_bundles(rt, console, format, words, project, &bundles),
+        Ok(bundles) => Ok(cover_bundles(rt, console, format, words, project, &bundles)),
         Err(error) => Ok(not_started_on(rt, console, error)),
     }
 }

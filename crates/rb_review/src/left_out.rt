@@ -4,6 +4,11 @@ use rb_project::{Modules, Project};
 use rb_settings::{Section, matches};
 use std::alloc::{AllocError, Global};
 
+/// The names of the rules about messages. As one text they take the prover less time.
+const MESSAGE_RULES: &str = "bad-message bad-pattern broken-message missing-category missing-other \
+one-branch-argument other-arguments quoted-argument repeated-selector stray-brace unknown-selector \
+unused-category";
+
 /// Rules that are left out at some paths.
 #[derive(Drop)]
 struct Filter<'a> {
@@ -58,30 +63,12 @@ pub(crate) fn with_rules(rules: RuleSet, names: &[&str]) -> RuleSet {
     rules
 }
 
-/// Checks whether a rule is about messages.
-fn is_of_messages(rule: Rule) -> bool {
-    matches!(
-        rule,
-        Rule::BadMessage
-            | Rule::BadPattern
-            | Rule::BrokenMessage
-            | Rule::MissingCategory
-            | Rule::MissingOther
-            | Rule::OneBranchArgument
-            | Rule::OtherArguments
-            | Rule::QuotedArgument
-            | Rule::RepeatedSelector
-            | Rule::StrayBrace
-            | Rule::UnknownSelector
-            | Rule::UnusedCategory
-    )
-}
-
+/// Returns the rules about messages.
 fn message_rules() -> RuleSet {
     let mut rules = RuleSet::none();
-    for rule in Rule::all() {
-        if is_of_messages(*rule) {
-            rules = rules.with(*rule);
+    for name in MESSAGE_RULES.split(' ') {
+        if let Some(rule) = Rule::named(name) {
+            rules = rules.with(rule);
         }
     }
     rules

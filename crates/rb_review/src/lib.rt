@@ -4,11 +4,13 @@
 mod baseline;
 mod coverage;
 mod coverage_output;
+mod data;
 mod escaped;
 mod left_out;
 mod lint_output;
 mod lint_words;
 mod linting;
+mod same_texts;
 mod snippet;
 mod string_limits;
 

@@ -53,7 +53,7 @@ struct Line<'a> {
 #[derive(Clone, Copy)]
 pub(crate) struct LintOutput {
     format: Format,
-    console: Console,
+    pub(crate) console: Console,
     has_colors: bool,
     /// Something was printed, so that SARIF needs a comma.
     has_line: bool,

@@ -93,6 +93,7 @@ pub(crate) fn levels_of<R: Eprint>(
     Some(Levels {
         allowed: rules_of(rt, console, words.allow)?,
         denied: rules_of(rt, console, words.deny)?,
+        wanted: RuleSet::none(),
     })
 }
 
@@ -117,5 +118,6 @@ pub(crate) fn with_settings(
     Ok(Levels {
         allowed: with_rules(levels.allowed, &allowed),
         denied: with_rules(levels.denied, &denied),
+        wanted: levels.wanted,
     })
 }

@@ -1,14 +1,17 @@
 //! `resb lint`.
 use crate::baseline::Baseline;
+use crate::data::{TextLinks, read_data};
 use crate::left_out::{LeftOut, path_at};
 use crate::lint_output::LintOutput;
 use crate::lint_words::{Format, LintWords, has_colors, levels_of, rule_names, with_settings};
+use crate::same_texts::SameTexts;
 use crate::snippet::Lines;
 use crate::string_limits::StringLimits;
 use rb_console::{
     Console, StartError, cannot_read_on, not_started_on, printed, read_file, read_text, refused_on,
     stem,
 };
+use rb_coverage::ProjectData;
 use rb_lint::{
     Finding, Levels, PathLength, Report, Rule, Settings, Severity, WARNING_LIMIT, find_all,
     lengths_in,
@@ -21,19 +24,6 @@ use std::io;
 use std::process::ExitCode;
 use std::rt::Files;
 
-/// The settings that all texts of a command share.
-#[derive(Clone, Copy)]
-struct Common<'a> {
-    console: Console,
-    levels: Levels,
-    limit: usize,
-    is_strict: bool,
-    /// The name of standard input's text.
-    name: Option<&'a str>,
-    /// The root's text that all are compared with.
-    root: Option<&'a RootText>,
-}
-
 /// The root's text.
 #[derive(Drop)]
 struct RootText {
@@ -42,21 +32,43 @@ struct RootText {
     lengths: Vec<PathLength>,
 }
 
+/// The texts that a text is compared with.
+#[derive(Clone, Copy, PartialEq, Eq)]
+enum Beside {
+    Nothing,
+    /// The root's text that the command line names.
+    Named,
+    /// The root's text of the module.
+    Module,
+}
+
 /// The state of a command from text to text.
 #[derive(Drop)]
-struct Linter {
+struct Linter<'a> {
+    console: Console,
+    levels: Levels,
+    limit: usize,
+    is_strict: bool,
+    /// The name of standard input's text.
+    name: Option<&'a str>,
+    modules: &'a Modules<'a>,
+    data: &'a ProjectData,
     output: LintOutput,
     baseline: Baseline,
+    /// The root's text that all are compared with.
+    named: Option<RootText>,
     /// The last root's text of a module, if it compiles.
     root_name: String,
     root: Option<RootText>,
+    /// What the texts of that module translate.
+    same: SameTexts,
     /// A root's text was refused.
     has_bad_root: bool,
 }
 
 /// Returns the name that a text's bundle should have, or None for standard input without a name,
 /// whose name says nothing of the text.
-fn bundle_name(name: &str) -> Option<&[u8]> {
+pub(crate) fn bundle_name(name: &str) -> Option<&[u8]> {
     match name {
         "-" | "/dev/stdin" | "/dev/fd/0" | "/proc/self/fd/0" => None,
         _ => Some(stem(name).as_bytes()),
@@ -66,6 +78,8 @@ fn bundle_name(name: &str) -> Option<&[u8]> {
 /// The count of the findings of a text.
 #[derive(Clone, Copy)]
 struct Tally {
+    limit: usize,
+    is_strict: bool,
     /// There is none that counts for the status.
     is_good: bool,
     /// The numbers of warnings that are printed, and of those past the limit.
@@ -75,53 +89,84 @@ struct Tally {
 
 impl Tally {
     /// Counts a finding. Returns true if it is printed.
-    fn takes(&mut self, common: Common<'_>, finding: &Finding) -> bool {
+    fn takes(&mut self, finding: &Finding) -> bool {
         if finding.rule.is_some() {
-            if self.printed >= common.limit {
+            if self.printed >= self.limit {
                 self.more = self.more.saturating_add(1);
                 return false;
             }
             self.printed = self.printed.saturating_add(1);
         }
-        if common.is_strict || finding.severity == Severity::Error {
+        if self.is_strict || finding.severity == Severity::Error {
             self.is_good = false;
         }
         true
     }
 }
 
-impl Linter {
+impl<'a> Linter<'a> {
     /// Returns the root's text that a text is compared with.
-    fn root_text<'a>(&'a self, common: Common<'a>, has_root: bool) -> Option<&'a RootText> {
-        if has_root {
-            self.root.as_ref()
-        } else {
-            common.root
+    fn root_text(&self, beside: Beside) -> Option<&RootText> {
+        match beside {
+            Beside::Nothing => None,
+            Beside::Named => self.named.as_ref(),
+            Beside::Module => self.root.as_ref(),
         }
     }
 
-    /// Reads the root's text of a module, unless it is the last one that was read.
+    /// Reads the root's text of a module, and what the first of some texts translate, unless it is
+    /// the last root's text that was read.
     fn read_root<R: Files + AllocGlobal + Eprint>(
         &mut self,
         rt: &R,
-        console: Console,
+        texts: &[Text],
         name: &str,
     ) -> Result<(), AllocError> {
         if self.root_name.as_str() == name {
             return Ok(());
         }
         self.root_name = String::from_str(rt.alloc(), name)?;
-        self.root = read_root_text(rt, console, name);
+        self.root = read_root_text(rt, self.console, name);
+        self.same = match &self.root {
+            Some(root) => SameTexts::read(rt, self.modules, texts, (name, &root.tree))?,
+            None => SameTexts::none(rt.alloc()),
+        };
         if self.root.is_none() {
             self.has_bad_root = true;
         }
         Ok(())
     }
 
-    /// Checks whether the settings leave out a warning.
-    fn leaves_out<R: AllocGlobal>(
+    /// Reads the root that the first of some texts is compared with, if a module says it.
+    fn prepare_root<R: Files + AllocGlobal + Eprint>(
         &mut self,
         rt: &R,
+        name: &str,
+        texts: &[Text],
+    ) -> Result<Beside, AllocError> {
+        let (None, Some(text)) = (&self.named, texts.first()) else {
+            return Ok(Beside::Named);
+        };
+        if let Some(root) = &text.root {
+            self.read_root(rt, texts, root.as_str())?;
+            return Ok(Beside::Module);
+        }
+        if name == text.name.as_str() {
+            return Ok(Beside::Nothing);
+        }
+        match root_of(rt.alloc(), self.modules, name)? {
+            Some(root) => {
+                self.read_root(rt, &[], root.as_str())?;
+                Ok(Beside::Module)
+            }
+            None => Ok(Beside::Nothing),
+        }
+    }
+
+    /// Checks whether the settings leave out a warning.
+    fn leaves_out(
+        &mut self,
+        alloc: Global,
         left_out: &LeftOut<'_>,
         finding: &Finding,
         (file, path): (&str, &str),
@@ -132,25 +177,28 @@ impl Linter {
         if left_out.has_paths() && left_out.has(rule, path) {
             return Ok(true);
         }
+        if self.same.leaves_out(alloc, left_out.levels, finding)? {
+            return Ok(true);
+        }
         if self.baseline.is_empty() {
             return Ok(false);
         }
-        self.baseline.takes(rt.alloc(), file, finding)
+        self.baseline.takes(alloc, file, finding)
     }
 
     /// Prints the findings of a text that aren't left out.
     fn print_findings<R: AllocGlobal + Print>(
         &mut self,
         rt: &R,
-        common: Common<'_>,
-        project: &Project,
         left_out: &LeftOut<'_>,
         (name, text): (&str, &[u8]),
         findings: &[Finding],
     ) -> io::Result<Tally> {
         let paths = left_out.paths(rt.alloc(), text, findings)?;
-        let file = project.relative(rt.alloc(), name)?;
+        let file = self.modules.project.relative(rt.alloc(), name)?;
         let mut tally = Tally {
+            limit: self.limit,
+            is_strict: self.is_strict,
             is_good: true,
             printed: 0,
             more: 0,
@@ -158,80 +206,136 @@ impl Linter {
         let mut lines = Lines::of(text);
         for (i, finding) in findings.iter().enumerate() {
             let place = (file.as_str(), path_at(&paths, i));
-            if !self.leaves_out(rt, left_out, finding, place)? && tally.takes(common, finding) {
+            if !self.leaves_out(rt.alloc(), left_out, finding, place)? && tally.takes(finding) {
                 self.output.finding(rt, name, &mut lines, finding)?;
             }
         }
         Ok(tally)
     }
 
+    /// Returns the findings of a text within the limits of its strings. Takes all findings, not
+    /// only as many as are printed, where some are left out later.
+    fn report_of(
+        &self,
+        alloc: Global,
+        left_out: &LeftOut<'_>,
+        (name, text): (&str, &[u8]),
+        root: Option<&RootText>,
+    ) -> Result<Report, AllocError> {
+        let limits = limits_of(alloc, self.modules, (name, text), root)?;
+        let links = TextLinks::of(alloc, self.data, bundle_name(name), text)?;
+        let takes_all = !self.baseline.is_empty()
+            || left_out.has_paths()
+            || left_out.levels.wanted.has(Rule::SameText)
+            || limits.has_lengths();
+        let settings = Settings {
+            name: bundle_name(name),
+            levels: left_out.levels,
+            limit: if takes_all { usize::MAX } else { self.limit },
+            root: match root {
+                Some(root) => Some(&root.tree),
+                None => None,
+            },
+            forbidden: &limits.forbidden,
+            longest: limits.lowest(),
+            parent: links.parent(),
+            dead: &links.dead,
+        };
+        let report = find_all(alloc, text, &settings)?;
+        Ok(Report {
+            findings: limits.applied(alloc, text, report.findings)?,
+            left_out: report.left_out,
+        })
+    }
+
     /// Prints the findings of a text that was read. Returns true if there are none that count.
     fn lint_read<R: AllocGlobal + Print>(
         &mut self,
         rt: &R,
-        common: Common<'_>,
-        modules: &Modules<'_>,
         (name, text): (&str, &[u8]),
-        has_root: bool,
+        beside: Beside,
     ) -> io::Result<bool> {
         let alloc = rt.alloc();
-        let left_out = LeftOut::of(alloc, modules, common.levels, name)?;
-        let takes_all = !self.baseline.is_empty() || left_out.has_paths();
-        let report = report_of(
-            alloc,
-            common,
-            modules,
-            &left_out,
-            takes_all,
-            (name, text),
-            self.root_text(common, has_root),
-        )?;
-        let tally = self.print_findings(
-            rt,
-            common,
-            modules.project,
-            &left_out,
-            (name, text),
-            &report.findings,
-        )?;
+        let levels = match beside {
+            Beside::Module => self.same.levels(self.levels, name),
+            Beside::Nothing | Beside::Named => self.levels,
+        };
+        let left_out = LeftOut::of(alloc, self.modules, levels, name)?;
+        let report = self.report_of(alloc, &left_out, (name, text), self.root_text(beside))?;
+        let tally = self.print_findings(rt, &left_out, (name, text), &report.findings)?;
         let more = report.left_out.saturating_add(tally.more);
         self.output.left_out(rt, name, more)?;
         Ok(tally.is_good)
     }
-}
 
-/// Returns the findings of a text within the limits of its strings. Takes all findings, not only as
-/// many as are printed, where some are left out later.
-fn report_of(
-    alloc: Global,
-    common: Common<'_>,
-    modules: &Modules<'_>,
-    left_out: &LeftOut<'_>,
-    takes_all: bool,
-    (name, text): (&str, &[u8]),
-    root: Option<&RootText>,
-) -> Result<Report, AllocError> {
-    let limits = limits_of(alloc, modules, (name, text), root)?;
-    let settings = Settings {
-        name: bundle_name(name),
-        levels: left_out.levels,
-        limit: if takes_all || limits.has_lengths() {
-            usize::MAX
-        } else {
-            common.limit
-        },
-        root: match root {
-            Some(root) => Some(&root.tree),
-            None => None,
-        },
-        forbidden: &limits.forbidden,
-        longest: limits.lowest(),
-    };
-    let report = find_all(alloc, text, &settings)?;
-    Ok(Report {
-        findings: limits.applied(alloc, text, report.findings)?,
-        left_out: report.left_out,
-    })
+    /// Prints the findings of the first of some texts.
+    fn lint_first<R: Files + Input + AllocGlobal + Print + Eprint>(
+        &mut self,
+        rt: &R,
+        texts: &[Text],
+    ) -> ExitCode {
+        let Some(text) = texts.first() else {
+            return ExitCode::SUCCESS;
+        };
+        let file = text.name.as_str();
+        let name = match self.name {
+            Some(name) if file == "-" => name,
+            _ => file,
+        };
+        let bytes = match read_text(rt, file) {
+            Ok(bytes) => bytes,
+            Err(error) => {
+                let _ = cannot_read_on(rt, self.console, name, ":0", error);
+                return ExitCode::from(1);
+            }
+        };
+        let Ok(beside) = self.prepare_root(rt, name, texts) else {
+            return refused_on(rt, self.console, name, "Memory");
+        };
+        let outcome = self.lint_read(rt, (name, &bytes), beside);
+        text_status(rt, self.console, name, outcome)
+    }
+
+    /// Prints the findings of each text.
+    fn lint_each<R: Files + Input + AllocGlobal + Print + Eprint>(
+        &mut self,
+        rt: &R,
+        texts: &[Text],
+    ) -> ExitCode {
+        let mut status = ExitCode::SUCCESS;
+        for i in 0..texts.len() {
+            let one = self.lint_first(rt, texts.get(i..).unwrap_or(&[]));
+            if one == ExitCode::from(2) {
+                return one;
+            }
+            if one != ExitCode::SUCCESS {
+                status = one;
+            }
+        }
+        if self.has_bad_root {
+            return ExitCode::from(1);
+        }
+        status
+    }
+
+    /// Prints the findings of all texts.
+    fn lint_texts<R: Files + Input + AllocGlobal + Print + Eprint>(
+        &mut self,
+        rt: &R,
+        texts: &[Text],
+    ) -> ExitCode {
+        if let Err(error) = self.output.begin(rt) {
+            return printed(rt, Err(error));
+        }
+        let status = self.lint_each(rt, texts);
+        if status == ExitCode::from(2) {
+            return status;
+        }
+        match self.output.end(rt) {
+            Ok(()) => status,
+            Err(error) => printed(rt, Err(error)),
+        }
+    }
 }
 
 /// Returns the limits of a text's strings: those of the settings, of its comments, and of its root's.
@@ -263,85 +367,6 @@ fn text_status<R: Eprint>(
         }
         Err(error) => printed(rt, Err(error)),
     }
-}
-
-/// Reads the root that a text is compared with, if a module says it. Returns true if there is one.
-fn prepare_root<R: Files + AllocGlobal + Eprint>(
-    rt: &R,
-    common: Common<'_>,
-    modules: &Modules<'_>,
-    linter: &mut Linter,
-    name: &str,
-    text: &Text,
-) -> Result<bool, AllocError> {
-    if common.root.is_some() {
-        return Ok(false);
-    }
-    if let Some(root) = &text.root {
-        linter.read_root(rt, common.console, root.as_str())?;
-        return Ok(true);
-    }
-    if name == text.name.as_str() {
-        return Ok(false);
-    }
-    match root_of(rt.alloc(), modules, name)? {
-        Some(root) => {
-            linter.read_root(rt, common.console, root.as_str())?;
-            Ok(true)
-        }
-        None => Ok(false),
-    }
-}
-
-/// Prints the findings of one text.
-fn lint_one<R: Files + Input + AllocGlobal + Print + Eprint>(
-    rt: &R,
-    common: Common<'_>,
-    modules: &Modules<'_>,
-    linter: &mut Linter,
-    text: &Text,
-) -> ExitCode {
-    let file = text.name.as_str();
-    let name = match common.name {
-        Some(name) if file == "-" => name,
-        _ => file,
-    };
-    let bytes = match read_text(rt, file) {
-        Ok(bytes) => bytes,
-        Err(error) => {
-            let _ = cannot_read_on(rt, common.console, name, ":0", error);
-            return ExitCode::from(1);
-        }
-    };
-    let Ok(has_root) = prepare_root(rt, common, modules, linter, name, text) else {
-        return refused_on(rt, common.console, name, "Memory");
-    };
-    let outcome = linter.lint_read(rt, common, modules, (name, &bytes), has_root);
-    text_status(rt, common.console, name, outcome)
-}
-
-/// Prints the findings of each text.
-fn lint_each<R: Files + Input + AllocGlobal + Print + Eprint>(
-    rt: &R,
-    common: Common<'_>,
-    modules: &Modules<'_>,
-    linter: &mut Linter,
-    texts: &[Text],
-) -> ExitCode {
-    let mut status = ExitCode::SUCCESS;
-    for text in texts {
-        let one = lint_one(rt, common, modules, linter, text);
-        if one == ExitCode::from(2) {
-            return one;
-        }
-        if one != ExitCode::SUCCESS {
-            status = one;
-        }
-    }
-    if linter.has_bad_root {
-        return ExitCode::from(1);
-    }
-    status
 }
 
 /// Reads the root's text, or reports the error.
@@ -377,127 +402,71 @@ fn read_root_text<R: Files + AllocGlobal + Eprint>(
     }
 }
 
-/// Prints the findings of all texts.
-fn lint_texts<R: Files + Input + AllocGlobal + Print + Eprint>(
-    rt: &R,
-    common: Common<'_>,
-    modules: &Modules<'_>,
-    linter: &mut Linter,
-    texts: &[Text],
-) -> ExitCode {
-    if let Err(error) = linter.output.begin(rt) {
-        return printed(rt, Err(error));
-    }
-    let status = lint_each(rt, common, modules, linter, texts);
-    if status == ExitCode::from(2) {
-        return status;
-    }
-    match linter.output.end(rt) {
-        Ok(()) => status,
-        Err(error) => printed(rt, Err(error)),
-    }
-}
-
-/// Finds the texts of a command, and prints their findings in a format.
-fn lint_in<R: Files + Input + AllocGlobal + Print + Eprint>(
-    rt: &R,
-    common: Common<'_>,
-    modules: &Modules<'_>,
-    choices: Choices,
-    arguments: &[&str],
-) -> ExitCode {
-    let console = common.console;
-    let texts = match texts_of(rt, console, modules, arguments) {
-        Ok(texts) => texts,
-        Err(status) => return status,
-    };
-    let baseline = match Baseline::read(rt, console, modules.project) {
-        Ok(baseline) => baseline,
-        Err(status) => return status,
-    };
-    let mut linter = Linter {
-        output: LintOutput::new(choices.format, console, choices.has_colors),
-        baseline,
-        root_name: String::new(rt.alloc()),
-        root: None,
-        has_bad_root: false,
-    };
-    lint_texts(rt, common, modules, &mut linter, &texts)
-}
-
-/// Prints the findings of a command in a project.
-fn lint_project<R: Files + Input + AllocGlobal + Print + Eprint>(
-    rt: &R,
-    common: Common<'_>,
-    modules: &Modules<'_>,
-    choices: Choices,
-    words: &LintWords<'_>,
-) -> ExitCode {
-    let Some(root) = words.root else {
-        return lint_in(rt, common, modules, choices, words.texts);
-    };
-    match read_root_text(rt, common.console, root) {
-        Some(root) => {
-            let common = Common {
-                root: Some(&root),
-                ..common
-            };
-            lint_in(rt, common, modules, choices, words.texts)
-        }
-        None => ExitCode::from(1),
-    }
-}
-
-/// The choices of a command that hold for all texts.
-#[derive(Clone, Copy)]
-struct Choices {
-    format: Format,
-    has_colors: bool,
-    levels: Levels,
-    is_strict: bool,
-}
-
-/// Prints the findings of a command in the modules of a project.
-fn lint_modules<R: Files + Input + AllocGlobal + Print + Eprint>(
+/// Reads the root's text of the command line, if it names one. Returns the status of the command if
+/// that is refused, once that is reported.
+fn read_named<R: Files + AllocGlobal + Eprint>(
     rt: &R,
     console: Console,
-    choices: Choices,
+    name: Option<&str>,
+) -> Result<Option<RootText>, ExitCode> {
+    let Some(name) = name else {
+        return Ok(None);
+    };
+    match read_root_text(rt, console, name) {
+        Some(root) => Ok(Some(root)),
+        None => Err(ExitCode::from(1)),
+    }
+}
+
+/// Reads what all texts of a command are linted with, and prints their findings. Returns the status
+/// of the command also if something can't be read or is refused, once that is reported.
+fn lint_modules<R: Files + Input + AllocGlobal + Print + Eprint>(
+    rt: &R,
+    output: LintOutput,
+    levels: Levels,
     words: &LintWords<'_>,
     modules: &Modules<'_>,
-) -> ExitCode {
-    let common = Common {
+) -> Result<ExitCode, ExitCode> {
+    let (console, project) = (output.console, modules.project);
+    let data = read_data(rt, console, project, None, project.settings.section("data"))?;
+    let named = read_named(rt, console, words.root)?;
+    let texts = texts_of(rt, console, modules, words.texts)?;
+    let mut linter = Linter {
         console,
-        levels: choices.levels,
+        levels,
         limit: if words.is_all {
             usize::MAX
         } else {
             WARNING_LIMIT
         },
-        is_strict: choices.is_strict,
+        is_strict: words.is_strict || project.settings.section("lint").flag("strict"),
         name: words.name,
+        modules,
+        data: &data,
+        output,
+        baseline: Baseline::read(rt, console, project)?,
+        named,
+        root_name: String::new(rt.alloc()),
         root: None,
+        same: SameTexts::none(rt.alloc()),
+        has_bad_root: false,
     };
-    lint_project(rt, common, modules, choices, words)
+    Ok(linter.lint_texts(rt, &texts))
 }
 
 /// Reads the settings and the modules of a project, and prints the findings.
 fn lint_with<R: Files + Input + AllocGlobal + Print + Eprint>(
     rt: &R,
-    console: Console,
-    choices: Choices,
+    output: LintOutput,
+    levels: Levels,
     words: &LintWords<'_>,
     project: &Project,
 ) -> Result<ExitCode, AllocError> {
-    let levels = with_settings(rt.alloc(), choices.levels, project)?;
-    let is_strict = words.is_strict || project.settings.section("lint").flag("strict");
-    let choices = Choices {
-        format: choices.format,
-        has_colors: choices.has_colors,
-        levels,
-        is_strict,
-    };
+    let levels = with_settings(rt.alloc(), levels, project)?;
     let modules = Modules::of(rt.alloc(), project)?;
-    Ok(lint_modules(rt, console, choices, words, &modules))
+    Ok(match lint_modules(rt, output, levels, words, &modules) {
+        Ok(status) | Err(status) => status,
+    })
 }
 
 /// Prints what is doubtful in bundle texts, and the error of each text that isn't compiled, in the
@@ -534,13 +503,8 @@ pub fn lint_all<R: Files + Input + AllocGlobal + Print + Eprint>(
         Ok(project) => project,
         Err(status) => return status,
     };
-    let choices = Choices {
-        format,
-        has_colors,
-        levels,
-        is_strict: words.is_strict,
-    };
-    match lint_with(rt, console, choices, words, &project) {
+    let output = LintOutput::new(format, console, has_colors);
+    match lint_with(rt, output, levels, words, &project) {
         Ok(status) => status,
         Err(_) => not_started_on(rt, console, StartError::Memory),
     }

@@ -39,8 +39,16 @@ impl KeyKind {
 /// Returns how the table of a name is written, or None if no table has the name.
 pub(crate) fn table_kind(name: &str) -> Option<TableKind> {
     match name {
-        "lint" | "fmt" | "coverage" => Some(TableKind::One),
+        "data" | "lint" | "fmt" | "coverage" => Some(TableKind::One),
         "module" | "allow" | "forbid" | "limit" => Some(TableKind::Many),
+        _ => None,
+    }
+}
+
+fn data_key(key: &str) -> Option<KeyKind> {
+    match key {
+        "icudata" | "parents" => Some(KeyKind::Text),
+        "cldr-parents" => Some(KeyKind::Flag),
         _ => None,
     }
 }
@@ -105,6 +113,7 @@ fn limit_key(key: &str) -> Option<KeyKind> {
 /// Returns the type of a key's value in the table of a name, or None if the table has no such key.
 pub(crate) fn key_kind(table: &str, key: &str) -> Option<KeyKind> {
     match table {
+        "data" => data_key(key),
         "lint" => lint_key(key),
         "fmt" => fmt_key(key),
         "coverage" => coverage_key(key),
