@@ -20,7 +20,7 @@ _resb() {
         look) flags='--parents --cldr-parents --trace --help' ;;
         text) flags='--name --help' ;;
         json) flags='--inherit --parents --cldr-parents --path --pretty --help' ;;
-        diff) flags='--json --stat --help' ;;
+        diff) flags='--json --stat --config --no-config --help' ;;
         serve) flags='--parents --cldr-parents --app-bytes --bundle-bytes --reply-bytes --line-bytes --apps --steps --keep-serving --extended --help' ;;
         # end
     esac

@@ -50,6 +50,8 @@ complete -c resb -n '__fish_seen_subcommand_from json' -l path -x -d 'with --inh
 complete -c resb -n '__fish_seen_subcommand_from json' -l pretty -d 'a line for each item and member, indented'
 complete -c resb -n '__fish_seen_subcommand_from diff' -l json -d 'an object for each item, in a line'
 complete -c resb -n '__fish_seen_subcommand_from diff' -l stat -d 'only how many items differ'
+complete -c resb -n '__fish_seen_subcommand_from diff' -l config -r -d 'the settings of the project, in place of the nearest resb.toml upward'
+complete -c resb -n '__fish_seen_subcommand_from diff' -l no-config -d 'read no settings of a project'
 complete -c resb -n '__fish_seen_subcommand_from serve' -l parents -r -d 'a bundle text with the explicit parents, at parentLocales'
 complete -c resb -n '__fish_seen_subcommand_from serve' -l cldr-parents -d 'the explicit parents of CLDR, in place of --parents'
 complete -c resb -n '__fish_seen_subcommand_from serve' -l app-bytes -x -d 'the most bytes of all files of one application'

@@ -68,9 +68,10 @@ AsksFor name rows (Inherited asked) = (name ≡ codes "json") × (first_of (code
     × (texts asked.files.items ≡ gathered rows (codes "FILE") (codes "PATH") (codes "BUNDLE"))
 AsksFor name rows (ToText file bundle) =
     (name ≡ codes "text") × (file.now ≡ word_in rows (codes "FILE")) × IsTextIn rows (codes "name") bundle
-AsksFor name rows (Diff old new is_json is_stat) = (name ≡ codes "diff") × (old.now ≡ word_in rows (codes "OLD"))
-    × (new.now ≡ word_in rows (codes "NEW")) × IsFlagIn rows (codes "json") is_json
-    × IsFlagIn rows (codes "stat") is_stat
+AsksFor name rows (Diff old new is_json is_stat config no_config) =
+    (name ≡ codes "diff") × (old.now ≡ word_in rows (codes "OLD")) × (new.now ≡ word_in rows (codes "NEW"))
+    × IsFlagIn rows (codes "json") is_json × IsFlagIn rows (codes "stat") is_stat
+    × IsTextIn rows (codes "config") config × IsFlagIn rows (codes "no-config") no_config
 AsksFor name rows (Lint asked) = (name ≡ codes "lint")
     × (option_map (λ s. s.now) asked.root ≡ option_or (first_of (codes "against") rows) (first_of (codes "root") rows))
     × IsTextIn rows (codes "name") asked.name × (texts asked.allow.items ≡ words_in rows (codes "allow"))

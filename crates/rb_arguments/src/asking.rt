@@ -79,6 +79,8 @@ pub enum Asked<'a> {
         new: &'a str,
         is_json: bool,
         is_stat: bool,
+        config: Option<&'a str>,
+        no_config: bool,
     },
     /// `lint TEXT..`
     Lint(AskedLint<'a>),
@@ -480,6 +482,8 @@ fn diff_asked<'a>(given: &ArgMatches<'a>) -> Asked<'a>
         new: word_of(given, "NEW"),
         is_json: flag_of(given, "json"),
         is_stat: flag_of(given, "stat"),
+        config: optional_of(given, "config"),
+        no_config: flag_of(given, "no-config"),
     }
 }
 

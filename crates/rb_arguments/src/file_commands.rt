@@ -1,4 +1,4 @@
-use crate::argument::{Argument, Kind, PATH};
+use crate::argument::{Argument, CONFIG, Kind, NO_CONFIG, PATH};
 use crate::description::Description;
 
 /// The file to write, which may be missing only with `--to`.
@@ -226,19 +226,21 @@ const DIFF_HELP: &str = "\
 Examples:
   resb diff old/de.txt new/de.txt
   resb diff --stat old new
+  resb diff build/shop shop
 
 A bundle text ends in .txt; any other file is a .res file. Of folders the files of one name are
 compared. Each item that differs is printed by its path, as
   - menu/open \"Open\"
   + menu/open \"Open..\"
 where - is what OLD has and + is what NEW has, as resb json prints it. With --json each is an object
-in a line. The flag no fallback has the path :no-fallback.
+in a line. The flag no fallback has the path :no-fallback. A name that nothing has is that of a
+module in the settings of the project: its folder, or the last part of it.
 
 Status:
   0  nothing differs
   1  something differs
-  2  the command line is invalid, a file is refused, or a file or standard output can't be read or
-     written, or out of memory";
+  2  the command line or the settings are invalid, a file is refused, or a file or standard output
+     can't be read or written, or out of memory";
 
 /// `diff OLD NEW`
 const DIFF: Description = Description {
@@ -247,7 +249,13 @@ const DIFF: Description = Description {
     arguments: &[
         Argument("json", Kind::Flag, "an object for each item, in a line"),
         Argument("stat", Kind::Flag, "only how many items differ"),
-        Argument("OLD", Kind::Word, "a bundle text, a .res file or a folder"),
+        CONFIG,
+        NO_CONFIG,
+        Argument(
+            "OLD",
+            Kind::Word,
+            "a bundle text, a .res file, a folder or a module",
+        ),
         Argument("NEW", Kind::Word, "what it is compared with"),
     ],
     end: DIFF_HELP,

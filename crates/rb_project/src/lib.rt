@@ -5,10 +5,12 @@ mod first_settings;
 mod modules;
 mod names;
 mod project;
+mod sides;
 mod texts;
 mod walk;
 
 pub use first_settings::init;
 pub use modules::{ModuleTexts, Modules};
 pub use project::{Configured, Project, open_project};
+pub use sides::sides_of;
 pub use texts::{Text, names_of, root_of, texts_of};

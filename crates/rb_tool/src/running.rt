@@ -15,7 +15,7 @@ use rb_fmt::{FormatMode, FormatWords, format_all};
 use rb_inspect::{
     Inheritance, Lookup, check, check_all, check_json, explain, get, get_raw, look_up, print_tree,
 };
-use rb_project::{Configured, init};
+use rb_project::{Configured, init, sides_of};
 use rb_requests::Limits;
 use rb_review::{CoverageWords, LintWords, cover_all, lint_all, list_rules};
 use std::env;
@@ -111,6 +111,26 @@ fn run_check<R: Files + Clock + AllocGlobal + Print + Eprint>(
 
 fn configured(file: Option<&str>, is_none: bool) -> Configured<'_> {
     Configured { file, is_none }
+}
+
+/// `diff [OPTIONS] OLD NEW`. Whatever goes wrong is status 2, as 1 says that something differs.
+fn run_diff<R: Files + AllocGlobal + Print + Eprint>(
+    rt: &R,
+    console: Console,
+    config: Configured<'_>,
+    words: DiffWords<'_>,
+) -> ExitCode {
+    match sides_of(rt, console, config, (words.old, words.new)) {
+        Ok((old, new)) => {
+            let words = DiffWords {
+                old: old.as_str(),
+                new: new.as_str(),
+                form: words.form,
+            };
+            diff(rt, console, words)
+        }
+        Err(_) => ExitCode::from(2),
+    }
 }
 
 /// Checks whether the environment has a NO_COLOR that isn't empty.
@@ -336,9 +356,12 @@ pub fn run_asked<
             new,
             is_json,
             is_stat,
+            config,
+            no_config,
         } => {
             let form = diff_form(is_json, is_stat);
-            diff(rt, console, DiffWords { old, new, form })
+            let words = DiffWords { old, new, form };
+            run_diff(rt, console, configured(config, no_config), words)
         }
         Asked::Lint(asked) => run_lint(rt, console, &asked),
         Asked::Format(asked) => run_format(rt, console, &asked),

@@ -130,8 +130,9 @@ resb|check|-q|a|b => Check { files: ["a", "b"], is_json: false, is_quiet: true }
 resb|check|a|--json => Check { files: ["a"], is_json: true, is_quiet: false }
 resb|get|a|b/c => Get { file: "a", path: "b/c", is_raw: false }
 resb|get|a|--raw|b => Get { file: "a", path: "b", is_raw: true }
-resb|diff|--stat|a|b => Diff { old: "a", new: "b", is_json: false, is_stat: true }
-resb|diff|a|b|--json => Diff { old: "a", new: "b", is_json: true, is_stat: false }
+resb|diff|--stat|a|b => Diff { old: "a", new: "b", is_json: false, is_stat: true, config: None, no_config: false }
+resb|diff|a|b|--json|--no-config => Diff { old: "a", new: "b", is_json: true, is_stat: false, config: None, no_config: true }
+resb|diff|--config|c|a|b => Diff { old: "a", new: "b", is_json: false, is_stat: false, config: Some("c"), no_config: false }
 resb|json|a|--pretty => Json { file: "a", path: "", is_pretty: true }
 resb|json|a|b => Json { file: "a", path: "b", is_pretty: false }
 resb|json|--inherit|de|a => Inherited(AskedInherited { parents: None, is_cldr: false, locale: "de", path: "", is_pretty: false, files: ["a"] })
@@ -214,9 +215,11 @@ fn file_text(alloc: Global, asked: &Asked<'_>) -> Result<String, Fail> {
             new,
             is_json,
             is_stat,
+            config,
+            no_config,
         } => format!(in alloc;
             "Diff {{ old: {old:?}, new: {new:?}, is_json: {is_json:?}, \
-is_stat: {is_stat:?} }}"
+is_stat: {is_stat:?}, config: {config:?}, no_config: {no_config:?} }}"
         )?,
         _ => other_text(alloc, asked)?,
     })
