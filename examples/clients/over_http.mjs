@@ -122,13 +122,13 @@ export class Bundles {
 
   /** Returns a response; asks again while the server can't answer. */
   async #ask(method, address, { body, headers = {} } = {}) {
-    const mayRepeat = method === "GET" || method === "PUT" || address.endsWith("/look");
+    const mayRepeat = method === "GET" || method === "PUT" || headers["If-Match"] || address.endsWith("/look");
     for (const end = Date.now() + PATIENCE; ; ) {
       let response;
       try {
         response = await fetch(address, { method, body, headers: { ...headers, Authorization: "Bearer " + this.#token } });
       } catch (error) {
-        // A change may have been done, though its answer was lost: a PUT may be asked again, others are left to the caller.
+        // A change may have been done, though its answer was lost: a PUT, and what a tag guards, may be asked again, others are left to the caller.
         if (!mayRepeat || Date.now() > end) throw error;
         await new Promise((wake) => setTimeout(wake, 100));
         continue;

@@ -102,6 +102,34 @@ func TestTheClientsGiveUp(t *testing.T) {
 	}
 }
 
+// TestTheClientsLoseAnswers has each change made, and the first answer to it lost: the clients ask again, and see no conflict.
+func TestTheClientsLoseAnswers(t *testing.T) {
+	s := beside(t)
+	for language, script := range map[string]string{"python3": "lost.py", "node": "lost.mjs"} {
+		seen := map[string]bool{}
+		proxy := httptest.NewServer(http.HandlerFunc(func(w http.ResponseWriter, r *http.Request) {
+			body, _ := io.ReadAll(r.Body)
+			var headers []string
+			for _, name := range []string{"Authorization", "Content-Type", "If-Match", "If-None-Match"} {
+				headers = append(headers, name, r.Header.Get(name))
+			}
+			got, err := harness.Send(harness.Client, r.Method, s.URL+r.URL.RequestURI(), "", string(body), headers...)
+			what := r.Method + r.Header.Get("If-Match")
+			if lost := err != nil || r.Method != "GET" && !seen[what]; lost {
+				seen[what] = true
+				panic(http.ErrAbortHandler)
+			}
+			w.Header().Set("ETag", got.Tag())
+			w.WriteHeader(got.Status)
+			_, _ = io.WriteString(w, got.Body)
+		}))
+		text, err := client(t, language, "testdata/"+script, proxy.URL, shopWrites)
+		proxy.Close()
+		errorIf(t, err != nil || text != "C\n0\n" || len(seen) != 4, "%s: %v %s %v", script, err, text, seen)
+	}
+	equal(t, len(s.past("")), 8, "changes")
+}
+
 // TestALargeBodyGetsItsAnswer through each client, also those that read it only once they have sent the whole body.
 func TestALargeBodyGetsItsAnswer(t *testing.T) {
 	s := beside(t)
