@@ -128,7 +128,7 @@ export class Bundles {
       try {
         response = await fetch(address, { method, body, headers: { ...headers, Authorization: "Bearer " + this.#token } });
       } catch (error) {
-        // A change may have been done, though its answer was lost: a PUT, and what a tag guards, may be asked again, others are left to the caller.
+        // A change may have been done, though its answer was lost: a PUT, and what a tag guards, may be asked again.
         if (!mayRepeat || Date.now() > end) throw error;
         await new Promise((wake) => setTimeout(wake, 100));
         continue;

@@ -149,10 +149,10 @@ class Bundles:
             try:
                 status, got, reply = self._once(method, address, body, headers)
             except (OSError, HTTPException):
-                # A change may have been done, though its answer was lost: those that a tag guards may be asked again, others are left to the
-                # caller, except PUT and releases.
+                # A change may have been done, though its answer was lost: a PUT, a release, and what a tag guards may be asked again.
                 self.connection = None
-                may_repeat = method in ("GET", "HEAD", "PUT") or "If-Match" in headers or address.endswith(("/look", "/_releases"))
+                is_safe = method in ("GET", "HEAD", "PUT") or address.endswith(("/look", "/_releases"))
+                may_repeat = is_safe or "If-Match" in headers
                 if not may_repeat or time.monotonic() > end:
                     raise
                 time.sleep(0.1)
