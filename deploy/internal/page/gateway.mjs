@@ -35,7 +35,8 @@ export class Refused extends Error {
   constructor(status, reply) {
     const at = reply.line ? ` in line ${reply.line}` : "";
     const meaning = reply.message ?? MEANINGS[reply.error];
-    super(`${reply.code ?? reply.error}${at}${meaning ? ": " + meaning : ""}`);
+    const of = reply.name ? ` of ${reply.name}` : ""; // a bundle of several
+    super(`${reply.code ?? reply.error}${of}${at}${meaning ? ": " + meaning : ""}`);
     this.status = status;
     this.code = reply.error;
   }
