@@ -22,7 +22,6 @@ import (
 func TestAJournalThatNobodyReads(t *testing.T) {
 	from, to, err := os.Pipe()
 	harness.Must(t, err)
-	defer from.Close()
 	j, err := OpenJournal("-")
 	harness.Must(t, err)
 	j.mu.Lock()
@@ -37,6 +36,8 @@ func TestAJournalThatNobodyReads(t *testing.T) {
 	}
 	j.Flush() // ends within a second
 	j.Write("late")
+	harness.Must(t, from.Close())
+	j.Flush() // no line is left that another test would take for one of its own
 }
 
 // TestJournalFiles refuses a FIFO, and writes to a new file after the earlier one was renamed.
