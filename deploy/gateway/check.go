@@ -67,20 +67,29 @@ func (s *settings) files() (all []named) {
 // checkUses finds a file that isn't one, and one that the gateway would write or remove though another option names it, or the store has it.
 func (s *settings) checkUses(*parts) error {
 	files := s.files()
-	for i, a := range files {
-		if info, err := os.Stat(a.path); err == nil && !info.Mode().IsRegular() && a.option != "config" {
-			return s.wrong(a.option, ": %s: not a regular file", a.path) // it might never end
-		}
-		if s.state != "" && sqlite.Owns(filepath.Base(a.path)) && isSame(filepath.Dir(a.path), s.state) {
-			return s.wrong(a.option, ": %s is a file of the store", a.path)
-		}
-		for j, b := range files {
-			if i != j && a.use != reads && (a.use != appends || b.use != appends) && isSame(a.path, b.path) {
-				return s.wrong(a.option, ": %s is the file of -%s too", a.path, b.option)
-			}
+	for _, one := range files {
+		if why := s.misuse(one, files); why != "" {
+			return s.wrong(one.option, ": %s%s", one.path, why)
 		}
 	}
 	return nil
+}
+
+// misuse returns why an option can't have its file, or "".
+func (s *settings) misuse(one named, all []named) string {
+	if info, err := os.Stat(one.path); err == nil && !info.Mode().IsRegular() && one.option != "config" {
+		return ": not a regular file" // it might never end
+	}
+	if s.state != "" && sqlite.Owns(filepath.Base(one.path)) && isSame(filepath.Dir(one.path), s.state) {
+		return " is a file of the store"
+	}
+	for _, other := range all {
+		isWritten := one.use != reads && (one.use != appends || other.use != appends)
+		if isWritten && other != one && isSame(other.path, one.path) {
+			return fmt.Sprintf(" is the file of -%s too", other.option)
+		}
+	}
+	return ""
 }
 
 // isSame returns true if two paths lead to one file or folder, whether or not it is there.
