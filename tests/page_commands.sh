@@ -250,7 +250,7 @@ if [ -x "$gateway" ]; then
     openssl req -x509 -newkey ec -pkeyopt ec_paramgen_curve:P-256 -nodes -subj /CN=gateway -keyout etc/etcd.key -out etc/etcd.pem 2>/dev/null
     # its etcd isn't there
     runs 'deploy/README: the options of a gateway' "{ $(block deploy/README.md 'On real machines' |
-        sed 's#/etc/resb/#etc/#g; s#10\.0\.0\.[1-3]:#127.0.0.1:#g') -check-config || [ \$? = 2 ]; } 2>&1 | grep '^gateway: -etcd: '"
+        sed 's#/etc/resb/#etc/#g; s#10\.0\.0\.[1-3]:#127.0.0.1:#g') -check-config || [ \$? = 2 ]; } 2>&1 | grep '^resb-gateway: -etcd: '"
     sed "s#/etc/resb/tokens#etc/tokens#; s#\"/usr/bin/resb\"#\"$program\"#; s#/var/lib/resb-gateway#state#" "$top/deploy/gateway.example.json" >gateway.json
     runs 'deploy/OPERATIONS: the example of settings' 'resb-gateway -config gateway.json -check-config'
     runs 'deploy/OPERATIONS: the options of a gateway' "$(inline deploy/OPERATIONS.md 'resb-gateway options')"

@@ -108,8 +108,18 @@ func (s *settings) openTokens(p *parts) (err error) {
 	if p.tokens, err = auth.Open(s.tokenFile); err != nil {
 		return s.wrong("tokens", ": %w", err)
 	}
-	if s.addTokens != "" {
-		if err := p.tokens.Add(s.addTokens); err != nil {
+	if s.addTokens == "" {
+		return nil
+	}
+	if err := p.tokens.Add(s.addTokens); err != nil {
+		return s.wrong("add-tokens", ": %w", err)
+	}
+	// the file of tokens is replaced by one beside it, and the other one removed
+	for _, path := range []string{s.tokenFile, s.addTokens} {
+		if real, err := filepath.EvalSymlinks(path); err == nil {
+			path = real
+		}
+		if err := serve.CanMake(path); err != nil {
 			return s.wrong("add-tokens", ": %w", err)
 		}
 	}

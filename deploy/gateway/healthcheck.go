@@ -18,7 +18,7 @@ const healthTime = 5 * time.Second
 // certificate isn't checked, since the gateway's name needn't be that of the address.
 func healthCommand(arguments []string, said io.Writer) int {
 	if len(arguments) != 1 || arguments[0] == "" {
-		fmt.Fprintln(said, "usage: gateway -healthcheck ADDRESS, such as 127.0.0.1:6422 or https://127.0.0.1:6422/healthz")
+		fmt.Fprintln(said, "usage: resb-gateway -healthcheck ADDRESS, such as 127.0.0.1:6422 or https://127.0.0.1:6422/healthz")
 		return 2
 	}
 	address := strings.TrimSuffix(arguments[0], "/")
@@ -34,7 +34,7 @@ func healthCommand(arguments []string, said io.Writer) int {
 		err = checkHealth("https://" + rest)
 	}
 	if err != nil {
-		fmt.Fprintln(said, "gateway:", err)
+		fmt.Fprintln(said, "resb-gateway:", err)
 		return 1
 	}
 	return 0

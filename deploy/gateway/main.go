@@ -80,9 +80,9 @@ func main() {
 // fail reports an error in the form of the log, and returns the status.
 func (s settings) fail(err error, status int) int {
 	if s.log == "json" {
-		log.Print(err)
+		log.Printf("gateway: %v", err)
 	} else {
-		serve.Print("gateway: " + err.Error())
+		serve.Print("resb-gateway: " + err.Error())
 	}
 	return status
 }
@@ -138,6 +138,7 @@ type gateway struct {
 	*front.Handler
 	leaving   context.Context // is done when the gateway ends
 	refreshed chan struct{}   // is closed when nothing is read again any more
+	unkept    string          // why the tokens of -add-tokens weren't stored, or empty
 	access    *serve.Journal
 	audit     *serve.Journal
 }
@@ -163,7 +164,7 @@ func newGateway(leaving context.Context, s settings, p parts) (g *gateway, err e
 	options.Version, options.Commit, options.Leaving = version, commit, leaving
 	g.Handler = api.New(&front.Handler{Backend: replica.Open(of, p.engine, s.replica), Engine: p.engine, Tokens: p.tokens,
 		Convert: convert.New(s.program, conversions), Options: options})
-	g.Metrics.Gauge("log_lines_dropped_total", "Lines of logs that were left out, as nobody took them.", serve.Dropped)
+	g.Metrics.Counter("log_lines_dropped_total", "Lines of logs that were left out, as nobody took them.", serve.Dropped)
 	g.Metrics.Gauge("log_lines_waiting", "Lines of logs that wait to be written.", serve.Queued)
 	return g, nil
 }
@@ -187,10 +188,11 @@ func (g *gateway) refresh(ctx context.Context, hangups <-chan os.Signal, p *serv
 		case <-ctx.Done():
 			return
 		case <-ticks.C:
+			g.keepTokens()
 			g.Tokens.Reload(false)
 			p.Again()
 		case <-soon.C:
-			if g.keepTokens(); g.addTokens == "" {
+			if g.keepTokens(); g.addTokens == "" || g.unkept != "" {
 				soon.Stop()
 			}
 		case <-hangups:
@@ -211,7 +213,10 @@ func (g *gateway) keepTokens() {
 		return
 	}
 	if err := g.Tokens.Keep(); err != nil {
-		log.Printf("tokens: %v", err)
+		if g.unkept != err.Error() {
+			log.Printf("tokens: those of %s can't be stored: %v", g.addTokens, err)
+		}
+		g.unkept = err.Error()
 		return
 	}
 	_ = os.Remove(g.addTokens)

@@ -16,18 +16,18 @@ import (
 	"luvdregan.example/resb/deploy/internal/store/sqlite"
 )
 
-const operatorUsage = `usage: gateway backup -state FOLDER FILE
-       gateway restore -state FOLDER FILE
-       gateway copy -state FOLDER -etcd ADDRESSES [-etcd-login FILE ..] to|from
-       gateway list -state FOLDER | -etcd ADDRESSES [-etcd-login FILE ..]
-       gateway export -state FOLDER | -etcd ADDRESSES [-etcd-login FILE ..] TO
+const operatorUsage = `usage: resb-gateway backup -state FOLDER FILE
+       resb-gateway restore -state FOLDER FILE
+       resb-gateway copy -state FOLDER -etcd ADDRESSES [-etcd-login FILE ..] to|from
+       resb-gateway list -state FOLDER | -etcd ADDRESSES [-etcd-login FILE ..]
+       resb-gateway export -state FOLDER | -etcd ADDRESSES [-etcd-login FILE ..] TO
 `
 
 // operatorCommand does a command over a store and returns the status: backup also while a gateway runs, the others before one does.
 func operatorCommand(name string, arguments []string, out, said io.Writer) int {
 	s := settings{}
 	all := s.flags()
-	f := flag.NewFlagSet("gateway "+name, flag.ContinueOnError)
+	f := flag.NewFlagSet("resb-gateway "+name, flag.ContinueOnError)
 	f.SetOutput(said)
 	f.Usage = func() { fmt.Fprint(said, operatorUsage) }
 	for _, option := range []string{"state", "etcd", "etcd-login", "etcd-ca", "etcd-cert", "etcd-key"} {
@@ -54,7 +54,7 @@ func operatorCommand(name string, arguments []string, out, said io.Writer) int {
 		err = listStore(s, out)
 	}
 	if err != nil {
-		fmt.Fprintln(said, "gateway:", err)
+		fmt.Fprintln(said, "resb-gateway:", err)
 		return 1
 	}
 	return 0

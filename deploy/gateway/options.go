@@ -141,7 +141,7 @@ func (s *settings) flags() *flag.FlagSet {
 	f := flag.NewFlagSet("gateway", flag.ContinueOnError)
 	f.Usage = func() {
 		others := strings.ReplaceAll(operatorUsage+tokenUsage, "usage:", "      ")
-		fmt.Fprintf(f.Output(), "usage: gateway OPTIONS\n%s\nOptions:\n", others)
+		fmt.Fprintf(f.Output(), "usage: resb-gateway OPTIONS\n%s\nOptions:\n", others)
 		f.PrintDefaults()
 	}
 	for _, one := range s.table() {

@@ -9,15 +9,15 @@ import (
 	"luvdregan.example/resb/deploy/internal/auth"
 )
 
-const tokenUsage = `usage: gateway token add -tokens FILE [-name NAME] [-expires TIME] APP RIGHTS
-       gateway token list -tokens FILE
-       gateway token revoke -tokens FILE NAME
+const tokenUsage = `usage: resb-gateway token add -tokens FILE [-name NAME] [-expires TIME] APP RIGHTS
+       resb-gateway token list -tokens FILE
+       resb-gateway token revoke -tokens FILE NAME
 APP may be as shop.* or shop/de; RIGHTS are read, write, own, or words as read,edit,release,erase; TIME is as 90d, 2027-01-31 or 2027-01-31T12:00:00Z; NAME may be 8 or more digits of the token's hash
 `
 
 // tokenCommand changes or lists a file of tokens, and returns the status. A gateway that runs reads the file again.
 func tokenCommand(arguments []string, out, errors io.Writer) int {
-	f := flag.NewFlagSet("gateway token", flag.ContinueOnError)
+	f := flag.NewFlagSet("resb-gateway token", flag.ContinueOnError)
 	f.SetOutput(errors)
 	f.Usage = func() { fmt.Fprint(errors, tokenUsage) }
 	file := f.String("tokens", "", "the `file` of tokens")
@@ -44,7 +44,7 @@ func tokenCommand(arguments []string, out, errors io.Writer) int {
 		return 2
 	}
 	if err != nil {
-		fmt.Fprintln(errors, "gateway:", err)
+		fmt.Fprintln(errors, "resb-gateway:", err)
 		return 1
 	}
 	return 0

@@ -1,6 +1,8 @@
 package api
 
 import (
+	"strings"
+
 	"luvdregan.example/resb/deploy/internal/replica"
 	"luvdregan.example/resb/deploy/internal/wire"
 )
@@ -8,8 +10,10 @@ import (
 // erase removes the bundles of the application and its history, if the query asks for it: for good, or until that is undone.
 func erase(c *call) error {
 	asked, is := c.Query["erase"]
-	if !is || len(asked) > 1 || asked[0] != "" && asked[0] != "true" && asked[0] != "now" {
-		return wire.BadQuery
+	if c.Note = strings.Join(asked, " "); !is || c.Note != "" && c.Note != "true" && c.Note != "now" {
+		p := wire.BadQuery
+		p.Message = "?erase erases until that is undone, ?erase=now for good"
+		return p
 	}
 	q := replica.Request{Op: "erase", Erase: true}
 	if asked[0] != "now" {

@@ -2,6 +2,7 @@ package api
 
 import (
 	"net/http"
+	"strings"
 	"time"
 
 	"luvdregan.example/resb/deploy/internal/auth"
@@ -61,6 +62,7 @@ func makeToken(c *call) error {
 	if locale := c.Query.Get("locale"); locale != "" {
 		where += "/" + locale
 	}
+	c.Note = strings.Join([]string{where, c.Query.Get("rights"), c.Query.Get("name")}, " ")
 	expires, err := auth.ParseExpiry(c.Query.Get("expires"), time.Now())
 	if err != nil {
 		problem.Message = err.Error()

@@ -69,6 +69,7 @@ type Call struct {
 	Ticket    limits.Ticket
 	Code      string // of a refusal
 	TokenID   string // of the token that a change makes or revokes
+	Note      string // what else a change asks for
 	Status    int
 	Sent      int // bytes of the reply
 
@@ -184,6 +185,10 @@ func (c *Call) application() error {
 		may = c.Who.May(c.App, locale, c.began)
 	}
 	c.Operation = do
+	if do.Action != "" && locale != "" {
+		locale, _, _ := wire.FormOf(locale)
+		c.Asked(locale, nil)
+	}
 	switch {
 	case !c.known:
 		c.W.Header().Set("WWW-Authenticate", `Bearer realm="resb"`)

@@ -36,7 +36,8 @@ type audited struct {
 	Path   string `json:"path,omitempty"` // of a request that is no operation
 	Action string `json:"action"`
 	Locale string `json:"locale,omitempty"`
-	ID     string `json:"id,omitempty"` // of a token that is made or revoked
+	ID     string `json:"id,omitempty"`   // of a token that is made or revoked
+	Note   string `json:"note,omitempty"` // what ?erase= asks for; the application, rights and name of a token
 	Bytes  int    `json:"bytes,omitempty"`
 	SHA256 string `json:"sha256,omitempty"`
 	Result string `json:"result"`
@@ -102,7 +103,7 @@ func (c *Call) logAudit(now time.Time) {
 	}
 	for _, line := range c.edits {
 		line.Time, line.From, line.Token = now.UTC().Format(time.RFC3339Nano), wire.Caller(c.R, c.Options.Proxies), c.name()
-		line.App, line.Path, line.Action, line.Result, line.ID = clip(c.App), path, action, c.Code, clip(c.TokenID)
+		line.App, line.Path, line.Action, line.Result, line.ID, line.Note = clip(c.App), path, action, c.Code, clip(c.TokenID), clip(c.Note)
 		if line.Result == "" {
 			line.Result = "ok"
 		}

@@ -149,6 +149,11 @@ func (m *Metrics) Gauge(name, help string, value func() float64) {
 	m.registry.MustRegister(prometheus.NewGaugeFunc(prometheus.GaugeOpts{Name: "resb_" + name, Help: help}, value))
 }
 
+// Counter adds a metric that only grows, whose value is asked for when it is read.
+func (m *Metrics) Counter(name, help string, value func() float64) {
+	m.registry.MustRegister(prometheus.NewCounterFunc(prometheus.CounterOpts{Name: "resb_" + name, Help: help}, value))
+}
+
 // Connect counts a connection that was opened or closed, and returns how many there are.
 func (m *Metrics) Connect(more int64) int64 { return atomic.AddInt64(&m.connections, more) }
 
@@ -164,6 +169,19 @@ func (m *Metrics) count(of Kind, status int, took time.Duration) {
 func (c *Call) measured() error {
 	c.NoStore()
 	c.Status = http.StatusOK
-	promhttp.HandlerFor(c.Metrics.registry, promhttp.HandlerOpts{}).ServeHTTP(c.W, c.R)
+	promhttp.HandlerFor(c.Metrics.registry, promhttp.HandlerOpts{}).ServeHTTP(counting{c.W, &c.Sent}, c.R)
 	return nil
+}
+
+// A counting writer counts the bytes of a body.
+type counting struct {
+	http.ResponseWriter
+	sent *int
+}
+
+// Write writes a part of the body.
+func (w counting) Write(b []byte) (n int, err error) {
+	n, err = w.ResponseWriter.Write(b)
+	*w.sent += n
+	return n, err
 }

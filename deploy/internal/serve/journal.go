@@ -80,13 +80,25 @@ func (j *Journal) write() {
 // CanAppend returns an error if OpenJournal couldn't open a file. It makes none.
 func CanAppend(path string) error {
 	info, err := os.Stat(path)
-	how := uint32(2) // access(2): writing
 	switch {
 	case errors.Is(err, fs.ErrNotExist):
-		path, how = filepath.Dir(path), how|1
+		return CanMake(path)
 	case err == nil && !info.Mode().IsRegular():
 		return fmt.Errorf("%s: not a regular file", path)
 	}
+	return access(path, mayWrite)
+}
+
+// CanMake returns an error if no file can be made or removed in the folder of a path.
+func CanMake(path string) error { return access(filepath.Dir(path), mayWrite|mayEnter) }
+
+// The rights that access(2) knows.
+const (
+	mayEnter = 1
+	mayWrite = 2
+)
+
+func access(path string, how uint32) error {
 	if err := syscall.Access(path, how); err != nil {
 		return &fs.PathError{Op: "write to", Path: path, Err: err}
 	}

@@ -219,6 +219,14 @@ func TestCommandsOfRoot(t *testing.T) {
 		errorIf(t, failed != nil || info.Sys().(*syscall.Stat_t).Uid != user, "%s doesn't belong to the user", path)
 		return err
 	}))
+	// a folder of root, as /etc/resb is
+	theirs := t.TempDir()
+	must(t, os.Chmod(theirs, 0o755))
+	must(t, os.WriteFile(filepath.Join(theirs, "tokens"), nil, 0o644))
+	asUser := exec.Command("setpriv", "--reuid=12345", "--regid=12345", "--clear-groups", harness.Program(t), "-check-config", "-tokens",
+		filepath.Join(theirs, "tokens"), "-add-tokens", tokens, "-state", state)
+	said, _ := asUser.CombinedOutput()
+	equal(t, string(said), "resb-gateway: -add-tokens: write to "+theirs+": permission denied\n")
 	g := harness.New(t, harness.Setup{Folder: filepath.Dir(state)}) // writes into the file of tokens
 	g.Args = append([]string{"setpriv", "--reuid=12345", "--regid=12345", "--clear-groups"}, g.Args...)
 	g.Start()

@@ -248,6 +248,17 @@ func TestEachRefusedChange(t *testing.T) {
 	for _, line := range journal(t, audit)[before:] {
 		got = append(got, fmt.Sprint(line["from"], " ", line["action"], " ", line["result"]))
 	}
+	var locales, notes []string
+	for _, line := range journal(t, audit) {
+		if line["result"] == "Unauthorized" || line["result"] == "Forbidden" {
+			locales = append(locales, fmt.Sprint(line["locale"]))
+		}
+		if line["note"] != nil {
+			notes = append(notes, fmt.Sprint(line["note"]))
+		}
+	}
+	sort.Strings(locales)
+	equal(t, [][]string{locales, notes}, [][]string{{"<nil>", "de", "de", "de"}, {"no"}})
 	sort.Strings(want)
 	sort.Strings(got)
 	equal(t, strings.Join(got, "\n"), strings.Join(want, "\n"))

@@ -111,7 +111,7 @@ func TestErrorsOfTheConfiguration(t *testing.T) {
 			file := filepath.Join(t.TempDir(), "gateway.json")
 			named := strings.NewReplacer("DIR", dir, "THIS", file)
 			must(t, os.WriteFile(file, []byte(named.Replace(text)), 0o600))
-			want = "gateway: " + file + ": " + named.Replace(strings.TrimPrefix(want, "file: "))
+			want = "resb-gateway: " + file + ": " + named.Replace(strings.TrimPrefix(want, "file: "))
 			status, said := starts(t, "-check-config", "-config", file)
 			errorIf(t, status != 2 || !strings.HasPrefix(said, want), "%s: -check-config: status %d: %s, and not %s", text, status, said, want)
 			status, again := starts(t, "-config", file)
@@ -467,7 +467,9 @@ func TestBackups(t *testing.T) {
 	}
 	s.is("de/a", "later")
 	must(t, os.WriteFile(file, []byte("no copy"), 0o600))
-	command(t, 1, "", "restore", "-state", filepath.Join(folder, "third"), "--", file)
+	text := command(t, 1, "what is stored is damaged", "restore", "-state", filepath.Join(folder, "third"), "--", file)
+	_, err := os.Stat(filepath.Join(folder, "third"))
+	errorIf(t, err == nil || strings.Contains(text, "restore a backup"), "a refused copy leaves a folder: %v, %s", err, text)
 	command(t, 2, "usage:", "restore", "-state", folder)
 }
 
@@ -545,7 +547,7 @@ func TestTheLoginOfEtcd(t *testing.T) {
 			command(t, 0, "can be used", "-check-config", "-config", file)
 			continue
 		}
-		said := command(t, 2, "gateway: "+file+": "+of.want, "-check-config", "-config", file)
+		said := command(t, 2, "resb-gateway: "+file+": "+of.want, "-check-config", "-config", file)
 		status, again := starts(t, "-config", file)
 		errorIf(t, status != 1 || again != said, "a start: status %d: %s, and not %s", status, again, said)
 	}

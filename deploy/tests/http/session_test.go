@@ -229,10 +229,16 @@ func TestAlertRules(t *testing.T) {
 		errorIf(t, strings.Count(string(tried), "alertname: "+alert[1]) != 2, "%s isn't tried", alert[1])
 	}
 	errorIf(t, len(names) < 15 || len(alerts) < 15, "%d names, %d alerts", len(names), len(alerts))
+	metrics, err := harness.Send(harness.Client, "GET", s.Inside+"/metrics", "", "")
+	must(t, err)
 	promtool, err := exec.LookPath("promtool")
 	if err != nil {
 		t.Skip("skipped: promtool (Debian's prometheus) isn't there")
 	}
 	text, err := exec.Command(promtool, "test", "rules", "testdata/alerts.yml").CombinedOutput()
+	errorIf(t, err != nil, "%v: %s", err, text)
+	check := exec.Command(promtool, "check", "metrics")
+	check.Stdin = strings.NewReader(metrics.Body)
+	text, err = check.CombinedOutput()
 	errorIf(t, err != nil, "%v: %s", err, text)
 }

@@ -8,6 +8,8 @@ import (
 	"path/filepath"
 	"syscall"
 	"time"
+
+	"luvdregan.example/resb/deploy/internal/store"
 )
 
 // ErrExists is the error of a copy that would replace something.
@@ -32,6 +34,9 @@ func Backup(folder, file string) (Summary, error) {
 		}
 	}
 	sum, err := copyDatabase(path, "mode=rw&_busy_timeout=60000", file)
+	if errors.Is(err, store.ErrDamaged) {
+		err = fmt.Errorf("%w; restore a backup", err)
+	}
 	if err == nil {
 		noteBackup(folder)
 	}
@@ -48,8 +53,22 @@ func noteBackup(folder string) {
 	}
 }
 
-// Restore makes the store of a folder that has none from a copy, which it checks.
-func Restore(folder, file string) (Summary, error) {
+// Restore makes the store of a folder that has none from a copy, which it checks before. If it fails it leaves nothing.
+func Restore(folder, file string) (sum Summary, err error) {
+	if err := checkCopy(file); err != nil {
+		return sum, fmt.Errorf("%s: %w", file, err)
+	}
+	path := filepath.Join(folder, locked)
+	_, hadFolder := os.Stat(folder)
+	_, hadLock := os.Stat(path)
+	defer func() {
+		if err != nil && hadLock != nil {
+			_ = os.Remove(path)
+		}
+		if err != nil && hadFolder != nil {
+			_ = os.Remove(folder)
+		}
+	}()
 	if err := makeFolder(folder); err != nil {
 		return Summary{}, err
 	}
@@ -64,6 +83,20 @@ func Restore(folder, file string) (Summary, error) {
 		}
 	}
 	return copyDatabase(file, "mode=ro&immutable=1", filepath.Join(folder, database))
+}
+
+// checkCopy returns an error if a copy is damaged.
+func checkCopy(file string) error {
+	if _, err := os.Stat(file); err != nil {
+		return err
+	}
+	db, err := openDatabase(file, "mode=ro&immutable=1")
+	if err != nil {
+		return err
+	}
+	defer db.Close()
+	_, err = check(db, true)
+	return err
 }
 
 // copyDatabase copies a database at one moment into a file that must not exist. The file gets its name once it was checked, with the history, and

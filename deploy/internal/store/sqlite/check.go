@@ -86,7 +86,7 @@ func damaged(err error) error {
 	if errors.Is(err, store.ErrDamaged) {
 		return err
 	}
-	return fmt.Errorf("%w: %v; restore a backup", store.ErrDamaged, err)
+	return fmt.Errorf("%w: %v", store.ErrDamaged, err)
 }
 
 func rowDamaged(table string, err error, key ...any) error {

@@ -110,7 +110,7 @@ func Open(o Options) (*Store, error) {
 func Look(o Options) error {
 	_, err := os.Stat(o.Folder)
 	if err != nil && !o.Create {
-		return fmt.Errorf("%w: %v", ErrMissing, err)
+		return fmt.Errorf("%w: %v; -init makes an empty one", ErrMissing, err)
 	}
 	if err := takesFiles(filepath.Clean(o.Folder)); err != nil {
 		return err
@@ -164,7 +164,7 @@ func takeLock(folder string) (*os.File, error) {
 	}
 	if err := syscall.Flock(int(lock.Fd()), syscall.LOCK_EX|syscall.LOCK_NB); err != nil {
 		_ = lock.Close()
-		return nil, fmt.Errorf("%s: another gateway has this folder", path)
+		return nil, fmt.Errorf("%s: another gateway has this folder; stop it first", path)
 	}
 	return lock, own(folder, path)
 }
@@ -200,7 +200,7 @@ func (s *Store) open() error {
 		found, err = check(s.reader, false)
 	}
 	if err != nil {
-		return fmt.Errorf("%s: %w", path, damaged(err))
+		return fmt.Errorf("%s: %w; restore a backup", path, damaged(err))
 	}
 	s.state = found.state
 	for _, of := range found.damaged {
