@@ -155,6 +155,6 @@ func asksThrough(t *testing.T, ask func(method, path, body string, headers ...st
 		is(ask("GET", "/v1/shop/de.txt", "", "If-None-Match", tag, "Accept-Encoding", taken), 304, "")
 		is(ask("PUT", "/v1/shop/de.txt", text, "If-Match", tag), 200, "")
 	}
-	is(ask("PUT", "/v1/shop/de.txt", text, "If-Match", `"x"`), 412, "PreconditionFailed")
+	is(ask("PUT", "/v1/shop/de.txt", "de{}", "If-Match", `"x"`), 412, "PreconditionFailed")
 	is(ask("DELETE", "/v1/shop/de", "", "If-Match", "*"), 200, "")
 }
