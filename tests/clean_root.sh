@@ -188,8 +188,13 @@ remove_packages() {
     left=$(for file in $files; do [ -d "$root$file" ] && [ ! -L "$root$file" ] || [ ! -e "$root$file" ] || echo "$file"; done)
     if [ -n "$left" ] || [ -e "$root$lib" ] || [ -e "$root$docs" ]; then fail "still there: $left"; fi
     [ -f "$root/root/.local/state/resb/single/manifests.db" ] || fail 'the bundles are gone'
+    # as `systemctl enable` leaves it where no systemd runs
+    local link=$root/etc/systemd/system/multi-user.target.wants/resb-gateway.service
+    mkdir -p "$(dirname "$link")"
+    ln -sf /lib/systemd/system/resb-gateway.service "$link"
     quietly in_root "$root" / 'dpkg --purge resb-gateway resb'
     [ ! -e "$root/etc/resb" ] || fail 'the purge leaves /etc/resb'
+    [ ! -L "$link" ] || fail 'the purge leaves the link of the enabled unit'
     say 'the packages are removed, and the bundles stay'
     quietly in_root "$root" /packages/new "$(sed -n 's/^    \(for archive in .*\)/\1/p' "$top/docs/INSTALL.md")"
     serve in_root "$root" /usr/local/lib/resb-gateway 'exec deploy/single shop'
