@@ -115,7 +115,7 @@ class Folder:
 
 def run(program, does, options, work):
     """Reads the command line, and does the work with the options and the folder. Returns the status."""
-    parser = argparse.ArgumentParser(prog=program, description=does)
+    parser = argparse.ArgumentParser(prog=program, description=does, epilog="The variable RESB_TOKEN has the token.")
     for name, meaning in options.items():
         parser.add_argument("--" + name, action="store_true", help=meaning)
     parser.add_argument("dir", metavar="DIR")

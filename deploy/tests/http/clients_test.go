@@ -202,6 +202,7 @@ func TestAFolderAndATranslator(t *testing.T) {
 	f := &folder{beside(t), t.TempDir()}
 	f.write("de.txt", "de{\n a{\"A\"}\n}\n")
 	f.write("fr-ca.txt", "fr_CA{}")
+	f.run(0, "resb-put --help", "RESB_TOKEN")
 	f.run(0, "resb-put --dry-run", "de.txt\nfr-ca.txt\n")
 	f.names()
 	f.run(0, "resb-put", "2 of 2 bundles differed\n")
