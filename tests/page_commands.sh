@@ -245,7 +245,7 @@ if [ -x "$gateway" ]; then
     fresh
     ln -s "$gateway" "$made/bin/resb-gateway"
     : >tokens
-    runs 'deploy/OPERATIONS: tokens' "$(block deploy/OPERATIONS.md Tokens)"
+    runs 'deploy/OPERATIONS: tokens' "$(block deploy/OPERATIONS.md Tokens | sed 's#/etc/resb/##')"
     mkdir -p etc state && : >etc/tokens && cp /etc/ssl/certs/ca-certificates.crt etc/etcd-ca.pem
     openssl req -x509 -newkey ec -pkeyopt ec_paramgen_curve:P-256 -nodes -subj /CN=gateway -keyout etc/etcd.key -out etc/etcd.pem 2>/dev/null
     # its etcd isn't there
