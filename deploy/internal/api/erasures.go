@@ -1,9 +1,11 @@
 package api
 
 import (
+	"errors"
 	"strings"
 
 	"luvdregan.example/resb/deploy/internal/replica"
+	"luvdregan.example/resb/deploy/internal/store"
 	"luvdregan.example/resb/deploy/internal/wire"
 )
 
@@ -11,12 +13,10 @@ import (
 func erase(c *call) error {
 	asked, is := c.Query["erase"]
 	if c.Note = strings.Join(asked, " "); !is || c.Note != "" && c.Note != "true" && c.Note != "now" {
-		p := wire.BadQuery
-		p.Message = "?erase erases until that is undone, ?erase=now for good"
-		return p
+		return wire.BadQuery.With("?erase erases until that is undone, ?erase=now for good")
 	}
 	q := replica.Request{Op: "erase", Erase: true}
-	if asked[0] != "now" {
+	if c.Note != "now" {
 		q.Undoable = c.Options.EraseAfter
 	}
 	if _, _, err := change(c, q); err != nil {
@@ -27,7 +27,11 @@ func erase(c *call) error {
 
 // undoErase makes what the last erasure removed, except bundles that are there again.
 func undoErase(c *call) error {
-	if _, _, err := change(c, replica.Request{Op: "undo", Undo: true}); err != nil {
+	_, _, err := change(c, replica.Request{Op: "undo", Undo: true})
+	if errors.Is(err, store.ErrNoVersion) {
+		return wire.ProblemOf(err).With("there is no erasure that can still be undone")
+	}
+	if err != nil {
 		return err
 	}
 	return done(c, &replica.Edit{}, false, "")

@@ -21,7 +21,7 @@ const idDigits = 16
 
 // A madeToken describes a token of an application, but not the token itself unless it was made by this request.
 type madeToken struct {
-	By      string `json:"by,omitempty"` // the owner's token, by the first digits of its hash
+	By      string `json:"by,omitempty"` // the owner's token
 	Expires string `json:"expires,omitempty"`
 	ID      string `json:"id"`
 	Locale  string `json:"locale,omitempty"`
@@ -30,15 +30,12 @@ type madeToken struct {
 	Token   string `json:"token,omitempty"`
 }
 
-func madeTokenOf(line string) madeToken {
+func madeTokenOf(line string, of *auth.Tokens) madeToken {
 	g, err := auth.ParseLine(line)
 	if g == nil || err != nil {
 		return madeToken{}
 	}
-	m := madeToken{ID: g.Hash()[:idDigits], Locale: g.Locale, Name: g.Name, Rights: g.Right.String()}
-	if by := g.By(); by != "" {
-		m.By = by[:idDigits]
-	}
+	m := madeToken{By: of.MakerOf(g), ID: g.Hash()[:idDigits], Locale: g.Locale, Name: g.Name, Rights: g.Right.String()}
 	if !g.Expires.IsZero() {
 		m.Expires = g.Expires.UTC().Format(time.RFC3339)
 	}
@@ -51,35 +48,34 @@ func listTokens(c *call) error {
 	c.W.Header()["Resb-Revision"] = now.Header()
 	all := make([]madeToken, len(now.Tokens))
 	for i, line := range now.Tokens {
-		all[i] = madeTokenOf(line)
+		all[i] = madeTokenOf(line, c.Tokens)
 	}
 	return c.Reply(map[string][]madeToken{"tokens": all})
 }
 
 // makeToken makes a token as the query says, and answers with it.
 func makeToken(c *call) error {
-	where, problem := c.App, wire.BadQuery
+	where := c.App
 	if locale := c.Query.Get("locale"); locale != "" {
 		where += "/" + locale
 	}
 	c.Note = strings.Join([]string{where, c.Query.Get("rights"), c.Query.Get("name")}, " ")
 	expires, err := auth.ParseExpiry(c.Query.Get("expires"), time.Now())
 	if err != nil {
-		problem.Message = err.Error()
-		return problem
+		return wire.BadQuery.With(err.Error())
 	}
 	token, line, err := auth.Make(where, c.Query.Get("rights"), c.Query.Get("name"), expires)
 	if err != nil {
-		problem.Message = err.Error()
-		return problem
+		return wire.BadQuery.With(err.Error())
 	}
-	made := madeTokenOf(auth.MadeBy(line, c.Who))
+	made := madeTokenOf(auth.MadeBy(line, c.Who), c.Tokens)
 	c.TokenID, made.Token = made.ID, token
+	c.Asked(made.Locale, nil)
 	_, _, err = change(c, replica.Request{Op: "token", Tokens: func(now []string) ([]string, string) {
 		switch {
 		case len(now) >= mostTokens:
 			return nil, manifest.Full
-		case made.Name != "" && findToken(now, func(m madeToken) bool { return m.Name == made.Name }) >= 0:
+		case made.Name != "" && findToken(c, now, func(m madeToken) bool { return m.Name == made.Name }) >= 0:
 			return nil, manifest.Exists
 		}
 		return append(now[:len(now):len(now)], auth.MadeBy(line, c.Who)), ""
@@ -92,9 +88,9 @@ func makeToken(c *call) error {
 }
 
 // findToken returns which line is the first that a function accepts, or -1.
-func findToken(lines []string, is func(madeToken) bool) int {
+func findToken(c *call, lines []string, is func(madeToken) bool) int {
 	for i, line := range lines {
-		if is(madeTokenOf(line)) {
+		if is(madeTokenOf(line, c.Tokens)) {
 			return i
 		}
 	}
@@ -105,7 +101,7 @@ func findToken(lines []string, is func(madeToken) bool) int {
 func revokeToken(c *call) error {
 	c.TokenID = c.Parts[1]
 	_, _, err := change(c, replica.Request{Op: "revoke", Tokens: func(now []string) ([]string, string) {
-		at := findToken(now, func(m madeToken) bool { return m.ID == c.TokenID })
+		at := findToken(c, now, func(m madeToken) bool { return m.ID == c.TokenID })
 		if at < 0 {
 			return nil, manifest.Absent
 		}

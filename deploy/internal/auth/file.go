@@ -55,10 +55,13 @@ func lineOf(token, where, rights, name string, expires time.Time) (string, error
 	if len(strings.Fields(where)) != 1 || strings.HasPrefix(where, "#") {
 		return "", fmt.Errorf("%q is no application's name", where)
 	}
-	text := fmt.Sprintf("%s %s %x", where, rights, sha256.Sum256([]byte(token)))
-	if name != "" && !isApp(name) {
-		return "", fmt.Errorf("%.80q is no name", name)
+	if parseRight(rights) == 0 {
+		return "", fmt.Errorf("rights %q: they are read, write, own, or words out of read, edit, release, erase with commas between them", rights)
 	}
+	if name != "" && !isApp(name) {
+		return "", noName(name)
+	}
+	text := fmt.Sprintf("%s %s %x", where, rights, sha256.Sum256([]byte(token)))
 	if name != "" {
 		text += " name=" + name
 	}

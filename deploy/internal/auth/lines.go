@@ -43,14 +43,6 @@ func (g *Grant) isFor(given string) bool {
 // Hash returns the digest in hexadecimal.
 func (g *Grant) Hash() string { return hex.EncodeToString(g.digest[:]) }
 
-// By returns the hash of the owner's token that made this one, or "".
-func (g *Grant) By() string {
-	if g.by == g.digest {
-		return ""
-	}
-	return hex.EncodeToString(g.by[:])
-}
-
 // mostApp is the most bytes of an application's name.
 const mostApp = 64
 
@@ -134,6 +126,10 @@ func parseHash(text string) (d digest, err error) {
 	return d, err
 }
 
+func noName(text string) error {
+	return fmt.Errorf("%.80q is no name: one has up to %d letters, digits, full stops, hyphens and underscores", text, mostApp)
+}
+
 // set reads what may follow the hash.
 func (g *Grant) set(word string) (err error) {
 	key, value, _ := strings.Cut(word, "=")
@@ -143,7 +139,7 @@ func (g *Grant) set(word string) (err error) {
 	case key == "by":
 		g.by, err = parseHash(value)
 	case key == "name" && !isApp(value):
-		err = fmt.Errorf("%.80q is no name", value)
+		err = noName(value)
 	case key == "name":
 		g.Name = value
 	default:

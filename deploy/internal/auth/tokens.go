@@ -272,6 +272,14 @@ func (t *Tokens) Maker(h Holder) Holder {
 	return h
 }
 
+// MakerOf returns the name of the owner whose token made the one of a line, or the first digits of its hash if the file doesn't have it; or "".
+func (t *Tokens) MakerOf(g *Grant) string {
+	if g.by == g.digest {
+		return ""
+	}
+	return t.Maker(Holder{by: g.by, digest: g.by}).Name()
+}
+
 // Bad returns 1 if the file could not be read again, or has a wrong line, else 0.
 func (t *Tokens) Bad() int32 {
 	if t.isBad.Load() {

@@ -27,6 +27,12 @@ type Problem struct {
 
 func (p Problem) Error() string { return p.Code }
 
+// With returns the problem with a message.
+func (p Problem) With(message string) Problem {
+	p.Message = message
+	return p
+}
+
 // Codes are those of each status. Lookups and changes have others too, which are 400.
 var Codes = map[int][]string{
 	http.StatusBadRequest: {"AliasPackage", "AliasText", "BadFile", "BadLength", "BadLocale", "BadParent", "BadPatch", "BadPath", "BadQuery", "BadRelease",

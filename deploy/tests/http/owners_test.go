@@ -100,15 +100,19 @@ func TestOwnersMakeTokens(t *testing.T) {
 		return listed.Tokens
 	}
 	if all := list(); len(all) != 2 || all[0].Name != "app" || all[0].Rights != "read" || all[0].Expires == "" || all[0].ID != reads.ID || all[1].Locale != "de_AT" ||
-		all[1].Rights != "read,edit" || len(all[1].By) != 16 {
+		all[1].Rights != "read,edit" || len(all[1].By) != 8 {
 		t.Errorf("%+v", all)
 	}
 	equal(t, s.past("?locale=de_AT")[0].Token, "anna")
-	for query, want := range map[string]string{"": "BadQuery", "rights=sing": "BadQuery", "rights=read&name=a%20b": "BadQuery", "rights=read&name=a%20expires=2090-01-01": "BadQuery", "rights=read&locale=d": "BadQuery", "rights=own&locale=de": "BadQuery",
-		"rights=read&expires=2001-01-01": "BadQuery", "rights=read&expires=soon": "BadQuery", "rights=read&name=app": "Exists", "rights=read%20x": "BadQuery"} {
-		if got := s.ask("POST", "/v1/shop/_tokens?"+query, shopOwner, ""); got.Error() != want {
+	for query, want := range map[string]string{"": "rights", "right=read": "rights", "rights=sing": "\"sing\\\"", "rights=read%20x": "rights", "rights=read&name=a%20b": "is no name: one has",
+		"rights=read&name=a%20expires=2090-01-01": "is no name: one has", "rights=read&locale=d": "no locale's name", "rights=own&locale=de": "the owner",
+		"rights=read&expires=2001-01-01": "is past", "rights=read&expires=soon": "no time"} {
+		if got := s.ask("POST", "/v1/shop/_tokens?"+query, shopOwner, ""); got.Error() != "BadQuery" || !strings.Contains(got.Body, want) {
 			t.Errorf("%q: %d %s", query, got.Status, got.Body)
 		}
+	}
+	if got := s.ask("POST", "/v1/shop/_tokens?rights=read&name=app", shopOwner, ""); got.Status != 409 || got.Error() != "Exists" {
+		t.Errorf("%d %s", got.Status, got.Body)
 	}
 	for _, other := range []string{shopWrites, reads.Token, bankWrites} {
 		equal(t, status("POST", "/v1/shop/_tokens?rights=read", other), 403, other)
@@ -130,7 +134,8 @@ func TestOwnersMakeTokens(t *testing.T) {
 		t.Errorf("%d %s", got.Status, got.Body)
 	}
 	lines, _ := os.ReadFile(audit)
-	if text := string(lines); !strings.Contains(text, `"action":"token","id":"`+reads.ID) || !strings.Contains(text, `"action":"revoke","id":"`+reads.ID) || strings.Contains(text, reads.Token) {
+	if text := string(lines); !strings.Contains(text, `"action":"token","id":"`+reads.ID+`","note":"shop read app"`) ||
+		!strings.Contains(text, `"action":"token","locale":"de_AT","id":"`+edits.ID+`","note":"shop/de-at read,edit anna"`) || !strings.Contains(text, `"action":"revoke","id":"`+reads.ID) || strings.Contains(text, reads.Token) {
 		t.Errorf("%.3000s", text)
 	}
 	must(t, os.WriteFile(s.Tokens, []byte(harness.TokenLine("shop", "own", shopOwner)), 0o600))
@@ -193,7 +198,7 @@ func TestAnErasureIsUndone(t *testing.T) {
 		}
 		return got
 	}
-	undo(404, "NoVersion")
+	errorIf(t, !strings.Contains(undo(404, "NoVersion").Body, "no erasure"), "no message")
 	long := harness.Noise(20000)
 	s.put("de", `de{a{"earlier-secret"}}`)
 	tag := s.put("de", `de{a{"A"}}`).Tag()
