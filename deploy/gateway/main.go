@@ -165,6 +165,8 @@ func newGateway(leaving context.Context, s settings, p parts) (g *gateway, err e
 	g.Handler = api.New(&front.Handler{Backend: replica.Open(of, p.engine, s.replica), Engine: p.engine, Tokens: p.tokens,
 		Convert: convert.New(s.program, conversions), Options: options})
 	g.Metrics.Counter("log_lines_dropped_total", "Lines of logs that were left out, as nobody took them.", serve.Dropped)
+	g.Metrics.Gauge("certificate_expiry_timestamp_seconds", "When the certificate expires, in seconds since 1970, or 0 without one.", p.pair.Expires)
+	g.Metrics.Gauge("certificate_bad", "1 if the files of the certificate can't be read again.", p.pair.Bad)
 	g.Metrics.Gauge("log_lines_waiting", "Lines of logs that wait to be written.", serve.Queued)
 	return g, nil
 }

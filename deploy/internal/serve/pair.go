@@ -2,6 +2,7 @@ package serve
 
 import (
 	"crypto/tls"
+	"crypto/x509"
 	"fmt"
 	"log"
 	"reflect"
@@ -15,6 +16,7 @@ type Pair struct {
 	cert, key string // the files
 	now       atomic.Pointer[tls.Certificate]
 	failed    string // why the files could not be read again, or empty
+	isBad     atomic.Bool
 }
 
 // OpenPair reads the files; without files there is no pair.
@@ -34,8 +36,25 @@ func (p *Pair) read() (isNew bool, err error) {
 	if err != nil || last != nil && reflect.DeepEqual(pair.Certificate, last.Certificate) {
 		return false, err
 	}
+	pair.Leaf, err = x509.ParseCertificate(pair.Certificate[0])
 	p.now.Store(&pair)
-	return true, nil
+	return true, err
+}
+
+// Expires returns when the certificate ends, in seconds since 1970, or 0 without one.
+func (p *Pair) Expires() float64 {
+	if p == nil {
+		return 0
+	}
+	return float64(p.now.Load().Leaf.NotAfter.Unix())
+}
+
+// Bad returns 1 if the files could not be read again, else 0.
+func (p *Pair) Bad() float64 {
+	if p != nil && p.isBad.Load() {
+		return 1
+	}
+	return 0
 }
 
 // Again reads the files again. If they don't fit each other the earlier ones stay, and the files are read once more the next time: one of them
@@ -45,6 +64,7 @@ func (p *Pair) Again() {
 		return
 	}
 	isNew, err := p.read()
+	p.isBad.Store(err != nil)
 	switch {
 	case err != nil && p.failed != err.Error():
 		log.Printf("certificates: %v; the earlier ones stay", err)

@@ -317,6 +317,8 @@ func TestTLS(t *testing.T) {
 	if got, err := get(); err != nil || got.StatusCode != 200 {
 		t.Errorf("with a wrong certificate in the file: %v", err)
 	}
+	ends := s.measured()["resb_certificate_expiry_timestamp_seconds"]
+	errorIf(t, s.measured()["resb_certificate_bad"] != 1 || ends < float64(time.Now().Unix()) || ends > float64(time.Now().Unix()+3600), "%v %v", ends, s.measured())
 	<-ended
 }
 
