@@ -1,6 +1,7 @@
 package api
 
 import (
+	"fmt"
 	"net/http"
 	"strings"
 	"time"
@@ -53,8 +54,16 @@ func listTokens(c *call) error {
 	return c.Reply(map[string][]madeToken{"tokens": all})
 }
 
+// tokenQuery has what the query of a new token may say.
+var tokenQuery = map[string]bool{"rights": true, "name": true, "locale": true, "expires": true, "after": true}
+
 // makeToken makes a token as the query says, and answers with it.
 func makeToken(c *call) error {
+	for name, values := range c.Query {
+		if !tokenQuery[name] || len(values) > 1 { // a token with a wrong `expire` would never expire
+			return wire.BadQuery.With(fmt.Sprintf("%.80q isn't asked for, or is there twice", name))
+		}
+	}
 	where := c.App
 	if locale := c.Query.Get("locale"); locale != "" {
 		where += "/" + locale

@@ -104,7 +104,7 @@ func TestOwnersMakeTokens(t *testing.T) {
 		t.Errorf("%+v", all)
 	}
 	equal(t, s.past("?locale=de_AT")[0].Token, "anna")
-	for query, want := range map[string]string{"": "rights", "right=read": "rights", "rights=sing": "\"sing\\\"", "rights=read%20x": "rights", "rights=read&name=a%20b": "is no name: one has",
+	for query, want := range map[string]string{"": "rights", "right=read": "right", "rights=read&expire=90d": "expire", "rights=read&rights=edit": "twice", "rights=sing": "\"sing\\\"", "rights=read%20x": "rights", "rights=read&name=a%20b": "is no name: one has",
 		"rights=read&name=a%20expires=2090-01-01": "is no name: one has", "rights=read&locale=d": "no locale's name", "rights=own&locale=de": "the owner",
 		"rights=read&expires=2001-01-01": "is past", "rights=read&expires=soon": "no time"} {
 		if got := s.ask("POST", "/v1/shop/_tokens?"+query, shopOwner, ""); got.Error() != "BadQuery" || !strings.Contains(got.Body, want) {
