@@ -57,11 +57,11 @@ func listTokens(c *call) error {
 // tokenQuery has what the query of a new token may say.
 var tokenQuery = map[string]bool{"rights": true, "name": true, "locale": true, "expires": true, "after": true}
 
-// makeToken makes a token as the query says, and answers with it.
-func makeToken(c *call) error {
+// newToken makes the token that the query describes, with its line.
+func newToken(c *call) (token, line string, err error) {
 	for name, values := range c.Query {
 		if !tokenQuery[name] || len(values) > 1 { // a token with a wrong `expire` would never expire
-			return wire.BadQuery.With(fmt.Sprintf("%.80q isn't asked for, or is there twice", name))
+			return "", "", fmt.Errorf("%.80q isn't asked for, or is there twice", name)
 		}
 	}
 	where := c.App
@@ -70,14 +70,19 @@ func makeToken(c *call) error {
 	}
 	c.Note = strings.Join([]string{where, c.Query.Get("rights"), c.Query.Get("name")}, " ")
 	expires, err := auth.ParseExpiry(c.Query.Get("expires"), time.Now())
+	if err == nil {
+		token, line, err = auth.Make(where, c.Query.Get("rights"), c.Query.Get("name"), expires)
+	}
+	return token, auth.MadeBy(line, c.Who), err
+}
+
+// makeToken makes a token as the query says, and answers with it.
+func makeToken(c *call) error {
+	token, line, err := newToken(c)
 	if err != nil {
 		return wire.BadQuery.With(err.Error())
 	}
-	token, line, err := auth.Make(where, c.Query.Get("rights"), c.Query.Get("name"), expires)
-	if err != nil {
-		return wire.BadQuery.With(err.Error())
-	}
-	made := madeTokenOf(auth.MadeBy(line, c.Who), c.Tokens)
+	made := madeTokenOf(line, c.Tokens)
 	c.TokenID, made.Token = made.ID, token
 	c.Asked(made.Locale, nil)
 	_, _, err = change(c, replica.Request{Op: "token", Tokens: func(now []string) ([]string, string) {
@@ -87,7 +92,7 @@ func makeToken(c *call) error {
 		case made.Name != "" && findToken(c, now, func(m madeToken) bool { return m.Name == made.Name }) >= 0:
 			return nil, manifest.Exists
 		}
-		return append(now[:len(now):len(now)], auth.MadeBy(line, c.Who)), ""
+		return append(now[:len(now):len(now)], line), ""
 	}})
 	if err != nil {
 		return err
