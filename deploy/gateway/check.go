@@ -201,7 +201,9 @@ func isLocal(ip net.IP) bool {
 
 func (s *settings) checkLogs(*parts) error {
 	for _, one := range s.files() {
-		if one.use == appends {
+		_, err := os.Stat(s.state)
+		isMade := err != nil && s.create && s.state != "" && isSame(filepath.Dir(one.path), s.state) // with the store
+		if one.use == appends && !isMade {
 			if err := serve.CanAppend(one.path); err != nil {
 				return s.wrong(one.option, ": %w", err)
 			}

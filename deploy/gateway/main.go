@@ -143,21 +143,21 @@ type gateway struct {
 	audit     *serve.Journal
 }
 
-// newGateway opens the logs, and begins to follow the store.
+// newGateway opens the store and the logs, and begins to follow the store.
 func newGateway(leaving context.Context, s settings, p parts) (g *gateway, err error) {
 	g = &gateway{settings: s, leaving: leaving, refreshed: make(chan struct{})}
-	if g.access, err = serve.OpenJournal(s.accessLog); err != nil {
-		return nil, s.wrong("access-log", ": %w", err)
-	}
-	if g.audit, err = serve.OpenJournal(s.auditLog); err != nil {
-		return nil, s.wrong("audit-log", ": %w", err)
-	}
-	of, refusal, err := s.findStore()
+	of, refusal, err := s.findStore() // which may make the folder of the logs
 	if err != nil {
 		return nil, err
 	}
 	if refusal != nil {
 		log.Print(refusal)
+	}
+	if g.access, err = serve.OpenJournal(s.accessLog); err != nil {
+		return nil, s.wrong("access-log", ": %w", err)
+	}
+	if g.audit, err = serve.OpenJournal(s.auditLog); err != nil {
+		return nil, s.wrong("audit-log", ": %w", err)
 	}
 	options := s.options
 	options.Access, options.Audit = serve.JournalOf(g.access), serve.JournalOf(g.audit)

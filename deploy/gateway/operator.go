@@ -34,9 +34,11 @@ func operatorCommand(name string, arguments []string, out, said io.Writer) int {
 		one := all.Lookup(option)
 		f.Var(one.Value, option, one.Usage)
 	}
-	wants := map[string]int{"backup": 1, "restore": 1, "copy": 1, "export": 1}[name]
-	isEither := name == "list" || name == "export"
-	if f.Parse(arguments) != nil || f.NArg() != wants || s.state == "" && (s.etcd == "" || !isEither) || name == "copy" && s.etcd == "" {
+	if f.Parse(arguments) != nil {
+		return 2
+	}
+	if missing := s.missingFor(name, f.NArg()); missing != "" {
+		fmt.Fprintf(said, "resb-gateway %s: %s\n", name, missing)
 		f.Usage()
 		return 2
 	}
@@ -58,6 +60,20 @@ func operatorCommand(name string, arguments []string, out, said io.Writer) int {
 		return 1
 	}
 	return 0
+}
+
+// missingFor returns what a command with a number of arguments lacks, or "".
+func (s *settings) missingFor(name string, arguments int) string {
+	isEither := name == "list" || name == "export"
+	switch wants := map[string]int{"backup": 1, "restore": 1, "copy": 1, "export": 1}[name]; {
+	case arguments != wants:
+		return fmt.Sprintf("there are %d arguments in place of %d", arguments, wants)
+	case s.state == "" && (s.etcd == "" || !isEither):
+		return "-state is missing"
+	case name == "copy" && s.etcd == "":
+		return "-etcd is missing"
+	}
+	return ""
 }
 
 // report returns a function that writes what was copied, unless it failed.

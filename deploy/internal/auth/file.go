@@ -132,6 +132,7 @@ func (t *Tokens) Keep() error {
 		return nil
 	}
 	err := edit(t.path, func(content []byte) ([]byte, error) { return join(content, t.added), nil })
+	t.isBad.Store(err != nil)
 	if err == nil {
 		t.added = nil
 		t.reload(true)

@@ -158,9 +158,15 @@ func TestCheckConfig(t *testing.T) {
 	check(2, "nowhere", "-listen", "nowhere")
 	check(2, "tls", "-cert", wrong, "-key", wrong)
 	check(2, "-each", "-each", "x")
+	check(0, "can be used", "-audit-log", filepath.Join(state, "audit")) // in a folder that the start makes
 	if _, err := os.Stat(state); !os.IsNotExist(err) {
 		t.Error("the folder of the state was made")
 	}
+	s := prepare(t)
+	s.Args = append(s.Args, "-audit-log", filepath.Join(s.State, "audit"))
+	s.Restart()
+	s.put("de", `de{a{"A"}}`)
+	eventually(t, "the change is logged", func() bool { return len(journal(t, filepath.Join(s.State, "audit"))) == 1 })
 	command(t, 0, "resb-gateway ", "-version")
 }
 
@@ -472,7 +478,8 @@ func TestBackups(t *testing.T) {
 	text := command(t, 1, "what is stored is damaged", "restore", "-state", filepath.Join(folder, "third"), "--", file)
 	_, err := os.Stat(filepath.Join(folder, "third"))
 	errorIf(t, err == nil || strings.Contains(text, "restore a backup"), "a refused copy leaves a folder: %v, %s", err, text)
-	command(t, 2, "usage:", "restore", "-state", folder)
+	command(t, 2, "resb-gateway restore: there are 0 arguments in place of 1\nusage:", "restore", "-state", folder)
+	command(t, 2, "resb-gateway backup: -state is missing\nusage:", "backup", file)
 }
 
 // TestExport writes each bundle as a text, in the form in which it was submitted or converted, which resb-put would send, and replaces nothing.
