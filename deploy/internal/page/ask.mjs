@@ -22,9 +22,12 @@ const choose = (question, yes, other, ...about) => new Promise((answer) => {
 /** Asks a question, and returns true if the answer is yes. */
 export const confirmed = async (question, yes) => (await choose(question, yes, "")) === "yes";
 
-/** Asks what to do about another's change, which some elements show. Returns "yes" to replace it, "other" to take it, or "no". */
-export const settle = async (gateway, locale, ...about) => {
-  const [last] = await gateway.history({ locale, last: 1 });
-  const who = last ? `${last.token || "Somebody"} changed ${locale} on ${new Date(last.at).toLocaleString()}` : `${locale} was changed`;
+/**
+ * Asks what to do about another's change of a bundle, or of the item at a path, which some elements show. Returns "yes" to replace it, "other" to take
+ * it, or "no".
+ */
+export const settle = async (gateway, locale, path, ...about) => {
+  const last = await gateway.lastChange(locale, path), what = path === null ? locale : `${path} of ${locale}`;
+  const who = last ? `${last.token || "Somebody"} changed ${what} on ${new Date(last.at).toLocaleString()}` : `${what} was changed`;
   return choose(`Not saved: ${who}, after you opened it.`, "Replace theirs by mine", "Take theirs", ...about);
 };

@@ -159,7 +159,7 @@ const explainConflict = async () => {
     nameInstalled();
     return say(at("message"), "good", `This text is installed as ${locale} already.`);
   }
-  const answer = await settle(gateway, locale, about);
+  const answer = await settle(gateway, locale, null, about);
   if (mine !== opens || answer !== "yes") say(at("message"), "warn", `${locale} isn't installed: another's change stays.`);
   if (mine !== opens || answer === "no") return;
   if (answer === "other") return show(now);

@@ -144,6 +144,26 @@ export class Gateway {
     return (await (await this.ask("GET", `${this.address("_history")}?${query}`)).json()).history;
   }
 
+  /** Returns the items that differ between the bundles after two changes, as {path, old, new}. */
+  async differences(from, to) {
+    return (await (await this.ask("GET", `${this.address("_history", String(from), "diff")}?with=${to}`)).json()).changes;
+  }
+
+  /** Returns the change that made a bundle, or the item at a path in it, what it is now, or undefined if no stored version says which it was. */
+  async lastChange(locale, path) {
+    const past = await this.history({ locale, last: path === null ? 1 : 1000 });
+    if (path === null) return past[0];
+    const kept = past.findIndex((change) => !change.kept), stored = kept < 0 ? past : past.slice(0, kept);
+    let same = 0, other = stored.length; // the item is what it is now after the change `same`, and not after `other`
+    while (other - same > 1) {
+      const middle = (same + other) >> 1, found = await this.differences(stored[middle].id, stored[0].id).catch(() => null);
+      if (found === null) return undefined;
+      if (found.some((item) => item.path === path)) other = middle;
+      else same = middle;
+    }
+    return other < stored.length || stored[same]?.op === "install" ? stored[same] : undefined;
+  }
+
   /** Returns the text of a bundle as it was after a change. */
   async version(id) {
     return whole(await this.ask("GET", this.address("_history", id + ".txt")));

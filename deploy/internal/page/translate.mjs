@@ -104,7 +104,7 @@ const save = async (row) => {
   if (draft === null) return true;
   const { text, was } = draft;
   if (theirs !== was && theirs !== text) {
-    const answer = await settle(of.gateway, of.target, threeOf(of.target, was, theirs, text));
+    const answer = await settle(of.gateway, of.target, row.path, threeOf(of.target, was, theirs, text));
     if (answer !== "no") row.keep(answer === "yes" ? { text, was: theirs } : null);
     return answer !== "no" && save(row);
   }

@@ -116,3 +116,19 @@ globalThis.fetch = async () => {
 const asked = new Gateway("shop", "token");
 check((await asked.names())[0] === "de" && answers.length === 2, "asked again");
 check((await asked.names().catch((refused) => refused)).code === "NotKept" && answers.length === 1, "refused");
+
+// the change that made an item what it is now, in histories of up to 40 versions of which the oldest may not be stored
+for (let n = 0; n < 300; n++) {
+  const total = 1 + random(40), changed = random(total), stored = 1 + random(total), begins = random(2) === 0;
+  const past = Array.from({ length: total }, (_, i) => ({ id: total - i, kept: i < stored, op: begins && i === total - 1 ? "install" : "replace" }));
+  const valueAt = (id) => (id >= total - changed ? "new" : "old");
+  globalThis.fetch = async (address) => {
+    const [, from, to] = /_history\/(\d+)\/diff\?with=(\d+)/.exec(address) ?? [];
+    const changes = valueAt(Number(from)) === valueAt(Number(to)) ? [{ path: "b" }] : [{ path: "menu/a" }];
+    return new Response(JSON.stringify(from === undefined ? { history: past } : { changes }));
+  };
+  // it isn't known if the version before isn't stored, or if the oldest one that is listed isn't the first
+  const isKnown = changed < stored && (changed === total - 1 ? begins : changed < stored - 1);
+  const found = await asked.lastChange("de", "menu/a");
+  check(found?.id === (isKnown ? total - changed : undefined), [total, changed, stored, begins, found]);
+}
