@@ -1,5 +1,5 @@
 // Shows the difference of two texts.
-import { beginning, counted, make, visible } from "./show.mjs";
+import { beginning, counted, make, putValue, rowOf, tableOf, visible } from "./show.mjs";
 import { compareLines } from "./lines.mjs";
 
 const CONTEXT = 3; // unchanged lines around a change
@@ -10,12 +10,27 @@ const MOST_IN_LINE = 5000;
 export const showDifference = (into, title, before, after) => {
   const lines = compareLines(before, after);
   const gone = lines.filter(({ sign }) => sign === "-").length, come = lines.filter(({ sign }) => sign === "+").length;
-  const heading = make("h3", { tabIndex: -1, textContent: title });
   const count = make("p", { textContent: gone + come === 0 ? "No line differs." : `${counted(gone, "line")} less, ${come} more.` });
-  into.replaceChildren(heading, count);
-  if (gone + come > 0) into.append(rowsOf(lines));
-  heading.focus();
+  put(into, title, count, ...(gone + come > 0 ? [rowsOf(lines)] : []));
   return gone + come;
+};
+
+/** Puts the items that differ between two texts into an element, under a heading that gets the focus, and below them the lines that differ. */
+export const showItems = (into, title, items, before, after) => {
+  const titles = ["Item", "Then", "Now"], lines = make("div");
+  const valueOf = (value) => putValue(make("td"), value === undefined ? "—" : typeof value === "string" ? value : JSON.stringify(value));
+  const rows = items.slice(0, MOST_ROWS).map((item) => rowOf(titles,
+    make("th", { scope: "row", className: "place", dir: "auto" }, ...visible(item.path)), valueOf(item.old), valueOf(item.new)));
+  showDifference(lines, "Lines of the texts", before, after);
+  const count = items.length === 0 ? "No item differs." : `${counted(items.length, "item")} changed${rows.length < items.length ? `, the first ${MOST_ROWS} below` : ""}.`;
+  put(into, title, make("p", { textContent: count }), ...(rows.length > 0 ? [tableOf("Changed items", titles, rows)] : []),
+    make("details", {}, make("summary", { textContent: "Show the lines" }), lines));
+};
+
+const put = (into, title, ...elements) => {
+  const heading = make("h3", { tabIndex: -1, textContent: title });
+  into.replaceChildren(heading, ...elements);
+  heading.focus();
 };
 
 const rowsOf = (lines) => {
@@ -32,7 +47,7 @@ const rowsOf = (lines) => {
       continue;
     }
     skip();
-    shown.append(rowOf(lines[i]));
+    shown.append(lineOf(lines[i]));
     rows++;
   }
   skip();
@@ -49,7 +64,7 @@ const nearChanges = (lines) => {
   return near;
 };
 
-const rowOf = ({ sign, old, now, text }) => {
+const lineOf = ({ sign, old, now, text }) => {
   const code = make("code", { dir: "auto" }, ...visible(beginning(text, MOST_IN_LINE)));
   if (text.length > MOST_IN_LINE) code.append(` … ${text.length} characters`);
   const spoken = { "-": "removed", "+": "added" }[sign];

@@ -68,11 +68,14 @@ export const rowOf = (titles, ...cells) => {
   return make("tr", { role: "row" }, ...cells);
 };
 
-/** Makes a table. It stays one for programs that read the page aloud, whatever a style displays. */
-export const tableOf = (titles, rows) => {
+/** Makes a group of rows of a table. */
+export const groupOf = (rows) => make("tbody", { role: "rowgroup" }, ...rows);
+
+/** Makes a table, whose name is read aloud. It stays one for programs that read the page aloud, whatever a style displays. */
+export const tableOf = (name, titles, ...groups) => {
   const heads = titles.map((title) => make("th", { role: "columnheader", scope: "col", dir: "auto" }, ...visible(title)));
   const head = make("thead", { role: "rowgroup" }, make("tr", { role: "row" }, ...heads));
-  return make("table", { role: "table" }, head, make("tbody", { role: "rowgroup" }, ...rows));
+  return make("table", { role: "table", "aria-label": name }, head, ...groups.map(groupOf));
 };
 
 /** Returns a number with what it counts. */

@@ -58,7 +58,7 @@ const drawPage = (number) => {
   page = number;
   view.rows.forEach((row) => { row.tr = null; });
   const rows = list.slice(page * PAGE, (page + 1) * PAGE);
-  at("both").replaceChildren(rows.length === 0 ? make("p", { textContent: "There are no such rows." }) : tableOf(view.titles, rows.map((row) => row.draw(ACTIONS))));
+  at("both").replaceChildren(rows.length === 0 ? make("p", { textContent: "There are no such rows." }) : tableOf(`${view.source} and ${view.target}`, view.titles, rows.map((row) => row.draw(ACTIONS))));
   at("pages").hidden = list.length <= PAGE;
   at("earlier").disabled = page === 0;
   at("later").disabled = (page + 1) * PAGE >= list.length;
@@ -134,7 +134,7 @@ const readAgain = async (of) => {
 
 const threeOf = (locale, ...texts) => {
   const titles = ["When you opened it", "Theirs", "Mine"];
-  return tableOf(titles, [rowOf(titles, ...texts.map((text) => putValue(make("td"), text ?? "— (nothing)", locale)))]);
+  return tableOf("The texts", titles, [rowOf(titles, ...texts.map((text) => putValue(make("td"), text ?? "— (nothing)", locale)))]);
 };
 
 const ACTIONS = {
