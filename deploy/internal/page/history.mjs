@@ -75,6 +75,7 @@ const takeBack = async (gateway, { id, revision }, again) => {
 };
 
 const acting = (what) => async () => {
+  say(at("message"), "", "");
   try {
     await what();
   } catch (error) {

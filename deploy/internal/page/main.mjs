@@ -30,6 +30,7 @@ const acting = (what, needsLocale = false) => async (event) => {
   event.preventDefault();
   const gateway = gatewayNow(needsLocale);
   if (gateway === null) return;
+  say(at("message"), "", "");
   try {
     await what(gateway);
   } catch (error) {

@@ -19,6 +19,7 @@ const escaped = (text) => text.replace(/["\\]/g, "\\$&").replaceAll("\n", "\\n")
 export class Row {
   findings = []; // of the gateway, about the text
   failure = ""; // why the text isn't saved
+  isSaved = false; // since it was opened
   tr = null;
 
   constructor(view, item, n) {
@@ -44,6 +45,9 @@ export class Row {
     const others = this.from?.isText && this.text !== "" ? otherArguments(this.from.value, this.text) : [];
     return [...others, ...this.findings.map(meaningOf)];
   }
+
+  /** What makes the text unusable: it can't be installed, or not be formatted. */
+  get errors() { return this.findings.filter(({ code, rule }) => code !== undefined || rule === "bad-message").map(meaningOf); }
 
   /** Whether a translator has to do something here. */
   get isOpen() { return this.isField && (this.state === "missing" || this.draft !== null || this.faults.length > 0); }
@@ -114,11 +118,11 @@ export class Row {
   update() {
     if (this.tr === null) return;
     if (this.isField && this.field.value !== this.text) this.field.value = this.text;
-    const faults = this.faults, isBad = this.failure !== "" || this.findings.some(({ code }) => code !== undefined);
-    const shown = [...(this.failure ? [["bad", this.failure]] : []), ...faults.map((text) => [isBad ? "bad" : "warn", text])];
+    const errors = [this.failure, ...this.errors].filter(Boolean), isBad = errors.length > 0;
+    const shown = [...errors.map((text) => ["bad", text]), ...this.faults.filter((text) => !errors.includes(text)).map((text) => ["warn", text])];
     this.found.replaceChildren(...shown.map(([className, text]) => make("li", { className, dir: "auto" }, ...visible(text))));
     this.buttons.forEach((button) => { button.hidden = this.draft === null; });
-    this.word.textContent = this.draft === null ? STATES[this.state] : "not saved";
+    this.word.textContent = this.draft !== null ? "not saved" : STATES[this.state] || (this.isSaved ? "saved" : "");
     this.tr.classList.toggle("missing", this.state === "missing");
     if (this.isField) this.field.setAttribute("aria-invalid", String(isBad));
   }
@@ -134,8 +138,11 @@ let timer = 0, checks = Promise.resolve();
 export const checkSoon = (rows) => {
   rows.forEach((row) => waiting.add(row));
   clearTimeout(timer);
-  timer = setTimeout(() => { checks = checks.then(check); }, PAUSE);
+  timer = setTimeout(checkNow, PAUSE);
 };
+
+/** Checks the texts that wait, and returns when all are checked. */
+export const checkNow = () => checks = checks.then(check);
 
 // Checks a text that has an item for each row that waits, so that the line of a finding names its row.
 const check = async () => {

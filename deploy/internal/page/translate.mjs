@@ -2,8 +2,8 @@
 import { at, counted, make, putValue, rowOf, say, tableOf } from "./show.mjs";
 import { itemsOf, sideBySide, withText } from "./tree.mjs";
 import { itemsIn } from "./places.mjs";
-import { Row, checkSoon } from "./row.mjs";
-import { settle } from "./ask.mjs";
+import { Row, checkNow, checkSoon } from "./row.mjs";
+import { confirmed, settle } from "./ask.mjs";
 
 const PAGE = 100; // rows that are shown at a time
 
@@ -65,12 +65,12 @@ const drawPage = (number) => {
   at("page").textContent = `Rows ${page * PAGE + 1} to ${page * PAGE + rows.length} of ${list.length}`;
 };
 
-const count = () => {
+const count = (saved = "") => {
   const { rows, source, target, trees } = view;
   const n = (state) => rows.filter((row) => row.state === state).length, drafts = rows.filter(({ draft }) => draft !== null).length;
   const absent = [source, target].filter((_, i) => trees[i] === null).map((name) => `${name} isn't installed. `).join("");
   say(at("counted"), n("missing") > 0 || absent !== "" ? "warn" : "good",
-    `${absent}Missing in ${target}: ${n("missing")} of ${counted(rows.length - n("extra"), "item")}. Equal texts: ${n("same")}. ` +
+    `${saved}${absent}Missing in ${target}: ${n("missing")} of ${counted(rows.length - n("extra"), "item")}. Equal texts: ${n("same")}. ` +
     `Only in ${target}: ${n("extra")}.${drafts > 0 ? ` Not saved: ${drafts}.` : ""}`);
 };
 
@@ -89,13 +89,23 @@ const step = (row, by) => {
 
 const saveAndNext = async (row) => {
   row.failure = "";
-  const isSaved = await save(row).catch((error) => { row.failure = "Not saved: " + error.message; });
+  const wasDraft = row.draft !== null;
+  const isSaved = await mayBreak(row) && await save(row).catch((error) => { row.failure = "Not saved: " + error.message; });
+  row.isSaved ||= isSaved && wasDraft;
   row.update();
-  count();
+  const saved = isSaved && wasDraft ? `${row.path} is saved. ` : "";
+  count(saved);
   if (!isSaved || !row.tr?.contains(document.activeElement)) return;
   const i = list.indexOf(row), next = [...list.slice(i + 1), ...list.slice(0, i)].find(({ isOpen }) => isOpen);
   if (next !== undefined) go(next);
-  else say(at("counted"), "good", "None of the other rows is missing or wrong.");
+  else say(at("counted"), "good", saved + "None of the other rows is missing or wrong.");
+};
+
+// Returns false if a text is to stay unsaved because of its errors.
+const mayBreak = async (row) => {
+  if (row.draft === null) return true;
+  await checkNow();
+  return row.errors.length === 0 || confirmed(`${row.path}: ${row.errors.join(" ")}`, "Save it with the error");
 };
 
 // Saves the text of a row, and returns whether it did. Another's change of the text is never replaced without a question.
