@@ -59,6 +59,15 @@ func TestBrowserFocus(t *testing.T) {
 	b.fine()
 }
 
+// TestBrowserSizes shows each view on a narrow, dark screen: targets are large enough and end where their column does, placeholders can
+// be read, and tables have names.
+func TestBrowserSizes(t *testing.T) {
+	b, s := visit(t, "en", `en{a{"A"}}`, "de", `de{a{"A"}}`)
+	b.call("Emulation.setDeviceMetricsOverride", map[string]any{"width": 390, "height": 844, "deviceScaleFactor": 1, "mobile": false})
+	b.call("Emulation.setEmulatedMedia", map[string]any{"features": []map[string]string{{"name": "prefers-color-scheme", "value": "dark"}}})
+	b.play(s, "Sizes")
+}
+
 // TestBrowserLateAnswers types, opens and forgets while answers are on their way: no text is lost or taken for another one, and a token
 // that is forgotten is used no more.
 func TestBrowserLateAnswers(t *testing.T) {
