@@ -22,7 +22,8 @@ export const showItems = (into, title, items, before, after) => {
   const rows = items.slice(0, MOST_ROWS).map((item) => rowOf(titles,
     make("th", { scope: "row", className: "place", dir: "auto" }, ...visible(item.path)), valueOf(item.old), valueOf(item.new)));
   showDifference(lines, "Lines of the texts", before, after);
-  const count = items.length === 0 ? "No item differs." : `${counted(items.length, "item")} changed${rows.length < items.length ? `, the first ${MOST_ROWS} below` : ""}.`;
+  const some = rows.length < items.length ? `, the first ${MOST_ROWS} below` : "";
+  const count = items.length === 0 ? "No item differs." : `${counted(items.length, "item")} changed${some}.`;
   put(into, title, make("p", { textContent: count }), ...(rows.length > 0 ? [tableOf("Changed items", titles, rows)] : []),
     make("details", {}, make("summary", { textContent: "Show the lines" }), lines));
 };
