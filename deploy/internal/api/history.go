@@ -297,10 +297,18 @@ func undo(c *call) error {
 	if err != nil {
 		return err
 	}
+	needs := auth.Edit | auth.Release // either: a release may have one bundle
+	if len(m.Made) > 1 {
+		needs = auth.Release
+	}
 	edits := make([]replica.Edit, len(m.Made))
 	defer discard(edits)
 	for i := range m.Made {
-		if err := takeBack(c, &edits[i], &m.Made[i]); err != nil {
+		err := c.Permit(needs, m.Made[i].Locale)
+		if err == nil {
+			err = takeBack(c, &edits[i], &m.Made[i])
+		}
+		if err != nil {
 			return named(err, m.Made[i].Locale)
 		}
 	}
@@ -309,9 +317,6 @@ func undo(c *call) error {
 
 // takeBack makes the edit that takes back what a change did to a bundle, if that still is what the change made.
 func takeBack(c *call, edit *replica.Edit, made *manifest.Made) error {
-	if err := c.Permit(auth.Edit, made.Locale); err != nil {
-		return err
-	}
 	was := manifest.Bundle{Locale: made.Locale}
 	if of := made.Was; of != nil {
 		was.Digest, was.Kind, was.Bytes, was.Compiled = of.Digest, of.Kind, of.Bytes, of.Compiled

@@ -84,7 +84,7 @@ var addresses = []front.Address{
 	}},
 	{Pattern: "/_history/{id}/undo", Operations: []front.Operation{
 		{Method: "POST", ID: "undo", Summary: "Takes back a whole change, such as a release: each of its bundles becomes what it was before.",
-			Right: auth.Edit, AnyLocale: true, Kind: front.KindChange, Action: "undo", Do: undo, Gives: asJSON, Statuses: []int{200, 404, 409, 412, 507}},
+			Right: auth.Edit | auth.Release, AnyLocale: true, Kind: front.KindChange, Action: "undo", Do: undo, Gives: asJSON, Statuses: []int{200, 404, 409, 412, 507}},
 	}},
 	{Pattern: "/{locale}", Operations: []front.Operation{
 		{Method: "GET", ID: "lookRoot", Forms: "get", Summary: "Returns the bundle's table, or with ?path an item; with .txt, .res or .json the bundle; with ?tree all that it inherits.",

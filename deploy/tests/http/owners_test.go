@@ -41,6 +41,9 @@ func TestEachRight(t *testing.T) {
 		s.put("fr", `fr{a{"F `+value+`"}}`)
 	}
 	all := s.past("")
+	released := s.ask("POST", "/v1/shop/_releases", token("shoprelease"), linesOf(t, namedText{"de.txt", `de{a{"R"}}`}, namedText{"fr.txt", "fr{}"}), "Content-Type", asLines)
+	both := int64(4096) * released.Revision()
+	s.put("de", `de{a{"A"}}`) // a later change: with the right the undo is 412
 	for _, c := range []struct{ method, path, body, may string }{
 		{"GET", "/de/a", "", "read own /read"}, {"GET", "/de.txt", "", "read own /read"}, {"GET", "/fr/a", "", "read own"}, {"GET", "/-/a", "", "read own"}, {"GET", "", "", "read own"}, {"GET", "/*/a", "", "read own"},
 		{"GET", "/_history?locale=*", "", "edit own"}, {"GET", "/_history?locale=/", "", "edit own"},
@@ -51,7 +54,8 @@ func TestEachRight(t *testing.T) {
 		{"GET", fmt.Sprintf("/_history/%d/diff?with=%d", all[1].ID, all[0].ID), "", "edit own"}, {"POST", fmt.Sprintf("/_history/%d/restore", all[1].ID), "", "edit own /edit"},
 		{"POST", fmt.Sprintf("/_history/%d/restore", all[0].ID), "", "edit own"}, {"POST", "/_releases", linesOf(t, namedText{"de.txt", `de{a{"A"}}`}), "release own /release"},
 		{"POST", "/_releases", linesOf(t, namedText{"de.txt", `de{a{"A"}}`}, namedText{"fr.txt", `fr{a{"F"}}`}), "release own"},
-		{"POST", fmt.Sprintf("/_history/%d/undo", all[3].ID), "", "edit own /edit"}, {"POST", fmt.Sprintf("/_history/%d/undo", all[2].ID), "", "edit own"},
+		{"POST", fmt.Sprintf("/_history/%d/undo", all[3].ID), "", "edit release own /edit /release"}, {"POST", fmt.Sprintf("/_history/%d/undo", all[2].ID), "", "edit release own"},
+		{"POST", fmt.Sprintf("/_history/%d/undo", both), "", "release own"},
 		{"PUT", "/_default?locale=", "", "edit own"}, {"GET", "/_history?by=change", "", "edit own"},
 		{"DELETE", "?erase=no", "", "erase own"}, {"POST", "/_erasure/undo", "", "erase own"}, {"GET", "/_tokens", "", "own"}, {"POST", "/_tokens?rights=none", "", "own"},
 		{"DELETE", "/_tokens/none", "", "own"},
