@@ -229,7 +229,7 @@ func remove(c *call) (err error) {
 func setDefault(c *call) (err error) {
 	given := c.Query["locale"]
 	if len(given) != 1 {
-		return wire.BadQuery
+		return wire.BadQuery.With("?locale= must be there once")
 	}
 	locale := given[0]
 	if c.Asked(locale, nil); locale != "" {

@@ -3,6 +3,7 @@ package api
 import (
 	"encoding/base64"
 	"encoding/hex"
+	"fmt"
 	"math"
 	"strconv"
 	"time"
@@ -43,8 +44,11 @@ func versionOf(m *manifest.Manifest, place int, isStored bool) version {
 	made := m.Made[place]
 	sum, _ := base64.RawURLEncoding.DecodeString(string(made.Digest)) // a digest of a manifest is valid
 	at := time.UnixMilli(m.At).UTC().Format(time.RFC3339Nano)
-	return version{at, made.Bytes, m.Op, m.Revision*release.Most + int64(place), isStored, made.Locale, made.Op, m.Revision, hex.EncodeToString(sum), m.Who}
+	return version{at, made.Bytes, m.Op, idAt(m, place), isStored, made.Locale, made.Op, m.Revision, hex.EncodeToString(sum), m.Who}
 }
+
+// idAt returns the number of the version that a manifest has at a place.
+func idAt(m *manifest.Manifest, place int) int64 { return m.Revision*release.Most + int64(place) }
 
 // A group is a change with all that it did, in the reply to a request for the history by changes.
 type group struct {
@@ -63,7 +67,7 @@ func number(c *call, name string, usual, most int64) (int64, error) {
 	}
 	n, err := strconv.ParseInt(c.Query.Get(name), 10, 64)
 	if err != nil || n < 0 || n > most {
-		return 0, wire.BadQuery
+		return 0, wire.BadQuery.With(fmt.Sprintf("?%s= must be a number from 0 to %d", name, most))
 	}
 	return n, nil
 }
@@ -91,7 +95,7 @@ func history(c *call) error {
 	}
 	by := c.Query.Get("by")
 	if l.byChange = by == "change"; by != "" && !l.byChange {
-		return wire.BadQuery
+		return wire.BadQuery.With("?by= must be change")
 	}
 	if name, ok := names.Canonical(l.locale); ok && l.locale != "" {
 		l.locale = name
@@ -223,9 +227,12 @@ func differences(c *call) error {
 	if err != nil {
 		return err
 	}
-	to, err := number(c, "with", -1, math.MaxInt64)
-	if err != nil || to < 0 {
-		return wire.BadQuery
+	if c.Query.Get("with") == "" {
+		return wire.BadQuery.With("?with= must have the id of the version to compare with")
+	}
+	to, err := number(c, "with", 0, math.MaxInt64)
+	if err != nil {
+		return err
 	}
 	var found []convert.Difference
 	err = c.Work(c.Context(), func() error {

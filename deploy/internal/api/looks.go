@@ -26,7 +26,7 @@ func readBundle(c *call) error {
 		return fetch(c, locale, form)
 	}
 	if given := c.Query["path"]; len(given) > 1 {
-		return wire.BadQuery
+		return wire.BadQuery.With("?path= is there twice")
 	} else if len(given) == 1 {
 		c.Path = given[0]
 	}

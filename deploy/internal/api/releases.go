@@ -42,7 +42,7 @@ func discard(edits []replica.Edit) {
 // makeAll has edits made, all or none, if the application has the revision that the request names, or if all are made already. A function names
 // the edit of a locale for its refusal.
 func makeAll(c *call, op string, edits []replica.Edit, nameOf func(locale string) string) error {
-	_, _, err := change(c, replica.Request{Op: op, Make: func(_ context.Context, now *replica.View) ([]replica.Edit, error) {
+	made, same, err := change(c, replica.Request{Op: op, Make: func(_ context.Context, now *replica.View) ([]replica.Edit, error) {
 		left := needed(edits, now)
 		given := c.R.Header["If-Match"]
 		if len(left) > 0 && len(given) > 0 && !wire.IsOneOf(strconv.Quote(now.Header()[0]), given) {
@@ -57,7 +57,11 @@ func makeAll(c *call, op string, edits []replica.Edit, nameOf func(locale string
 	if err != nil {
 		return err
 	}
-	return c.Reply(map[string]any{"changes": len(edits), "ok": true})
+	reply := map[string]any{"changes": len(edits), "ok": true}
+	if !same { // a token that releases needn't read the history to take this back
+		reply["id"] = idAt(made, 0)
+	}
+	return c.Reply(reply)
 }
 
 // named returns the problem of an entry of a release.

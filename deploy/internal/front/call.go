@@ -264,7 +264,7 @@ func (c *Call) readQuery() (err error) {
 		return nil
 	}
 	if c.Query, err = url.ParseQuery(c.R.URL.RawQuery); err != nil {
-		return wire.BadQuery // Query would leave out what is malformed, such as ?after=%zz
+		return wire.BadQuery.With(err.Error()) // Query would leave out what is malformed, such as ?after=%zz
 	}
 	given, asks := c.Query["after"]
 	if !asks {
