@@ -87,9 +87,15 @@ func operationItem(o *front.Operation, id string, gives []string) object {
 	if o.Method != http.MethodGet && o.Right&(auth.Read|auth.Own) == 0 {
 		given = append(given, reference("parameters", "ifMatch"))
 	}
+	if o.Kind == front.KindLook {
+		given = append(given, reference("parameters", "acceptLanguage"))
+	}
 	all := object{}
 	for _, status := range append([]int{400, 401, 403, 429, 500, 501, 503, 504}, o.Statuses...) {
 		all[strconv.Itoa(status)] = reference("responses", nameOf(status))
+		if status == http.StatusNotModified {
+			given = append(given, reference("parameters", "ifNoneMatch"))
+		}
 		if status < 300 {
 			all[strconv.Itoa(status)] = object{"description": "Done.", "content": contents(gives, replies[o.ID]),
 				"headers": object{"ETag": reference("headers", "tag"), "Resb-Revision": reference("headers", "revision")}}

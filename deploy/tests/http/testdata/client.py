@@ -61,6 +61,9 @@ def call(name, body=None, kind=None, /, **values):
     return reply
 
 
+for name, (_, _, operation, parameters) in OPERATIONS.items():
+    has_tags = "If-None-Match" in [parameter["name"] for parameter in map(resolve, parameters)]
+    assert has_tags == ("304" in operation["responses"]), name
 CALLED = set()
 SHOP, DE = {"app": "shop"}, {"app": "shop", "locale": "de"}
 for one in ("try", "page", "health", "ready", "writable"):
@@ -73,19 +76,22 @@ call("list", **SHOP, after=3)
 call("lookMany", '{"locale":"de","path":"menu/open"}\n', **SHOP)
 call("look", **DE, path="menu")
 assert json.loads(call("lookRoot", **DE, path="menu/open"))["value"] == "B"
+assert json.loads(call("look", **SHOP, locale="-", path="menu", **{"Accept-Language": "de-AT"}))["actual"] == "de"
 assert call("lookRoot", **DE, path="menu", tree="") == b'{"close":"C","open":"B"}\n'
 for one in ("getTxt", "getJson"):
     call(one, **DE)
 call("check", call("getRes", **DE), "application/octet-stream", **DE)  # a text needs the program
 line = {"locale": "fr", "text": "fr{}", "if": None}
-call("release", json.dumps(line), "application/x-ndjson", **SHOP, **{"If-Match": '"3"'})
+released = json.loads(call("release", json.dumps(line), "application/x-ndjson", **SHOP, **{"If-Match": '"3"'}))
 history = json.loads(call("history", **SHOP, last=10))["history"]
 groups = json.loads(call("history", **SHOP, by="change"))["history"]
 assert [entry["id"] for entry in history] == [entry["id"] for group in groups for entry in group["bundles"]]
-call("undo", **SHOP, id=groups[0]["id"])
+assert released["id"] == groups[0]["id"]
+call("undo", **SHOP, id=released["id"])
 VERSION = {"app": "shop", "id": history[-1]["id"]}
 for one in ("getVersionTxt", "getVersionRes", "getVersionJson", "restore"):
     call(one, **VERSION)
+assert resolve(DESCRIPTION["components"]["parameters"]["with"])["required"]  # without it the status is 400
 call("diff", **VERSION, **{"with": history[1]["id"]})
 call("setDefault", **DE)
 made = json.loads(call("makeToken", **SHOP, rights="read", name="one"))
