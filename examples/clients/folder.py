@@ -7,6 +7,8 @@ import difflib
 import hashlib
 import json
 import os
+import re
+import shlex
 import sys
 import tempfile
 from http.client import HTTPException
@@ -15,6 +17,11 @@ from urllib.parse import unquote
 from over_http import Bundles, Refused
 
 MEMORY = ".resb-sent.json"
+
+
+# Other texts are left out, such as README.txt, unless they begin as a bundle does.
+IS_LOCALE = re.compile(r"(root|[a-z]{2,3})([_-]|\.)", re.IGNORECASE)
+IS_BUNDLE = re.compile(rb"\s*(\xef\xbb\xbf|//.*\n|/\*[\s\S]*?\*/|\s)*[\"\w@=.-]+\s*(:\s*table\s*(\(\s*nofallback\s*\)\s*)?)?\{")
 
 
 class Conflict(Exception):
@@ -58,7 +65,7 @@ class Folder:
         self.bundles = Bundles(gateway, unquote(app), token)
         self.names = {}
         for name in sorted(os.listdir(path)):
-            if name.endswith((".txt", ".res")) and self.names.setdefault(canonical(name[:-4]), name) != name:
+            if self._is_bundle(name) and self.names.setdefault(canonical(name[:-4]), name) != name:
                 raise OSError(f"{name} and {self.names[canonical(name[:-4])]} have the same locale")
         self.bodies = {locale: self._read(name) for locale, name in self.names.items()}
         try:
@@ -66,6 +73,11 @@ class Folder:
         except FileNotFoundError:
             self.memory = {}
         self.sent = self.memory.setdefault(self.url, {})
+
+    def _is_bundle(self, name):
+        if name.endswith(".txt") and not IS_LOCALE.match(name):
+            return bool(IS_BUNDLE.match(self._read(name)))
+        return name.endswith((".txt", ".res"))
 
     def _read(self, name):
         with open(os.path.join(self.path, name), "rb") as file:
@@ -105,12 +117,24 @@ class Folder:
         if locale not in self.names:
             return f"{name}: somebody added or changed the bundle, which this folder doesn't have\n"
         head = f"{name}: somebody changed the installed bundle\n"
+        if locale not in self.sent:
+            head = f"{name}: differs from the installed bundle, and {MEMORY} doesn't have which was sent or brought last\n"
         if name.endswith(".res"):
             return head
         sides = self.bundles.file(locale + ".txt"), self.bodies[locale]
         lines = [side.decode(errors="replace").splitlines(True) for side in sides]
         text = difflib.unified_diff(*lines, "installed/" + name, "folder/" + name)
         return head + "".join(line if line.endswith("\n") else line + "\n" for line in text)
+
+    def conflict(self, differences, then):
+        """Returns the conflict of differences by locale: what follows, and the commands by which git merges both sides' changes."""
+        text = "".join(differences.values()) + then
+        if not all(locale in self.sent for locale in differences):
+            return Conflict(text + "\n")
+        files = " ".join(shlex.quote(self.names.get(locale, locale + ".txt")) for locale in differences)
+        steps = [f"cd {shlex.quote(self.path)}", f"git stash push -- {files}", f"resb-get . {shlex.quote(self.url)}",
+                 f"git commit -m 'Bring changes' -- {files}", "git stash pop"]
+        return Conflict(f"{text}; git merges them with changes here that aren't committed:\n  ({' && '.join(steps)})\n")
 
 
 def run(program, does, options, work):

@@ -41,17 +41,18 @@ class Bundles:
     def __init__(self, url, app, token):
         self.url, self.app, self.token = urlsplit(url), app, token
         self.connection = None
-        self.known = {}  # the last reply and its tag for each address
+        self.known = {}  # the last reply and its tag for each address and languages
 
     def text(self, locale, path):
         """Returns the value of a String, or None if there is no such item."""
         item = self.look(locale, path)
         return item["value"] if item else None
 
-    def look(self, locale, path):
-        """Returns an item with its actual and valid locale, or None if there is no such item."""
+    def look(self, locale, path, languages=""):
+        """Returns an item with its actual and valid locale, or None if there is no such item. The locale "-" is the one that languages
+        such as "de-AT, fr;q=0.5" (Accept-Language) choose."""
         try:
-            return self._get(self._address(locale, *path.split("/")))
+            return self._get(self._address(locale, *path.split("/")), languages)
         except Refused as refused:
             if refused.word in ("Missing", "NoBundle"):
                 return None
@@ -100,9 +101,18 @@ class Bundles:
     def release(self, entries):
         """Makes changes, all or none, each an object such as `{"locale": "de", "text": "de{}"}`, and returns the application's revision.
         A member `if` has the tag that the bundle must have, or None if there must be none; else all are refused with 412."""
+        return self.make_release(entries)[0]
+
+    def make_release(self, entries):
+        """Makes changes as `release` does. Returns the revision and the id that `undo` takes, which is None if all were made already."""
         lines = "".join(json.dumps(entry) + "\n" for entry in entries)
         headers = {"Content-Type": "application/x-ndjson"}
-        return int(self._ask("POST", self._address("_releases"), lines.encode(), **headers)[1]["Resb-Revision"])
+        _, headers, reply = self._ask("POST", self._address("_releases"), lines.encode(), **headers)
+        return int(headers["Resb-Revision"]), json.loads(reply).get("id")
+
+    def undo(self, change):
+        """Takes back a change by its id, if its bundles weren't changed since, and returns the application's revision."""
+        return int(self._ask("POST", self._address("_history", str(change), "undo"))[1]["Resb-Revision"])
 
     def state(self, after=0):
         """Returns the application's revision, once that is `after` or more, and the locales of its bundles. Refused with 503 Behind if the
@@ -132,14 +142,15 @@ class Bundles:
     def _address(self, *parts):
         return "/".join([self.url.path.rstrip("/"), "v1", *(quote(part, safe="") for part in (self.app, *parts))])
 
-    def _get(self, address):
+    def _get(self, address, languages=""):
         """Returns a reply; the server sends it again only if it has changed."""
-        tag, reply = self.known.get(address, (None, None))
-        status, headers, body = self._ask("GET", address, **({"If-None-Match": tag} if tag else {}))
+        tag, reply = self.known.get((address, languages), ("", None))
+        given = {"If-None-Match": tag, "Accept-Language": languages}
+        status, headers, body = self._ask("GET", address, **{name: value for name, value in given.items() if value})
         if status == 304:
             return reply
         reply = json.loads(body)
-        self.known[address] = headers.get("ETag"), reply
+        self.known[address, languages] = headers.get("ETag"), reply
         return reply
 
     def _ask(self, method, address, body=None, **headers):
@@ -151,7 +162,7 @@ class Bundles:
             except (OSError, HTTPException):
                 # A change may have been done, though its answer was lost: a PUT, a release, and what a tag guards may be asked again.
                 self.connection = None
-                is_safe = method in ("GET", "HEAD", "PUT") or address.endswith(("/look", "/_releases"))
+                is_safe = method in ("GET", "HEAD", "PUT") or address.endswith(("/look", "/_releases", "/undo"))
                 may_repeat = is_safe or "If-Match" in headers
                 if not may_repeat or time.monotonic() > end:
                     raise
@@ -161,6 +172,8 @@ class Bundles:
                 return status, got, reply
             wait = float(got.get("Retry-After", "1"))
             if status not in (429, 503) or time.monotonic() + wait > end:
+                if method == "HEAD" and status != 404:  # its reply has no body with a code, and that to GET has
+                    reply = self._once("GET", address, body, headers)[2]
                 raise Refused(status, _refusal(reply))
             time.sleep(wait)
 

@@ -79,6 +79,12 @@ func TestTheClientsPatch(t *testing.T) {
 	}
 }
 
+// TestTheClientSendsLanguages in the place of a locale, and takes a release back by its id.
+func TestTheClientSendsLanguages(t *testing.T) {
+	text, err := client(t, "python3", "testdata/languages.py", beside(t).URL, shopWrites)
+	errorIf(t, err != nil || text != "de\nfr\nde\nroot\n1 []\n404 NoVersion\n", "%v\n%s", err, text)
+}
+
 // TestTheClientsGiveUp has the clients refused for the rest of the day, and by a proxy, which sends no
 // JSON: they say so at once.
 func TestTheClientsGiveUp(t *testing.T) {
@@ -180,7 +186,7 @@ func (f *folder) run(status int, words string, texts ...string) {
 		got = err.(*exec.ExitError).ExitCode()
 	}
 	for _, want := range texts {
-		errorIf(f.t, !strings.Contains(text, want), "%s: no %q", words, want)
+		errorIf(f.t, !strings.Contains(text, want), "%s: no %q in %s", words, want, text)
 	}
 	errorIf(f.t, got != status || len(texts) == 0 && text != "", "%s: status %d, and not %d: %s", words, got, status, text)
 }
@@ -205,12 +211,12 @@ func TestAFolderAndATranslator(t *testing.T) {
 	f.run(0, "resb-put --help", "RESB_TOKEN")
 	f.run(0, "resb-put --dry-run", "de.txt\nfr-ca.txt\n")
 	f.names()
-	f.run(0, "resb-put", "2 of 2 bundles differed\n")
+	f.run(0, "resb-put", "sent 2 of 2 bundles: revision 1; POST "+f.URL+"/v1/shop/_history/4096/undo takes it back\n")
 	f.run(0, "resb-put", "nothing differs\n")
 	f.run(0, "resb-get")
 	f.write("de.txt", "de{\n a{\"B\"}\n}\n")
 	f.run(0, "resb-get")
-	f.run(0, "resb-put", "1 of 2 bundles differed\n")
+	f.run(0, "resb-put", "sent 1 of 2 bundles: revision 2;")
 	f.put("de", "de{\n a{\"T\"}\n}\n")
 	for _, text := range []string{"de{\n a{\"B\"}\n}\n", "de{\n a{\"C\"}\n}\n"} {
 		f.write("de.txt", text)
@@ -233,7 +239,7 @@ func TestAFolderAndATranslator(t *testing.T) {
 	f.file("fr-ca.txt", "")
 	f.run(0, "resb-put --remove", "nothing differs\n")
 	must(t, os.Remove(filepath.Join(f.path, "it.txt")))
-	f.run(0, "resb-put --remove", "1 of 2 bundles differed\n")
+	f.run(0, "resb-put --remove", "sent 0 of 2 bundles, removed 1: revision 7;")
 	f.names("de", "es")
 	f.write("de.txt", "de{")
 	f.run(1, "resb-put", "resb-put: "+f.path+"/de.txt:1: ")
@@ -242,9 +248,68 @@ func TestAFolderAndATranslator(t *testing.T) {
 	must(t, os.Remove(filepath.Join(f.path, "DE.txt")))
 	f.write("de.txt", "de{\n a{\"D\"}\n}\n")
 	must(t, os.Remove(filepath.Join(f.path, ".resb-sent.json")))
-	f.run(1, "resb-put", "- a{\"T\"}\n+ a{\"D\"}\n")
-	f.run(0, "resb-put --replace", "1 of 2 bundles differed\n")
+	f.run(1, "resb-put", "- a{\"T\"}\n+ a{\"D\"}\n", "doesn't have which was sent", "replaces these changes\n")
+	f.run(1, "resb-get", "- a{\"T\"}\n+ a{\"D\"}\n", "doesn't have which was sent", "by the installed bundles\n")
+	f.run(0, "resb-put --replace", "sent 1 of 2 bundles: revision 8;")
 	f.is("de/a", "D")
+}
+
+// TestAFolderWithoutBundles isn't sent, and the code of a refusal is printed. A text that is no bundle stays.
+func TestAFolderWithoutBundles(t *testing.T) {
+	f := &folder{beside(t), t.TempDir()}
+	f.put("fr", "fr{}")
+	for _, words := range []string{"resb-put", "resb-put --remove --replace", "resb-put --dry-run"} {
+		f.run(2, words, f.path+" has no bundle")
+		f.file(".resb-sent.json", "")
+		f.write("README.txt", "Read me: {}\n")
+	}
+	f.names("fr")
+	f.run(0, "resb-get --replace", "fr.txt\n")
+	f.write("metadata.txt", "// a bundle that is named after no language\nmetadata:table(nofallback) {}")
+	f.run(0, "resb-put", "sent 1 of 2 bundles: ")
+	f.names("fr", "metadata")
+	f.file("README.txt", "Read me: {}\n")
+	for token, want := range map[string]string{"nobody-0123456789-0123456789": ": 401 Unauthorized\n", bankWrites: ": 403 Forbidden\n"} {
+		for _, program := range []string{"resb-put", "resb-get"} {
+			text, err := client(t, "env", "RESB_TOKEN="+token, "python3", clients+program, f.path, f.URL+"/v1/shop")
+			errorIf(t, err == nil || text != program+want, "%v %s", err, text)
+		}
+	}
+}
+
+// TestGitMergesBothSides by the commands that resb-put and resb-get print.
+func TestGitMergesBothSides(t *testing.T) {
+	t.Run("resb-put", func(t *testing.T) { mergeAfter(t, "resb-put") })
+	t.Run("resb-get", func(t *testing.T) { mergeAfter(t, "resb-get") })
+}
+
+func mergeAfter(t *testing.T, program string) {
+	f := &folder{beside(t), filepath.Join(t.TempDir(), "a folder")}
+	must(t, os.Mkdir(f.path, 0o700))
+	programs, err := filepath.Abs(clients)
+	must(t, err)
+	run := func(script string) {
+		t.Helper()
+		text, err := client(t, "env", "PATH="+programs+":"+os.Getenv("PATH"), "HOME="+f.path, "sh", "-ec", script)
+		errorIf(t, err != nil, "%v: %s", err, text)
+	}
+	if _, err := exec.LookPath("git"); err != nil {
+		t.Skip("skipped: git is not there")
+	}
+	text := "de{\n a{\"A\"}\n b{\"B\"}\n c{\"C\"}\n d{\"D\"}\n}\n"
+	f.write("de.txt", text)
+	f.run(0, "resb-put", "sent 1 of 1")
+	run("cd '" + f.path + "'; git init -q; git config user.email a@b.example; git config user.name A; git add .; git commit -qm A")
+	f.put("de", strings.Replace(text, "A", "T", 1))
+	f.put("it", "it{}")
+	f.write("de.txt", strings.Replace(text, "D", "F", 1))
+	printed, _ := client(t, "python3", clients+program, f.path, f.URL+"/v1/shop")
+	_, commands, _ := strings.Cut(printed, ":\n  (")
+	run("(" + commands)
+	f.file("de.txt", strings.NewReplacer("A", "T", "D", "F").Replace(text))
+	f.run(0, "resb-put", "sent 1 of 2")
+	f.is("de/a", "T")
+	f.is("de/d", "F")
 }
 
 // TestAFolderIsWatched brings each change into a folder until the program is ended.
