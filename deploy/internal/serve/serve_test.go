@@ -6,6 +6,7 @@ import (
 	"crypto/rsa"
 	"crypto/tls"
 	"crypto/x509"
+	"encoding/pem"
 	"io"
 	"math/big"
 	"net"
@@ -132,6 +133,30 @@ func TestForwardSecrecy(t *testing.T) {
 	}
 	for version, want := range map[uint16]bool{tls.VersionTLS10: false, tls.VersionTLS11: false, tls.VersionTLS12: true, tls.VersionTLS13: true} {
 		harness.Equal(t, agrees(&tls.Config{MinVersion: version, MaxVersion: version}), want, version)
+	}
+}
+
+// TestARenewedCertificate reads a certificate whose file is older than that of its key, as a copy that keeps dates makes it.
+func TestARenewedCertificate(t *testing.T) {
+	key, err := rsa.GenerateKey(rand.Reader, 2048)
+	harness.Must(t, err)
+	folder, earlier := t.TempDir(), time.Now().Add(-24*time.Hour)
+	cert, keyFile := filepath.Join(folder, "cert"), filepath.Join(folder, "key")
+	secret := pem.EncodeToMemory(&pem.Block{Type: "RSA PRIVATE KEY", Bytes: x509.MarshalPKCS1PrivateKey(key)})
+	harness.Must(t, os.WriteFile(keyFile, secret, 0o600))
+	var p *Pair
+	for serial := int64(1); serial <= 2; serial++ {
+		about := x509.Certificate{SerialNumber: big.NewInt(serial), NotAfter: time.Now().Add(time.Hour)}
+		made, err := x509.CreateCertificate(rand.Reader, &about, &about, &key.PublicKey, key)
+		harness.Must(t, err)
+		harness.Must(t, os.WriteFile(cert, pem.EncodeToMemory(&pem.Block{Type: "CERTIFICATE", Bytes: made}), 0o600))
+		harness.Must(t, os.Chtimes(cert, earlier, earlier))
+		if p == nil {
+			p, err = OpenPair(cert, keyFile)
+			harness.Must(t, err)
+		}
+		p.Again()
+		harness.Equal(t, p.now.Load().Leaf.SerialNumber.Int64(), serial)
 	}
 }
 
