@@ -43,6 +43,17 @@ func TestAHolderOfManyApplications(t *testing.T) {
 	}
 }
 
+// TestManyHolders has eight holders ask until each is refused: another one is still admitted.
+func TestManyHolders(t *testing.T) {
+	l := New(Options{Each: 4096, All: 4096, Bytes: 1 << 20, Works: 1})
+	for i := 0; i < 8; i++ {
+		holder := fmt.Sprint("holder", i)
+		for l.Begin(&Ticket{}, holder, holder, time.Now()) == nil {
+		}
+	}
+	begin(t, l, "bank", "other", nil)
+}
+
 func TestRates(t *testing.T) {
 	l := New(Options{Each: 9, All: 9, Bytes: 9, Rate: 2, DayBytes: 100, Works: 1})
 	now := time.Unix(secondsADay*20000+10, 0)

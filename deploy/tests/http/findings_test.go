@@ -48,7 +48,10 @@ func TestReadyOnceAllIsRead(t *testing.T) {
 	}
 	first.awaitMetric("resb_behind_seconds", func(n float64) bool { return n > 5 })
 	errorIf(t, first.measured()["resb_writes"] != 0, "the metrics don't say that nothing is stored")
+	first.writez(503)
+	errorIf(t, !first.Healthy(), "lookups are answered, and /readyz doesn't say so")
 	harness.StartAll(c.Members)
+	first.writez(200)
 	first.awaitMetric("resb_behind_seconds", func(n float64) bool { return n < 5 })
 }
 

@@ -3,6 +3,7 @@ package http
 import (
 	"encoding/json"
 	"fmt"
+	"os"
 	"strings"
 	"testing"
 
@@ -68,6 +69,41 @@ func TestBrowserSizes(t *testing.T) {
 	b.play(s, "Sizes")
 }
 
+// TestBrowserRules shows each view in both colours, wide and at 390 pixels: texts have enough contrast, nothing is wider than the window, and
+// cells of a table name their columns.
+func TestBrowserRules(t *testing.T) {
+	b, s := visit(t, "en", `en{a{"A"} b{"{n, plural, one {#} other {#}}"}}`, "de", `de{a{"A"}}`)
+	s.put("de", `de{a{"B"}}`)
+	b.sign(shopWrites, "de")
+	b.until("message", "2 bundles.")
+	rules, err := os.ReadFile("testdata/rules.js")
+	must(t, err)
+	b.run(string(rules))
+	b.fill("text", "de{a{\"C\"} a{\"D\"}}")
+	b.until("findings", "DuplicateKey")
+	b.activate("compare")
+	b.until("edit-diff", "C")
+	b.run(`location.hash = 'translate'; source.value = 'en'; target.value = 'de'; pair.requestSubmit(); ''`)
+	b.until("counted", "Missing in de: 1")
+	b.run(`location.hash = 'history'; past.requestSubmit(); ''`)
+	b.until("rows", "2")
+	b.click("button[aria-label='Compare version 2 of de']")
+	b.until("history-diff", "A")
+	for _, colours := range []string{"light", "dark"} {
+		b.call("Emulation.setEmulatedMedia", map[string]any{"features": []any{map[string]any{"name": "prefers-color-scheme", "value": colours}}})
+		for _, width := range []int{1280, 390} {
+			b.call("Emulation.setDeviceMetricsOverride", map[string]any{"width": width, "height": 900, "deviceScaleFactor": 1, "mobile": false})
+			for _, view := range []string{"edit", "translate", "history", "look"} {
+				b.run(fmt.Sprintf("location.hash = '#%s'; ''", view))
+				b.until("focused", view+"-title")
+				b.is("contrasts()", "")
+				b.is(map[bool]string{true: "narrow()", false: "''"}[width == 390], "")
+				b.picture(fmt.Sprint("rules-", view, "-", colours, "-", width))
+			}
+		}
+	}
+}
+
 // TestBrowserLateAnswers types, opens and forgets while answers are on their way: no text is lost or taken for another one, and a token
 // that is forgotten is used no more.
 func TestBrowserLateAnswers(t *testing.T) {
@@ -130,6 +166,48 @@ func TestBrowserTranslate(t *testing.T) {
 		"ar", `ar{menu{open{"فتح الملف {0} (PDF)"} ok{"OK"}} list:array{"واحد"} extra{"زائد"}}`,
 		"hi", `hi{menu{open{"फ़ाइल {0} खोलें"} close{"बंद करें"} ok{"ठीक है"}} list{"एक", "दो"} n:int{5} empty:table{}}`)
 	b.play(s, "Translate")
+}
+
+// TestBrowserManyRows translates one of 10,000 strings: a hundred rows are drawn, a key is answered at once, and search and filters find rows of
+// other pages.
+func TestBrowserManyRows(t *testing.T) {
+	text := "en{a{\"Hello {name}\"}\n"
+	for i := 0; i < 10000; i++ {
+		text += fmt.Sprintf("k%d{\"Text %[1]d of many\"}\n", i)
+	}
+	b, s := visit(t, "en", text+"}", "de", `de{a{"Hallo"}}`)
+	helpers, err := os.ReadFile("testdata/helpers.js")
+	must(t, err)
+	b.run(string(helpers))
+	b.sign(shopWrites, "") // all bundles, without knowing one
+	b.until("message", "2 bundles: en, de.")
+	b.run(`location.hash = 'translate'; source.value = 'en'; target.value = 'de'; pair.requestSubmit(); ''`)
+	b.until("counted", "Missing in de: 10000 of 10001")
+	b.is("pairs", "100")
+	b.run("choose('warned'); ''")
+	b.until("pairs", "1")
+	b.until("both", "{name} is missing")
+	b.run("choose('all'); search.value = '9876 of'; search.dispatchEvent(new Event('input')); ''")
+	b.until("pairs", "1")
+	b.tab("Translation of k9876")
+	b.is(`(async () => {
+		const field = document.activeElement, took = [];
+		for (let i = 0; i < 9; i++) {
+			const began = performance.now();
+			field.value += 'x';
+			field.dispatchEvent(new Event('input', { bubbles: true }));
+			await new Promise(requestAnimationFrame);
+			took.push(performance.now() - began);
+		}
+		return took.sort((a, b) => a - b)[4] < 250;
+	})()`, "true")
+	b.write("neu")
+	b.press("Enter", withControl)
+	eventually(t, "the row is saved", func() bool { return s.get("/v1/shop/de/k9876").Value() == "neu" })
+	b.run("search.value = ''; search.dispatchEvent(new Event('input')); choose('changed'); ''")
+	b.until("pairs", "1")
+	b.until("both", "k9876")
+	b.fine()
 }
 
 // TestBrowserSave translates without a mouse: checked while it is typed, saved by a patch, kept while the page is away, and never
