@@ -3,7 +3,7 @@ use crate::heap::Heap;
 use crate::lengths::longest_of;
 use crate::piece::{Piece, PieceKind, line_width};
 use crate::rule::{Rule, RuleSet};
-use crate::scan::{Quoting, Visit, visit_pieces};
+use crate::scan::{Event, Quoting, Visit, visit_pieces};
 use std::alloc::{AllocError, Global};
 
 /// The rules that are allowed from a byte on.
@@ -59,8 +59,11 @@ struct AllowSearch {
 
 const PREFIX: &str = "resb-lint:";
 
-/// Returns what follows `resb-lint:` in a comment, up to the end of its line.
+/// Returns what follows `resb-lint:` in a comment, up to the end of its line. An escape has nothing.
 pub(crate) fn directive(window: &[u8]) -> Option<&str> {
+    if !window.starts_with(b"//") {
+        return None;
+    }
     let comment = window.get(2..line_width(window))?;
     match str::from_utf8(comment) {
         Ok(comment) => comment.trim().strip_prefix(PREFIX),
@@ -149,7 +152,7 @@ impl Visit for AllowSearch {
         }
     }
 
-    fn comment(&mut self, at: usize, window: &[u8]) {
+    fn event(&mut self, _event: Event, at: usize, window: &[u8]) {
         let Some(words) = directive(window) else {
             return;
         };

@@ -5,7 +5,7 @@ use crate::path::shown_source;
 use crate::piece::Piece;
 use crate::position::line_of;
 use crate::repeated::first_line_of;
-use crate::scan::{Open, Quoting, Visit, visit_pieces};
+use crate::scan::{Event, Open, Quoting, Visit, visit_pieces};
 use crate::text_tokens::{TextTokens, parse_text};
 use rb_lexer::{SourceFault, SourceKind};
 use std::alloc::{AllocError, Global};
@@ -162,8 +162,8 @@ struct EscapeSearch {
 impl Visit for EscapeSearch {
     fn piece(&mut self, _piece: &Piece) {}
 
-    fn escape(&mut self, at: usize, _window: &[u8]) {
-        if self.first <= at && at < self.past {
+    fn event(&mut self, event: Event, at: usize, _window: &[u8]) {
+        if event == Event::Escape && self.first <= at && at < self.past {
             self.heap.push(&mut self.found, at);
         }
     }

@@ -139,10 +139,6 @@ impl KeySearch {
         }
     }
 
-    fn body(&self) -> Option<Body> {
-        self.open.last().copied()
-    }
-
     fn decide(&mut self, body: Body) {
         if let Some(open) = self.open.last_mut() {
             if *open == Body::Unknown {
@@ -194,7 +190,7 @@ impl KeySearch {
 
     /// Returns what is doubtful in the text before a colon or a brace.
     fn key_doubt(&self, texts: &Texts) -> Option<Doubt> {
-        match self.body()? {
+        match self.open.last()? {
             _ if texts.is_conflict => None,
             Body::Array => Some(Doubt::EntryInArray),
             Body::Table if texts.first.kind == PieceKind::Unquoted => texts.doubt,

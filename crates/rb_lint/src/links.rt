@@ -112,14 +112,18 @@ fn walk_path(tree: &Tree, path: &[u16]) -> Walked {
     Walked::There
 }
 
-/// Returns the locale and the path of an alias, without a package's.
+/// Returns the locale of an alias, without a package's, and its path after a slash.
 fn split_alias(units: &[u16]) -> Option<(&[u16], &[u16])> {
     let rest = match units.strip_prefix(&[SLASH]) {
         Some(rest) => rest,
         None => units,
     };
-    let count = rest.iter().position(|unit| *unit == SLASH)?;
-    Some((rest.get(..count)?, rest.get(count.saturating_add(1)..)?))
+    for (count, unit) in rest.iter().enumerate() {
+        if *unit == SLASH {
+            return Some(rest.split_at(count));
+        }
+    }
+    None
 }
 
 /// Checks whether texts in ascending order have one of these units.
@@ -137,7 +141,7 @@ pub(crate) fn leads_nowhere(
     root: Option<&Tree>,
     name: &[u8],
 ) -> bool {
-    let Some((locale, path)) = split_alias(units) else {
+    let Some((locale, [_, path @ ..])) = split_alias(units) else {
         return false;
     };
     let is_root = name == b"root".as_slice();

@@ -49,10 +49,12 @@ fn ends_unquoted(byte: u8, window: &[u8]) -> bool {
         || is_wide_white(window)
 }
 
-/// An event at a byte that is no piece.
+/// What begins at a byte and is no piece.
 #[derive(Clone, Copy, PartialEq, Eq)]
-enum Event {
+pub(crate) enum Event {
+    /// The backslash of an escape.
     Escape,
+    /// A comment of one line.
     LineComment,
 }
 
@@ -102,10 +104,8 @@ impl Scan {
 
     /// Passes the event at a byte to a visitor.
     fn pass_event<V: Visit>(&mut self, input: Input, visitor: &mut V) {
-        match self.event.take() {
-            Some(Event::Escape) => visitor.escape(input.at, input.window),
-            Some(Event::LineComment) => visitor.comment(input.at, input.window),
-            None => {}
+        if let Some(event) = self.event.take() {
+            visitor.event(event, input.at, input.window);
         }
     }
 
@@ -289,11 +289,8 @@ impl Scan {
 pub(crate) trait Visit {
     fn piece(&mut self, piece: &Piece);
 
-    /// Takes the backslash of an escape, and the text from it on.
-    fn escape(&mut self, _at: usize, _window: &[u8]) {}
-
-    /// Takes the start of a comment of one line, and the text from it on.
-    fn comment(&mut self, _at: usize, _window: &[u8]) {}
+    /// Takes an escape or a comment at an offset, and the text from it on.
+    fn event(&mut self, _event: Event, _at: usize, _window: &[u8]) {}
 }
 
 /// A quote or comment that isn't closed at the end of a text, with the offset at which it begins.

@@ -336,13 +336,6 @@ impl<'a, 'c> ValueSearch<'a, 'c> {
         }
     }
 
-    /// Defers the report of the innermost level's missing keys.
-    fn defer(&mut self) {
-        if let Some(level) = self.levels.last_mut() {
-            level.is_deferred = true;
-        }
-    }
-
     /// Reports the missing keys of the innermost level, if that was deferred.
     fn deferred(&mut self, first: usize) {
         let Some(level) = self.levels.last_mut() else {
@@ -375,7 +368,11 @@ impl<'a, 'c> ValueSearch<'a, 'c> {
             (Tree::Table(tree), Tree::Table(root)) if !has_added(tree, root) => {
                 self.absences(first, tree, root);
             }
-            (Tree::Table(_), _) => self.defer(),
+            (Tree::Table(_), _) => {
+                if let Some(level) = self.levels.last_mut() {
+                    level.is_deferred = true;
+                }
+            }
             _ => self.lengths(first, tree, root),
         }
     }
