@@ -6,8 +6,7 @@ use rb_console::{
 };
 use rb_layout::{FormatFault, Style, format_in};
 use rb_lexer::{SourceFault, SourceKind};
-use rb_project::{Configured, Modules, Project, Text, names_of, open_project, texts_of};
-use rb_settings::Section;
+use rb_project::{Configured, Modules, Project, Section, Text, names_of, open_project, texts_of};
 use std::alloc::{AllocError, Global};
 use std::io;
 use std::process::ExitCode;

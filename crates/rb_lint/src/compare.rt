@@ -6,7 +6,7 @@ use crate::messages::{Message, search_message};
 use crate::path::shown_name;
 use crate::pattern::PlacedDoubt;
 use crate::uses::{Named, ValueKind, find_named, without};
-use rb_strings::{Edge, Mark, MarkKind, lacking_ending, marks_lacking, marks_of, other_blanks};
+use rb_messages::{Edge, Mark, MarkKind, lacking_ending, marks_lacking, marks_of, other_blanks};
 
 /// A change of a String, at one of its units or of all of it.
 #[derive(Drop)]

@@ -7,9 +7,8 @@ use crate::piece::narrow;
 use crate::uses::{Named, Uses};
 use rb_messages::{
     Argument, ArgumentType, Categories, Category, MessageError, MessageFault, MessageParser, Part,
-    Span,
+    PatternFault, Span, damage_in, date_fault, number_fault,
 };
-use rb_strings::{PatternFault, damage_in, date_fault, number_fault};
 
 /// The maximum number of doubts of one message.
 const DOUBT_LIMIT: usize = 100;

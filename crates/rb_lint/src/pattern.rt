@@ -1,7 +1,6 @@
 use crate::named_text::{shown, write_named};
 use crate::rule::Rule;
-use rb_messages::{Category, MessageFault};
-use rb_strings::{Damage, PatternFault};
+use rb_messages::{Category, Damage, MessageFault, PatternFault};
 use std::fmt;
 
 /// A mistake in a String, mostly in a message of ICU's MessageFormat: formatting it fails, or it is seldom

@@ -16,7 +16,7 @@ use crate::text_tokens::TextTokens;
 use crate::unit_walk::UnitWalk;
 use crate::warning::Doubt;
 use rb_lexer::{Mark, Token};
-use rb_strings::{character_count, find_word};
+use rb_messages::{character_count, find_word};
 use rb_tree::{Entries, Kind, Node, Tree};
 use std::alloc::Global;
 

@@ -1,8 +1,9 @@
 //! The modules of a project.
 use crate::names::whole_name;
+use crate::pattern::matches;
 use crate::project::Project;
+use crate::settings::Section;
 use rb_console::{folder_of, in_folder};
-use rb_settings::{Section, matches};
 use std::alloc::{AllocError, Global};
 
 /// The texts of one module.

@@ -1,7 +1,8 @@
 //! Finds the settings of a project.
+use crate::fault::SettingsFault;
 use crate::names::whole_name;
+use crate::settings::Settings;
 use rb_console::{Console, StartError, cannot_read_on, not_started_on, read_file};
-use rb_settings::{Settings, SettingsFault};
 use std::alloc::{AllocError, Global};
 use std::process::ExitCode;
 use std::rt::Files;

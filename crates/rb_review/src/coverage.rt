@@ -8,8 +8,7 @@ use rb_console::{
 use rb_coverage::{Counts, Coverage, CoverageFault, Found, ProjectData};
 use rb_locales::Name;
 use rb_parser::{Source, parse};
-use rb_project::{Configured, Modules, Project, Text, names_of, open_project, texts_of};
-use rb_settings::Section;
+use rb_project::{Configured, Modules, Project, Section, Text, names_of, open_project, texts_of};
 use rb_tree::Tree;
 use std::alloc::{AllocError, Global};
 use std::io;

@@ -1,7 +1,6 @@
 //! The warnings that the settings of a project leave out.
 use rb_lint::{Finding, Levels, Rule, RuleSet, paths_at};
-use rb_project::{Modules, Project};
-use rb_settings::{Section, matches};
+use rb_project::{Modules, Project, Section, matches};
 use std::alloc::{AllocError, Global};
 
 /// The names of the rules about messages. As one text they take the prover less time.

@@ -1,8 +1,7 @@
 //! The words that the strings of a text may not have, and their greatest lengths.
 use crate::left_out::{is_one, path_at, places_of};
 use rb_lint::{Finding, Message, PathLength, PatternDoubt, paths_at};
-use rb_project::{Modules, Project};
-use rb_settings::Section;
+use rb_project::{Modules, Project, Section};
 use std::alloc::{AllocError, Global};
 
 /// The greatest length of strings at some paths, or at all if there are none.

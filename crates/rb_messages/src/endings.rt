@@ -1,5 +1,5 @@
 //! The punctuation that ends a string.
-use crate::characters::{Class, count_of, past_last};
+use crate::units::{Class, count_of, past_last};
 
 const STOP: u16 = 0x2E;
 

@@ -1,4 +1,4 @@
-use crate::characters::is_blank;
+use crate::units::is_blank;
 
 /// The end of a string at which it has other blanks than its source.
 #[derive(Clone, Copy)]

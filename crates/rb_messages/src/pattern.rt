@@ -1,5 +1,5 @@
 //! Patterns of dates and numbers in messages, as ICU reads them.
-use crate::characters::{
+use crate::units::{
     Class, begins_with, count_of, is_digit, is_letter, is_one_of, past_last, place_of,
 };
 

@@ -1,8 +1,8 @@
 //! Finds the marks of a string.
-use crate::characters::{
+use crate::mark::{Mark, MarkKind};
+use crate::units::{
     Class, begins_with, count_of, is_among, is_blank, is_letter, is_name, is_one_of, past_last,
 };
-use crate::mark::{Mark, MarkKind};
 use std::alloc::{AllocError, Global};
 
 const PERCENT: u16 = 0x25;

@@ -1,5 +1,5 @@
 //! Words and lengths of strings.
-use crate::characters::{is_digit, is_letter};
+use crate::units::{is_digit, is_letter};
 
 /// Checks for a digit or a letter of a script that puts blanks between words.
 fn is_word_unit(unit: u16) -> bool {

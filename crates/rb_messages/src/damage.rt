@@ -1,5 +1,5 @@
 //! Characters that no one writes, but wrong conversions and keyboards do.
-use crate::characters::{is_among, is_letter, place_of};
+use crate::units::{is_among, is_letter, place_of};
 
 /// The damages of a string.
 #[derive(Clone, Copy)]
