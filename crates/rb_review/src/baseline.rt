@@ -1,6 +1,6 @@
 //! The old warnings of a project, which aren't reported again.
 use rb_console::{Console, JsonText, StartError, cannot_read_on, not_started_on, read_file};
-use rb_lint::Finding;
+use rb_lint::{Finding, Rule};
 use rb_project::Project;
 use std::alloc::{AllocError, Global};
 use std::collections::BTreeMap;
@@ -25,6 +25,21 @@ fn without_place(alloc: Global, line: &str) -> Result<String, AllocError> {
     }
 }
 
+/// Returns the line of a warning without its place.
+fn warning_line(
+    alloc: Global,
+    file: &str,
+    finding: &Finding,
+    rule: Rule,
+) -> Result<String, AllocError> {
+    let message = format!(in alloc; "{}", &finding.message)?;
+    let (file, message) = (JsonText(file), JsonText(message.as_str()));
+    let (level, rule) = (finding.severity.word(), rule.name());
+    format!(in alloc;
+        "{{\"file\":\"{file}\",\"severity\":\"{level}\",\"rule\":\"{rule}\",\"message\":\"{message}\"}}"
+    )
+}
+
 impl Baseline {
     pub(crate) fn none(alloc: Global) -> Baseline {
         Baseline {
@@ -36,14 +51,19 @@ impl Baseline {
         self.counts.is_empty()
     }
 
+    /// Counts a warning that isn't met yet.
+    fn add(&mut self, warning: String) -> Result<(), AllocError> {
+        let count = self.counts.get(&warning).copied().unwrap_or(0);
+        self.counts.insert(warning, count.saturating_add(1))?;
+        Ok(())
+    }
+
     /// Reads the lines of a baseline.
     fn of(alloc: Global, lines: &str) -> Result<Baseline, AllocError> {
         let mut baseline = Baseline::none(alloc);
         for line in lines.split('\n') {
             if !line.is_empty() {
-                let line = without_place(alloc, line)?;
-                let count = baseline.counts.get(&line).map_or(0, |count| *count);
-                baseline.counts.insert(line, count.saturating_add(1))?;
+                baseline.add(without_place(alloc, line)?)?;
             }
         }
         Ok(baseline)
@@ -83,12 +103,7 @@ impl Baseline {
         let Some(rule) = finding.rule else {
             return Ok(false);
         };
-        let message = format!(in alloc; "{}", &finding.message)?;
-        let (file, message) = (JsonText(file), JsonText(message.as_str()));
-        let (level, rule) = (finding.severity.word(), rule.name());
-        let line = format!(in alloc;
-            "{{\"file\":\"{file}\",\"severity\":\"{level}\",\"rule\":\"{rule}\",\"message\":\"{message}\"}}"
-        )?;
+        let line = warning_line(alloc, file, finding, rule)?;
         match self.counts.get_mut(&line) {
             Some(count) if *count > 0 => {
                 *count = count.saturating_sub(1);

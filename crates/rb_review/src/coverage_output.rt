@@ -53,6 +53,10 @@ impl<'a> fmt::Display for CsvText<'a> {
     }
 }
 
+/// The head of a table, in columns that are as wide as those of its lines.
+const TABLE_HEAD: &str = "locale                     missing    unused      same      type \
+arguments";
+
 /// A module, and what its output is.
 #[derive(Clone, Copy)]
 pub(crate) struct Printed<'a> {
@@ -125,26 +129,43 @@ impl<'a> Printed<'a> {
     ) -> io::Result<()> {
         match self.format {
             CoverageFormat::Table => Ok(()),
-            CoverageFormat::List => self.put_lines(rt, path, found),
-            CoverageFormat::Json => self.put_objects(rt, path, found),
+            CoverageFormat::List => self.put_findings(rt, path, found, (", ", "")),
+            CoverageFormat::Json => self.put_findings(rt, path, found, (",", "\"")),
             CoverageFormat::Csv => self.put_rows(rt, path, found),
         }
     }
 
-    /// Prints a line for each finding.
-    fn put_lines<R: AllocGlobal + Print>(
+    /// Prints a line or an object for each finding. Marks are a comma and a quote for the names of
+    /// its locales.
+    fn put_findings<R: AllocGlobal + Print>(
         &self,
         rt: &R,
         path: &str,
         found: &[Found],
+        marks: (&str, &str),
     ) -> io::Result<()> {
         for finding in Finding::ALL {
-            let names = joined(rt.alloc(), self.trees, found, finding, (", ", ""))?;
+            let names = joined(rt.alloc(), self.trees, found, finding, marks)?;
             if !names.is_empty() {
-                self.put_line(rt, path, phrase(finding), names.as_str())?;
+                self.put_finding(rt, path, finding, names.as_str())?;
             }
         }
         Ok(())
+    }
+
+    /// Prints a line or an object of a finding.
+    fn put_finding<R: Print>(
+        &self,
+        rt: &R,
+        path: &str,
+        finding: Finding,
+        names: &str,
+    ) -> io::Result<()> {
+        if self.format == CoverageFormat::List {
+            self.put_line(rt, path, phrase(finding), names)
+        } else {
+            self.put_object(rt, path, finding.name(), names)
+        }
     }
 
     /// Prints what is found in locales, with the module before it if there are several.
@@ -157,24 +178,17 @@ impl<'a> Printed<'a> {
         println!(rt; "{path}: {phrase} {names}")
     }
 
-    /// Prints an object for each finding.
-    fn put_objects<R: AllocGlobal + Print>(
+    /// Prints an object of a finding in locales.
+    fn put_object<R: Print>(
         &self,
         rt: &R,
         path: &str,
-        found: &[Found],
+        finding: &str,
+        names: &str,
     ) -> io::Result<()> {
         let (module, path) = (JsonText(self.module), JsonText(path));
-        for finding in Finding::ALL {
-            let names = joined(rt.alloc(), self.trees, found, finding, (",", "\""))?;
-            if names.is_empty() {
-                continue;
-            }
-            let (finding, names) = (finding.name(), names.as_str());
-            print!(rt; "{{\"module\":\"{module}\",\"key\":\"{path}\",")?;
-            println!(rt; "\"finding\":\"{finding}\",\"locales\":[{names}]}}")?;
-        }
-        Ok(())
+        print!(rt; "{{\"module\":\"{module}\",\"key\":\"{path}\",")?;
+        println!(rt; "\"finding\":\"{finding}\",\"locales\":[{names}]}}")
     }
 
     /// Prints a row for each finding and locale.
@@ -202,11 +216,7 @@ impl<'a> Printed<'a> {
             return Ok(());
         }
         let module = self.console.on_stdout(self.module);
-        println!(rt; "{module}: {keys} keys")?;
-        println!(rt;
-            "{:<24}{:>10}{:>10}{:>10}{:>10}{:>10}",
-            "locale", "missing", "unused", "same", "type", "arguments"
-        )?;
+        println!(rt; "{module}: {keys} keys\n{TABLE_HEAD}")?;
         for locale in locales {
             let counts = counts.get(*locale).copied().unwrap_or(Counts::none());
             self.put_counts(rt, name_at(self.trees, *locale), counts)?;

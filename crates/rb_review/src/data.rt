@@ -66,22 +66,26 @@ fn is_of_locale(file: &str) -> bool {
     is_text(file) && Name::read(stem(file).as_bytes()).is_ok()
 }
 
-/// Returns the text of a name, or the texts of locales in its folder.
-fn data_files<R: Files + AllocGlobal>(rt: &R, name: &str) -> io::Result<Vec<String>> {
-    let alloc = rt.alloc();
+/// Returns the texts of locales among the names in a folder, each of which ends with a zero.
+fn locale_files(alloc: Global, folder: &str, names: &[u8]) -> Result<Vec<String>, AllocError> {
     let mut files = Vec::new(alloc);
-    if !is_folder(rt, name) {
-        files.push(String::from_str(alloc, name)?)?;
-        return Ok(files);
-    }
-    let names = read_names(rt, name)?;
     for bytes in names.split(|byte| *byte == 0) {
-        match str::from_utf8(bytes) {
-            Ok(file) if is_of_locale(file) => files.push(in_folder(alloc, name, file)?)?,
-            _ => {}
+        let file = str::from_utf8(bytes).unwrap_or("");
+        if is_of_locale(file) {
+            files.push(in_folder(alloc, folder, file)?)?;
         }
     }
     files.sort_by(|a: &String, b: &String| a.as_str().cmp(b.as_str()))?;
+    Ok(files)
+}
+
+/// Returns the text of a name, or the texts of locales in its folder.
+fn data_files<R: Files + AllocGlobal>(rt: &R, name: &str) -> io::Result<Vec<String>> {
+    if is_folder(rt, name) {
+        return Ok(locale_files(rt.alloc(), name, &read_names(rt, name)?)?);
+    }
+    let mut files = Vec::new(rt.alloc());
+    files.push(String::from_str(rt.alloc(), name)?)?;
     Ok(files)
 }
 

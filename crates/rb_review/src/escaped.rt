@@ -29,16 +29,26 @@ pub(crate) struct GitHubText<'a> {
     pub(crate) console: Console,
 }
 
+impl<'a> GitHubText<'a> {
+    /// Returns the escape of a character that a workflow command can't have as it is.
+    fn escape(&self, c: char) -> Option<&'static str> {
+        match c {
+            '%' => Some("%25"),
+            '\r' => Some("%0D"),
+            '\n' => Some("%0A"),
+            ':' if self.is_property => Some("%3A"),
+            ',' if self.is_property => Some("%2C"),
+            _ => None,
+        }
+    }
+}
+
 impl<'a> fmt::Display for GitHubText<'a> {
     fn fmt<W: fmt::Write>(&self, f: &mut fmt::Formatter<W>) -> fmt::Result {
         for c in self.text.chars() {
-            match c {
-                '%' => f.write_str("%25")?,
-                '\r' => f.write_str("%0D")?,
-                '\n' => f.write_str("%0A")?,
-                ':' if self.is_property => f.write_str("%3A")?,
-                ',' if self.is_property => f.write_str("%2C")?,
-                _ => write!(f, "{}", self.console.char_on_stdout(c))?,
+            match self.escape(c) {
+                Some(escape) => f.write_str(escape)?,
+                None => write!(f, "{}", self.console.char_on_stdout(c))?,
             }
         }
         Ok(())

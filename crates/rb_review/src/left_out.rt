@@ -31,6 +31,12 @@ pub(crate) fn is_one(patterns: &[&str], name: &str) -> bool {
         .any(|pattern| matches(pattern.as_bytes(), name.as_bytes()))
 }
 
+/// Checks whether a table of the settings is for a text of this name.
+pub(crate) fn is_for(alloc: Global, section: Section<'_>, name: &str) -> Result<bool, AllocError> {
+    let files = section.texts(alloc, "files")?;
+    Ok(files.is_empty() || is_one(&files, name))
+}
+
 /// Returns the path of a finding, or an empty one if paths aren't known.
 pub(crate) fn path_at(paths: &[String], i: usize) -> &str {
     match paths.get(i) {
@@ -51,29 +57,53 @@ pub(crate) fn places_of(
     Ok(places)
 }
 
-/// Returns a set of rules with those of these names.
-pub(crate) fn with_rules(rules: RuleSet, names: &[&str]) -> RuleSet {
-    let mut rules = rules;
-    for name in names {
-        if let Some(rule) = Rule::named(name) {
-            rules = rules.with(rule);
-        }
+/// Returns a set of rules with the one of a name, if there is one.
+fn with_rule(rules: RuleSet, name: &str) -> RuleSet {
+    match Rule::named(name) {
+        Some(rule) => rules.with(rule),
+        None => rules,
     }
-    rules
+}
+
+/// Returns a set of rules with those that a key of a table names.
+pub(crate) fn with_texts(
+    alloc: Global,
+    rules: RuleSet,
+    section: Section<'_>,
+    key: &str,
+) -> Result<RuleSet, AllocError> {
+    let mut rules = rules;
+    for name in section.texts(alloc, key)? {
+        rules = with_rule(rules, name);
+    }
+    Ok(rules)
 }
 
 /// Returns the rules about messages.
 fn message_rules() -> RuleSet {
     let mut rules = RuleSet::none();
     for name in MESSAGE_RULES.split(' ') {
-        if let Some(rule) = Rule::named(name) {
-            rules = rules.with(rule);
-        }
+        rules = with_rule(rules, name);
     }
     rules
 }
 
 impl<'a> LeftOut<'a> {
+    /// Leaves out rules at paths, or at all others.
+    fn add_filter(
+        &mut self,
+        paths: Vec<&'a str>,
+        rules: RuleSet,
+        is_inverse: bool,
+    ) -> Result<(), AllocError> {
+        self.filters.push(Filter {
+            paths,
+            rules,
+            is_inverse,
+        })?;
+        Ok(())
+    }
+
     /// Adds what is allowed in a text of this name.
     fn add_allowance(
         &mut self,
@@ -81,22 +111,16 @@ impl<'a> LeftOut<'a> {
         section: Section<'a>,
         name: &str,
     ) -> Result<(), AllocError> {
-        let files = section.texts(alloc, "files")?;
-        if !files.is_empty() && !is_one(&files, name) {
+        if !is_for(alloc, section, name)? {
             return Ok(());
         }
-        let names = section.texts(alloc, "warnings")?;
         let paths = section.texts(alloc, "paths")?;
         if paths.is_empty() {
-            self.levels.allowed = with_rules(self.levels.allowed, &names);
+            self.levels.allowed = with_texts(alloc, self.levels.allowed, section, "warnings")?;
             return Ok(());
         }
-        self.filters.push(Filter {
-            paths,
-            rules: with_rules(RuleSet::none(), &names),
-            is_inverse: false,
-        })?;
-        Ok(())
+        let rules = with_texts(alloc, RuleSet::none(), section, "warnings")?;
+        self.add_filter(paths, rules, false)
     }
 
     /// Adds what the tables of the settings allow in a text.
@@ -121,14 +145,10 @@ impl<'a> LeftOut<'a> {
         (key, is_inverse): (&str, bool),
     ) -> Result<(), AllocError> {
         let paths = section.texts(alloc, key)?;
-        if !paths.is_empty() {
-            self.filters.push(Filter {
-                paths,
-                rules: message_rules(),
-                is_inverse,
-            })?;
+        if paths.is_empty() {
+            return Ok(());
         }
-        Ok(())
+        self.add_filter(paths, message_rules(), is_inverse)
     }
 
     /// Returns what the settings leave out in a text.

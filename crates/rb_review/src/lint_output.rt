@@ -49,6 +49,23 @@ struct Line<'a> {
     message: &'a str,
 }
 
+impl<'a> Line<'a> {
+    /// Returns the line of a finding with this message.
+    fn of(file: &'a str, finding: &Finding, message: &'a str) -> Line<'a> {
+        Line {
+            file,
+            place: Some((finding.line, finding.column)),
+            level: finding.severity.word(),
+            rule: match finding.rule {
+                Some(rule) => Some(rule.name()),
+                None => None,
+            },
+            code: finding.code(),
+            message,
+        }
+    }
+}
+
 /// Prints findings in one format.
 #[derive(Clone, Copy)]
 pub(crate) struct LintOutput {
@@ -96,10 +113,7 @@ impl LintOutput {
         print!(rt; "{SARIF_HEAD}")?;
         let mut comma = "";
         for rule in Rule::all() {
-            let (name, about) = (rule.name(), JsonText(rule.about()));
-            print!(rt;
-                "{comma}{{\"id\":\"{name}\",\"shortDescription\":{{\"text\":\"{about}\"}}}}"
-            )?;
+            sarif_rule(rt, *rule, comma)?;
             comma = ",";
         }
         println!(rt; "]}}}},\"columnKind\":\"utf16CodeUnits\",\"results\":[")
@@ -122,18 +136,7 @@ impl LintOutput {
         finding: &Finding,
     ) -> io::Result<()> {
         let message = format!(in rt.alloc(); "{}", &finding.message)?;
-        let line = Line {
-            file,
-            place: Some((finding.line, finding.column)),
-            level: finding.severity.word(),
-            rule: match finding.rule {
-                Some(rule) => Some(rule.name()),
-                None => None,
-            },
-            code: finding.code(),
-            message: message.as_str(),
-        };
-        self.line(rt, line)?;
+        self.line(rt, Line::of(file, finding, message.as_str()))?;
         if self.format == Format::Full {
             let line = lines.line(finding.line);
             self.snippet(rt, line, finding)?;
@@ -288,19 +291,24 @@ fn json_line<R: Print>(rt: &R, line: Line<'_>) -> io::Result<()> {
     )
 }
 
+/// Prints a rule of SARIF after a comma, or after nothing if it is the first.
+fn sarif_rule<R: Print>(rt: &R, rule: Rule, comma: &str) -> io::Result<()> {
+    let (name, about) = (rule.name(), JsonText(rule.about()));
+    print!(rt; "{comma}{{\"id\":\"{name}\",\"shortDescription\":{{\"text\":\"{about}\"}}}}")
+}
+
 /// Prints a result of SARIF after a comma, or after nothing if it is the first.
 fn sarif_line<R: Print>(rt: &R, line: Line<'_>, comma: &str) -> io::Result<()> {
-    let (file, level, message) = (UriText(line.file), line.level, JsonText(line.message));
-    let (place, rule) = (
-        Place(
-            line.place,
-            ",\"region\":{\"startLine\":",
-            ",\"startColumn\":",
-            "}",
-        ),
-        Name(line.code, "\"ruleId\":\"", "\","),
-    );
+    let (level, message) = (line.level, JsonText(line.message));
+    let rule = Name(line.code, "\"ruleId\":\"", "\",");
     print!(rt; "{comma}{{{rule}\"level\":\"{level}\",\"message\":{{\"text\":\"{message}\"}},")?;
+    sarif_location(rt, line)
+}
+
+/// Prints the place of a result of SARIF, and the end of the result.
+fn sarif_location<R: Print>(rt: &R, line: Line<'_>) -> io::Result<()> {
+    let (before, between) = (",\"region\":{\"startLine\":", ",\"startColumn\":");
+    let (file, place) = (UriText(line.file), Place(line.place, before, between, "}"));
     println!(rt;
         "\"locations\":[{{\"physicalLocation\":{{\"artifactLocation\":{{\"uri\":\"{file}\"}}{place}}}}}]}}"
     )

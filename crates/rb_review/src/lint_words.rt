@@ -1,5 +1,5 @@
 //! The words of `resb lint`'s command line.
-use crate::left_out::with_rules;
+use crate::left_out::with_texts;
 use rb_console::Console;
 use rb_lint::{Levels, Rule, RuleSet};
 use rb_project::{Configured, Project};
@@ -113,11 +113,9 @@ pub(crate) fn with_settings(
     project: &Project,
 ) -> Result<Levels, AllocError> {
     let section = project.settings.section("lint");
-    let allowed = section.texts(alloc, "allow")?;
-    let denied = section.texts(alloc, "deny")?;
     Ok(Levels {
-        allowed: with_rules(levels.allowed, &allowed),
-        denied: with_rules(levels.denied, &denied),
+        allowed: with_texts(alloc, levels.allowed, section, "allow")?,
+        denied: with_texts(alloc, levels.denied, section, "deny")?,
         wanted: levels.wanted,
     })
 }

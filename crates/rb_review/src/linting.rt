@@ -32,6 +32,44 @@ struct RootText {
     lengths: Vec<PathLength>,
 }
 
+/// The last root's text of a module that was read.
+#[derive(Drop)]
+struct LastRoot {
+    name: String,
+    /// None if it isn't compiled.
+    root: Option<RootText>,
+    /// The strings that the texts of the module translate.
+    same: SameTexts,
+}
+
+impl LastRoot {
+    fn none(alloc: Global) -> LastRoot {
+        LastRoot {
+            name: String::new(alloc),
+            root: None,
+            same: SameTexts::none(alloc),
+        }
+    }
+
+    /// Reads the root's text of a module, or reports the error, and what the first of some texts
+    /// translate.
+    fn read<R: Files + AllocGlobal + Eprint>(
+        &mut self,
+        rt: &R,
+        (console, modules): (Console, &Modules<'_>),
+        texts: &[Text],
+        name: &str,
+    ) -> Result<(), AllocError> {
+        self.name = String::from_str(rt.alloc(), name)?;
+        self.root = read_root_text(rt, console, name);
+        self.same = match &self.root {
+            Some(root) => SameTexts::read(rt, modules, texts, (name, &root.tree))?,
+            None => SameTexts::none(rt.alloc()),
+        };
+        Ok(())
+    }
+}
+
 /// The texts that a text is compared with.
 #[derive(Clone, Copy, PartialEq, Eq)]
 enum Beside {
@@ -42,26 +80,40 @@ enum Beside {
     Module,
 }
 
+/// The arguments, settings and data that all texts of a command share.
+#[derive(Clone, Copy)]
+struct Common<'a> {
+    levels: Levels,
+    words: &'a LintWords<'a>,
+    modules: &'a Modules<'a>,
+    data: &'a ProjectData,
+}
+
+impl<'a> Common<'a> {
+    /// Returns how many warnings of a text are printed.
+    fn limit(self) -> usize {
+        if self.words.is_all {
+            usize::MAX
+        } else {
+            WARNING_LIMIT
+        }
+    }
+
+    /// Checks whether warnings count for the status.
+    fn is_strict(self) -> bool {
+        self.words.is_strict || self.modules.project.settings.section("lint").flag("strict")
+    }
+}
+
 /// The state of a command from text to text.
 #[derive(Drop)]
 struct Linter<'a> {
-    console: Console,
-    levels: Levels,
-    limit: usize,
-    is_strict: bool,
-    /// The name of standard input's text.
-    name: Option<&'a str>,
-    modules: &'a Modules<'a>,
-    data: &'a ProjectData,
+    common: Common<'a>,
     output: LintOutput,
     baseline: Baseline,
     /// The root's text that all are compared with.
     named: Option<RootText>,
-    /// The last root's text of a module, if it compiles.
-    root_name: String,
-    root: Option<RootText>,
-    /// What the texts of that module translate.
-    same: SameTexts,
+    last: LastRoot,
     /// A root's text was refused.
     has_bad_root: bool,
 }
@@ -88,6 +140,17 @@ struct Tally {
 }
 
 impl Tally {
+    /// Returns the count of no findings.
+    fn of(common: Common<'_>) -> Tally {
+        Tally {
+            limit: common.limit(),
+            is_strict: common.is_strict(),
+            is_good: true,
+            printed: 0,
+            more: 0,
+        }
+    }
+
     /// Counts a finding. Returns true if it is printed.
     fn takes(&mut self, finding: &Finding) -> bool {
         if finding.rule.is_some() {
@@ -110,7 +173,7 @@ impl<'a> Linter<'a> {
         match beside {
             Beside::Nothing => None,
             Beside::Named => self.named.as_ref(),
-            Beside::Module => self.root.as_ref(),
+            Beside::Module => self.last.root.as_ref(),
         }
     }
 
@@ -122,17 +185,10 @@ impl<'a> Linter<'a> {
         texts: &[Text],
         name: &str,
     ) -> Result<(), AllocError> {
-        if self.root_name.as_str() == name {
-            return Ok(());
-        }
-        self.root_name = String::from_str(rt.alloc(), name)?;
-        self.root = read_root_text(rt, self.console, name);
-        self.same = match &self.root {
-            Some(root) => SameTexts::read(rt, self.modules, texts, (name, &root.tree))?,
-            None => SameTexts::none(rt.alloc()),
-        };
-        if self.root.is_none() {
-            self.has_bad_root = true;
+        if self.last.name.as_str() != name {
+            let from = (self.output.console, self.common.modules);
+            self.last.read(rt, from, texts, name)?;
+            self.has_bad_root = self.has_bad_root || self.last.root.is_none();
         }
         Ok(())
     }
@@ -154,7 +210,7 @@ impl<'a> Linter<'a> {
         if name == text.name.as_str() {
             return Ok(Beside::Nothing);
         }
-        match root_of(rt.alloc(), self.modules, name)? {
+        match root_of(rt.alloc(), self.common.modules, name)? {
             Some(root) => {
                 self.read_root(rt, &[], root.as_str())?;
                 Ok(Beside::Module)
@@ -177,7 +233,7 @@ impl<'a> Linter<'a> {
         if left_out.has_paths() && left_out.has(rule, path) {
             return Ok(true);
         }
-        if self.same.leaves_out(alloc, left_out.levels, finding)? {
+        if self.last.same.leaves_out(alloc, left_out.levels, finding)? {
             return Ok(true);
         }
         if self.baseline.is_empty() {
@@ -195,14 +251,8 @@ impl<'a> Linter<'a> {
         findings: &[Finding],
     ) -> io::Result<Tally> {
         let paths = left_out.paths(rt.alloc(), text, findings)?;
-        let file = self.modules.project.relative(rt.alloc(), name)?;
-        let mut tally = Tally {
-            limit: self.limit,
-            is_strict: self.is_strict,
-            is_good: true,
-            printed: 0,
-            more: 0,
-        };
+        let file = self.common.modules.project.relative(rt.alloc(), name)?;
+        let mut tally = Tally::of(self.common);
         let mut lines = Lines::of(text);
         for (i, finding) in findings.iter().enumerate() {
             let place = (file.as_str(), path_at(&paths, i));
@@ -213,25 +263,35 @@ impl<'a> Linter<'a> {
         Ok(tally)
     }
 
-    /// Returns the findings of a text within the limits of its strings. Takes all findings, not
-    /// only as many as are printed, where some are left out later.
-    fn report_of(
+    /// Returns how many warnings of a text are taken: all, not only as many as are printed, where
+    /// some are left out later.
+    fn taken(&self, left_out: &LeftOut<'_>, limits: &StringLimits<'_>) -> usize {
+        let takes_all = !self.baseline.is_empty()
+            || left_out.has_paths()
+            || left_out.levels.wanted.has(Rule::SameText)
+            || limits.has_lengths();
+        if takes_all {
+            usize::MAX
+        } else {
+            self.common.limit()
+        }
+    }
+
+    /// Returns the findings of a text, also of strings that are within the limits at their paths.
+    fn found(
         &self,
         alloc: Global,
         left_out: &LeftOut<'_>,
         (name, text): (&str, &[u8]),
         root: Option<&RootText>,
+        limits: &StringLimits<'_>,
     ) -> Result<Report, AllocError> {
-        let limits = limits_of(alloc, self.modules, (name, text), root)?;
-        let links = TextLinks::of(alloc, self.data, bundle_name(name), text)?;
-        let takes_all = !self.baseline.is_empty()
-            || left_out.has_paths()
-            || left_out.levels.wanted.has(Rule::SameText)
-            || limits.has_lengths();
+        let name = bundle_name(name);
+        let links = TextLinks::of(alloc, self.common.data, name, text)?;
         let settings = Settings {
-            name: bundle_name(name),
+            name,
             levels: left_out.levels,
-            limit: if takes_all { usize::MAX } else { self.limit },
+            limit: self.taken(left_out, limits),
             root: match root {
                 Some(root) => Some(&root.tree),
                 None => None,
@@ -241,7 +301,19 @@ impl<'a> Linter<'a> {
             parent: links.parent(),
             dead: &links.dead,
         };
-        let report = find_all(alloc, text, &settings)?;
+        find_all(alloc, text, &settings)
+    }
+
+    /// Returns the findings of a text within the limits of its strings.
+    fn report_of(
+        &self,
+        alloc: Global,
+        left_out: &LeftOut<'_>,
+        (name, text): (&str, &[u8]),
+        root: Option<&RootText>,
+    ) -> Result<Report, AllocError> {
+        let limits = limits_of(alloc, self.common.modules, (name, text), root)?;
+        let report = self.found(alloc, left_out, (name, text), root, &limits)?;
         Ok(Report {
             findings: limits.applied(alloc, text, report.findings)?,
             left_out: report.left_out,
@@ -257,10 +329,10 @@ impl<'a> Linter<'a> {
     ) -> io::Result<bool> {
         let alloc = rt.alloc();
         let levels = match beside {
-            Beside::Module => self.same.levels(self.levels, name),
-            Beside::Nothing | Beside::Named => self.levels,
+            Beside::Module => self.last.same.levels(self.common.levels, name),
+            Beside::Nothing | Beside::Named => self.common.levels,
         };
-        let left_out = LeftOut::of(alloc, self.modules, levels, name)?;
+        let left_out = LeftOut::of(alloc, self.common.modules, levels, name)?;
         let report = self.report_of(alloc, &left_out, (name, text), self.root_text(beside))?;
         let tally = self.print_findings(rt, &left_out, (name, text), &report.findings)?;
         let more = report.left_out.saturating_add(tally.more);
@@ -278,22 +350,22 @@ impl<'a> Linter<'a> {
             return ExitCode::SUCCESS;
         };
         let file = text.name.as_str();
-        let name = match self.name {
+        let name = match self.common.words.name {
             Some(name) if file == "-" => name,
             _ => file,
         };
         let bytes = match read_text(rt, file) {
             Ok(bytes) => bytes,
             Err(error) => {
-                let _ = cannot_read_on(rt, self.console, name, ":0", error);
+                let _ = cannot_read_on(rt, self.output.console, name, ":0", error);
                 return ExitCode::from(1);
             }
         };
         let Ok(beside) = self.prepare_root(rt, name, texts) else {
-            return refused_on(rt, self.console, name, "Memory");
+            return refused_on(rt, self.output.console, name, "Memory");
         };
         let outcome = self.lint_read(rt, (name, &bytes), beside);
-        text_status(rt, self.console, name, outcome)
+        text_status(rt, self.output.console, name, outcome)
     }
 
     /// Prints the findings of each text.
@@ -369,6 +441,22 @@ fn text_status<R: Eprint>(
     }
 }
 
+/// Returns the root's text that was parsed, or reports that memory ran out.
+fn root_text<R: AllocGlobal + Eprint>(
+    rt: &R,
+    console: Console,
+    (name, text): (&str, &[u8]),
+    tree: Tree,
+) -> Option<RootText> {
+    match lengths_in(rt.alloc(), text) {
+        Ok(lengths) => Some(RootText { tree, lengths }),
+        Err(_) => {
+            let _ = refused_on(rt, console, name, "Memory");
+            None
+        }
+    }
+}
+
 /// Reads the root's text, or reports the error.
 fn read_root_text<R: Files + AllocGlobal + Eprint>(
     rt: &R,
@@ -383,16 +471,7 @@ fn read_root_text<R: Files + AllocGlobal + Eprint>(
         }
     };
     match parse(rt.alloc(), &text) {
-        Ok(source) => match lengths_in(rt.alloc(), &text) {
-            Ok(lengths) => Some(RootText {
-                tree: source.tree,
-                lengths,
-            }),
-            Err(_) => {
-                let _ = refused_on(rt, console, name, "Memory");
-                None
-            }
-        },
+        Ok(source) => root_text(rt, console, (name, &text), source.tree),
         Err(fault) => {
             let word = fault.kind.word();
             let (name, line, hint) = (console.on_stderr(name), fault.line, console.hint(word));
@@ -418,8 +497,29 @@ fn read_named<R: Files + AllocGlobal + Eprint>(
     }
 }
 
-/// Reads what all texts of a command are linted with, and prints their findings. Returns the status
-/// of the command also if something can't be read or is refused, once that is reported.
+/// Prints the findings of all texts beside the root's text of the command line. Returns the status
+/// of the command also if a text isn't found, or the baseline can't be read.
+fn lint_beside<R: Files + Input + AllocGlobal + Print + Eprint>(
+    rt: &R,
+    output: LintOutput,
+    common: Common<'_>,
+    named: Option<RootText>,
+) -> Result<ExitCode, ExitCode> {
+    let texts = texts_of(rt, output.console, common.modules, common.words.texts)?;
+    let mut linter = Linter {
+        common,
+        output,
+        baseline: Baseline::read(rt, output.console, common.modules.project)?,
+        named,
+        last: LastRoot::none(rt.alloc()),
+        has_bad_root: false,
+    };
+    Ok(linter.lint_texts(rt, &texts))
+}
+
+/// Reads the data of the settings and the root's text of the command line, and prints the findings
+/// of all texts. Returns the status of the command also if something can't be read or is refused,
+/// once that is reported.
 fn lint_modules<R: Files + Input + AllocGlobal + Print + Eprint>(
     rt: &R,
     output: LintOutput,
@@ -427,31 +527,16 @@ fn lint_modules<R: Files + Input + AllocGlobal + Print + Eprint>(
     words: &LintWords<'_>,
     modules: &Modules<'_>,
 ) -> Result<ExitCode, ExitCode> {
-    let (console, project) = (output.console, modules.project);
-    let data = read_data(rt, console, project, None, project.settings.section("data"))?;
-    let named = read_named(rt, console, words.root)?;
-    let texts = texts_of(rt, console, modules, words.texts)?;
-    let mut linter = Linter {
-        console,
+    let section = modules.project.settings.section("data");
+    let data = read_data(rt, output.console, modules.project, None, section)?;
+    let named = read_named(rt, output.console, words.root)?;
+    let common = Common {
         levels,
-        limit: if words.is_all {
-            usize::MAX
-        } else {
-            WARNING_LIMIT
-        },
-        is_strict: words.is_strict || project.settings.section("lint").flag("strict"),
-        name: words.name,
+        words,
         modules,
         data: &data,
-        output,
-        baseline: Baseline::read(rt, console, project)?,
-        named,
-        root_name: String::new(rt.alloc()),
-        root: None,
-        same: SameTexts::none(rt.alloc()),
-        has_bad_root: false,
     };
-    Ok(linter.lint_texts(rt, &texts))
+    lint_beside(rt, output, common, named)
 }
 
 /// Reads the settings and the modules of a project, and prints the findings.
@@ -467,6 +552,26 @@ fn lint_with<R: Files + Input + AllocGlobal + Print + Eprint>(
     Ok(match lint_modules(rt, output, levels, words, &modules) {
         Ok(status) | Err(status) => status,
     })
+}
+
+/// Opens the project of a command, and prints the findings, or reports why it can't be opened.
+fn lint_settings<R: Files + Input + AllocGlobal + Print + Eprint>(
+    rt: &R,
+    output: LintOutput,
+    levels: Levels,
+    words: &LintWords<'_>,
+) -> ExitCode {
+    let Ok(rules) = rule_names(rt.alloc()) else {
+        return not_started_on(rt, output.console, StartError::Memory);
+    };
+    let project = match open_project(rt, output.console, words.config, &rules) {
+        Ok(project) => project,
+        Err(status) => return status,
+    };
+    match lint_with(rt, output, levels, words, &project) {
+        Ok(status) => status,
+        Err(_) => not_started_on(rt, output.console, StartError::Memory),
+    }
 }
 
 /// Prints what is doubtful in bundle texts, and the error of each text that isn't compiled, in the
@@ -493,20 +598,12 @@ pub fn lint_all<R: Files + Input + AllocGlobal + Print + Eprint>(
         let _ = eprintln!(rt; "resb: --color is auto, always or never");
         return ExitCode::from(2);
     };
-    let Some(levels) = levels_of(rt, console, words) else {
-        return ExitCode::from(2);
-    };
-    let Ok(rules) = rule_names(rt.alloc()) else {
-        return not_started_on(rt, console, StartError::Memory);
-    };
-    let project = match open_project(rt, console, words.config, &rules) {
-        Ok(project) => project,
-        Err(status) => return status,
-    };
-    let output = LintOutput::new(format, console, has_colors);
-    match lint_with(rt, output, levels, words, &project) {
-        Ok(status) => status,
-        Err(_) => not_started_on(rt, console, StartError::Memory),
+    match levels_of(rt, console, words) {
+        Some(levels) => {
+            let output = LintOutput::new(format, console, has_colors);
+            lint_settings(rt, output, levels, words)
+        }
+        None => ExitCode::from(2),
     }
 }
 

@@ -96,10 +96,14 @@ impl SameTexts {
         if is_source && (self.is_named || locale != self.language.as_str()) {
             return Ok(());
         }
-        let Some(tree) = tree_of(rt, name) else {
-            return Ok(());
-        };
-        let paths = translated_paths(rt.alloc(), &tree, root)?;
+        match tree_of(rt, name) {
+            Some(tree) => self.add_paths(translated_paths(rt.alloc(), &tree, root)?, is_source),
+            None => Ok(()),
+        }
+    }
+
+    /// Counts the paths that a text translates.
+    fn add_paths(&mut self, paths: Vec<String>, is_source: bool) -> Result<(), AllocError> {
         if is_source {
             self.is_neutral = self.is_neutral || !paths.is_empty();
             return Ok(());

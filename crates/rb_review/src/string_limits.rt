@@ -1,5 +1,5 @@
 //! The words that the strings of a text may not have, and their greatest lengths.
-use crate::left_out::{is_one, path_at, places_of};
+use crate::left_out::{is_for, is_one, path_at, places_of};
 use rb_lint::{Finding, Message, PathLength, PatternDoubt, paths_at};
 use rb_project::{Modules, Project, Section};
 use std::alloc::{AllocError, Global};
@@ -27,12 +27,6 @@ fn is_at_or_below(path: &str, top: &str) -> bool {
         Some(rest) => top.is_empty() || rest.is_empty() || rest.starts_with('/'),
         None => false,
     }
-}
-
-/// Checks whether a table of the settings is for a text of this name.
-fn is_for(alloc: Global, section: Section<'_>, name: &str) -> Result<bool, AllocError> {
-    let files = section.texts(alloc, "files")?;
-    Ok(files.is_empty() || is_one(&files, name))
 }
 
 /// Returns the length of the string that a finding calls too long, if it does.
@@ -200,11 +194,13 @@ impl<'a> StringLimits<'a> {
         paths: &[String],
     ) -> Result<Vec<Finding>, AllocError> {
         let mut counted = Vec::new(alloc);
-        for (i, finding) in findings.into_iter().enumerate() {
+        let mut i: usize = 0;
+        for finding in findings {
             let mut finding = finding;
             if self.counts(&mut finding, path_at(paths, i)) {
                 counted.push(finding)?;
             }
+            i = i.saturating_add(1);
         }
         Ok(counted)
     }
