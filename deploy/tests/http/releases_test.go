@@ -71,7 +71,7 @@ func TestReleases(t *testing.T) {
 		s := open(t)
 		s.put("de", `de{a{"A"}}`)
 		got := s.release(kind, pack(t, namedText{"texts/de.txt", `de{a{"B"}}`}, namedText{"fr.txt", `fr{a{"F"}}`}))
-		if got.Status != 200 || got.Body != "{\"changes\":2,\"ok\":true}\n" || got.Revision() != 2 {
+		if got.Status != 200 || got.Body != "{\"changes\":2,\"id\":8192,\"ok\":true}\n" || got.Revision() != 2 {
 			t.Fatalf("%s: %d %s %v", kind, got.Status, got.Body, got.Header)
 		}
 		s.is("de/a", "B")
