@@ -148,6 +148,9 @@ func check(c *call) error {
 	if err := given.accept(c); err != nil {
 		return err
 	}
+	if _, err := localeIn(given.locale); err != nil {
+		return err
+	}
 	if err := given.read(c); err != nil {
 		return err
 	}
