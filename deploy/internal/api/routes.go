@@ -44,7 +44,7 @@ var addresses = []front.Address{
 		{Method: "GET", ID: "tokens", Summary: "Returns the tokens that owners made.", Right: auth.Own, Kind: front.KindOther,
 			Do: listTokens, Gives: asJSON, Statuses: []int{200}},
 		{Method: "POST", ID: "makeToken", Summary: "Makes a token, and returns it once.", Right: auth.Own, Kind: front.KindChange, Action: "token",
-			Do: makeToken, Gives: asJSON, Statuses: []int{201, 409, 507}, Query: []string{"rights", "name", "scope", "expires"}},
+			Do: makeToken, Gives: asJSON, Statuses: []int{201, 409, 507}, Query: []string{"rights", "name", "locale scope", "expires"}},
 	}},
 	{Pattern: "/_tokens/{token}", Operations: []front.Operation{
 		{Method: "DELETE", ID: "revoke", Summary: "Revokes a token that an owner made.", Right: auth.Own, Kind: front.KindChange, Action: "revoke",
@@ -60,7 +60,7 @@ var addresses = []front.Address{
 	}},
 	{Pattern: "/_default", Operations: []front.Operation{
 		{Method: "PUT", ID: "setDefault", Summary: "Sets the locale for callers none of whose languages has a bundle.", Right: auth.Edit,
-			Kind: front.KindChange, Action: "default", Do: setDefault, Gives: asJSON, Statuses: []int{200, 507}, Query: []string{"default"}},
+			Kind: front.KindChange, Action: "default", Do: setDefault, Gives: asJSON, Statuses: []int{200, 507}, Query: []string{"locale default"}},
 	}},
 	{Pattern: "/_check/{locale}", Operations: []front.Operation{
 		{Method: "POST", ID: "check", Summary: "Returns the error and the warnings of a bundle, and stores nothing.", Right: auth.Read,
@@ -68,7 +68,7 @@ var addresses = []front.Address{
 	}},
 	{Pattern: "/_history", Operations: []front.Operation{
 		{Method: "GET", ID: "history", Summary: "Returns the last changes, the newest first.", Right: auth.Edit, AnyLocale: true, Kind: front.KindHistory,
-			Do: history, Gives: asJSON, Statuses: []int{200}, Query: []string{"last", "before", "of", "by"}},
+			Do: history, Gives: asJSON, Statuses: []int{200}, Query: []string{"last", "before", "locale of", "by"}},
 	}},
 	{Pattern: "/_history/{id}", Operations: []front.Operation{
 		{Method: "GET", ID: "version", Forms: "getVersion", Summary: "Returns the bundle as it was after a change.", Right: auth.Edit, AnyLocale: true,
@@ -88,7 +88,7 @@ var addresses = []front.Address{
 	}},
 	{Pattern: "/{locale}", Operations: []front.Operation{
 		{Method: "GET", ID: "lookRoot", Forms: "get", Summary: "Returns the bundle's table, or with ?path an item; with .txt, .res or .json the bundle; with ?tree all that it inherits.",
-			Right: auth.Read, Kind: front.KindLook, Do: readBundle, Gives: inAnyForm, Statuses: []int{200, 304, 404, 412, 413}, Query: []string{"tree", "item"}},
+			Right: auth.Read, Kind: front.KindLook, Do: readBundle, Gives: inAnyForm, Statuses: []int{200, 304, 404, 412, 413}, Query: []string{"tree", "path item"}},
 		{Method: "PUT", ID: "put", Summary: "Installs or replaces the bundle.", Right: auth.Edit, Kind: front.KindChange, Action: "put",
 			Do: put, Takes: asBundle, Gives: asJSON, Statuses: []int{200, 201, 408, 409, 412, 413, 415, 507}, Query: []string{"strict"}},
 		{Method: "POST", ID: "install", Summary: "Installs the bundle if there is none.", Right: auth.Edit, Kind: front.KindChange, Action: "install",

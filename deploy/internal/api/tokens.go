@@ -1,7 +1,6 @@
 package api
 
 import (
-	"fmt"
 	"net/http"
 	"strings"
 	"time"
@@ -54,16 +53,8 @@ func listTokens(c *call) error {
 	return c.Reply(map[string][]madeToken{"tokens": all})
 }
 
-// tokenQuery has what the query of a new token may say.
-var tokenQuery = map[string]bool{"rights": true, "name": true, "locale": true, "expires": true, "after": true}
-
 // newToken makes the token that the query describes, with its line.
 func newToken(c *call) (token, line string, err error) {
-	for name, values := range c.Query {
-		if !tokenQuery[name] || len(values) > 1 { // a token with a wrong `expire` would never expire
-			return "", "", fmt.Errorf("%.80q isn't asked for, or is there twice", name)
-		}
-	}
 	where := c.App
 	if locale := c.Query.Get("locale"); locale != "" {
 		where += "/" + locale

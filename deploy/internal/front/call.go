@@ -250,6 +250,9 @@ func (c *Call) limited(do *Operation) error {
 		return err
 	}
 	if err = c.readQuery(); err == nil {
+		err = do.admits(c.Query)
+	}
+	if err == nil {
 		err = c.Backend.Ready()
 	}
 	if err == nil {

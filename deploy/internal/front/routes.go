@@ -1,10 +1,13 @@
 package front
 
 import (
+	"fmt"
 	"net/http"
+	"net/url"
 	"strings"
 
 	"luvdregan.example/resb/deploy/internal/auth"
+	"luvdregan.example/resb/deploy/internal/wire"
 )
 
 // A Kind is what a request is counted as.
@@ -35,7 +38,22 @@ type Operation struct {
 	Do                  func(*Call) error
 	Takes, Gives        []string // the types of bodies and replies
 	Statuses            []int    // beside those of all addresses
-	Query               []string // beside `after`
+	Query               []string // names beside `after`, with a blank and that of the description in openapi.json if it is another one
+}
+
+// admits returns an error if the query of a change has a name that the operation doesn't know, or has one twice: a change that isn't what its
+// caller means would be made.
+func (o *Operation) admits(query url.Values) error {
+	for name, values := range query {
+		known := name == "after"
+		for _, words := range o.Query {
+			known = known || name == strings.Fields(words)[0]
+		}
+		if o.Kind == KindChange && (!known || len(values) > 1) {
+			return wire.BadQuery.With(fmt.Sprintf("%.80q isn't asked for, or is there twice", name))
+		}
+	}
+	return nil
 }
 
 // Other is the operation of all that has none.

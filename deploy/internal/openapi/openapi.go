@@ -81,8 +81,8 @@ func pathItem(a *front.Address, form wire.Form) object {
 
 func operationItem(o *front.Operation, id string, gives []string) object {
 	given := []object{}
-	for _, name := range o.Query {
-		given = append(given, reference("parameters", name))
+	for _, words := range o.Query {
+		given = append(given, reference("parameters", words[strings.LastIndexByte(words, ' ')+1:]))
 	}
 	if o.Method != http.MethodGet && o.Right&(auth.Read|auth.Own) == 0 {
 		given = append(given, reference("parameters", "ifMatch"))
