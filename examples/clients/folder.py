@@ -1,4 +1,4 @@
-"""What resb-put and resb-get share: a folder of bundles, an application at a gateway, and what was sent or brought last, which is stored
+"""What resb-put and resb-get share: a folder of bundles, an application at a gateway, and what was last sent or fetched, which is stored
 in the file .resb-sent.json of the folder. Needs over_http.py beside it, Python 3.8 or later, and nothing else.
 """
 import argparse
@@ -55,7 +55,7 @@ os.umask(UMASK)
 
 
 class Folder:
-    """The bundles of a folder and of an application, and the tags of those that were sent or brought last, by locale."""
+    """The bundles of a folder and of an application, and the tags of those that were last sent or fetched, by locale."""
 
     def __init__(self, path, url, token):
         gateway, _, app = url.rstrip("/").rpartition("/v1/")
@@ -91,7 +91,7 @@ class Folder:
             self.sent[locale] = tag
 
     def save(self):
-        """Stores what was sent or brought, unless that is as before."""
+        """Stores what was sent or fetched, unless that is as before."""
         text = json.dumps(self.memory, indent=1, sort_keys=True) + "\n"
         path = os.path.join(self.path, MEMORY)
         if not os.path.exists(path) or self._read(MEMORY) != text.encode():
@@ -118,7 +118,7 @@ class Folder:
             return f"{name}: somebody added or changed the bundle, which this folder doesn't have\n"
         head = f"{name}: somebody changed the installed bundle\n"
         if locale not in self.sent:
-            head = f"{name}: differs from the installed bundle, and {MEMORY} doesn't have which was sent or brought last\n"
+            head = f"{name}: differs from the installed bundle, and {MEMORY} doesn't say which one was sent or fetched last\n"
         if name.endswith(".res"):
             return head
         sides = self.bundles.file(locale + ".txt"), self.bodies[locale]

@@ -56,7 +56,7 @@ func (m *Manifest) First() *Manifest {
 	return &first
 }
 
-// erase makes the manifest that of an application without bundles. What the one before has can be brought back until a time, unless that is 0.
+// erase makes the manifest that of an application without bundles. What the one before has can be restored until a time, unless that is 0.
 func (m *Manifest) erase(before *Manifest, until int64) {
 	m.Erased = true
 	switch {

@@ -39,7 +39,7 @@ func TestAJournalThatNobodyReads(t *testing.T) {
 	j.Flush() // ends within a second
 	j.Write("late")
 	harness.Must(t, from.Close())
-	j.Flush() // no line is left that another test would take for one of its own
+	j.Flush() // no line is left that the next test would count
 }
 
 // TestJournalFiles refuses a FIFO, and writes to a new file after the earlier one was renamed.

@@ -248,8 +248,8 @@ func TestAFolderAndATranslator(t *testing.T) {
 	must(t, os.Remove(filepath.Join(f.path, "DE.txt")))
 	f.write("de.txt", "de{\n a{\"D\"}\n}\n")
 	must(t, os.Remove(filepath.Join(f.path, ".resb-sent.json")))
-	f.run(1, "resb-put", "- a{\"T\"}\n+ a{\"D\"}\n", "doesn't have which was sent", "replaces these changes\n")
-	f.run(1, "resb-get", "- a{\"T\"}\n+ a{\"D\"}\n", "doesn't have which was sent", "by the installed bundles\n")
+	f.run(1, "resb-put", "- a{\"T\"}\n+ a{\"D\"}\n", "doesn't say which one was sent", "replaces these changes\n")
+	f.run(1, "resb-get", "- a{\"T\"}\n+ a{\"D\"}\n", "doesn't say which one was sent", "by the installed bundles\n")
 	f.run(0, "resb-put --replace", "sent 1 of 2 bundles: revision 8;")
 	f.is("de/a", "D")
 }
