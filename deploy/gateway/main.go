@@ -14,6 +14,7 @@ import (
 	"os"
 	"os/signal"
 	"runtime/debug"
+	"strings"
 	"syscall"
 	"time"
 
@@ -24,6 +25,7 @@ import (
 	"luvdregan.example/resb/deploy/internal/front"
 	"luvdregan.example/resb/deploy/internal/replica"
 	"luvdregan.example/resb/deploy/internal/serve"
+	"luvdregan.example/resb/deploy/internal/settings"
 	"luvdregan.example/resb/deploy/internal/wire"
 )
 
@@ -37,6 +39,9 @@ const (
 	softLimit = 1 << 30
 )
 
+// usage is what -help prints before the options.
+var usage = "usage: resb-gateway OPTIONS\n" + strings.ReplaceAll(operatorUsage+tokenUsage, "usage:", "      ") + "\nOptions:\n"
+
 // conversions bound what other forms of bundles cost.
 var conversions = convert.Bounds{Time: 20 * time.Second, Memory: 1 << 30, Output: 128 << 20}
 
@@ -47,30 +52,30 @@ func main() {
 	case "token":
 		os.Exit(tokenCommand(os.Args[2:], os.Stdout, os.Stderr))
 	case "options":
-		os.Exit(describeOptions(os.Args[2:], os.Stdout))
+		os.Exit(settings.Describe(os.Args[2:], os.Stdout))
 	case "backup", "restore", "copy", "export", "list":
 		os.Exit(operatorCommand(command, os.Args[2:], os.Stdout, os.Stderr))
 	}
-	s, err := readSettings(os.Args[1:], os.Stderr)
+	s, err := settings.Read(os.Args[1:], usage, os.Stderr)
 	if errors.Is(err, flag.ErrHelp) {
 		return
 	}
-	serve.StartLog(s.log)
+	serve.StartLog(s.Log)
 	status := 0
 	switch {
 	case err != nil:
-		status = s.fail(err, 2)
-	case s.version:
+		status = fail(s, err, 2)
+	case s.Version:
 		fmt.Printf("resb-gateway %s (%s)\n", version, commit)
-	case s.checkOnly:
-		if _, err := s.open(); err != nil {
-			status = s.fail(err, 2)
+	case s.CheckOnly:
+		if _, err := s.Open(); err != nil {
+			status = fail(s, err, 2)
 		} else {
 			fmt.Println("the configuration can be used")
 		}
 	default:
 		if err := run(s); err != nil {
-			status = s.fail(err, 1)
+			status = fail(s, err, 1)
 		}
 	}
 	serve.FlushLog()
@@ -78,8 +83,8 @@ func main() {
 }
 
 // fail reports an error in the form of the log, and returns the status.
-func (s settings) fail(err error, status int) int {
-	if s.log == "json" {
+func fail(s settings.Settings, err error, status int) int {
+	if s.Log == "json" {
 		log.Printf("gateway: %v", err)
 	} else {
 		serve.Print("resb-gateway: " + err.Error())
@@ -88,24 +93,24 @@ func (s settings) fail(err error, status int) int {
 }
 
 // run serves until a signal ends it.
-func run(s settings) error {
+func run(s settings.Settings) error {
 	if os.Getenv("GOGC") == "" {
 		debug.SetGCPercent(garbage)
 	}
 	if os.Getenv("GOMEMLIMIT") == "" {
-		debug.SetMemoryLimit(softLimit + s.options.Limits.Bytes)
+		debug.SetMemoryLimit(softLimit + s.Front.Limits.Bytes)
 	}
 	leaving, stop := signal.NotifyContext(context.Background(), os.Interrupt, syscall.SIGTERM)
 	defer stop()
 	hangups := make(chan os.Signal, 1)
 	signal.Notify(hangups, syscall.SIGHUP) // also during a long start, which it would end
-	p, err := s.open()
+	p, err := s.Open()
 	if err != nil {
 		return err
 	}
-	outer, err := net.Listen("tcp", s.listen)
+	outer, err := net.Listen("tcp", s.Listen)
 	if err != nil {
-		return s.wrong("listen", ": %w", err)
+		return s.Wrong("listen", ": %w", err)
 	}
 	opened := make(chan *replica.Replica, 1)
 	go func() {
@@ -119,22 +124,22 @@ func run(s settings) error {
 	}
 	opened <- g.Backend
 	defer g.close()
-	go g.refresh(leaving, hangups, p.pair)
-	if s.inside != "" {
-		inner, err := net.Listen("tcp", s.inside)
+	go g.refresh(leaving, hangups, p.Pair)
+	if s.Inside != "" {
+		inner, err := net.Listen("tcp", s.Inside)
 		if err != nil {
-			return s.wrong("inside", ": %w", err)
+			return s.Wrong("inside", ": %w", err)
 		}
 		inside := g.server(g.Handler.Inside()) // the metrics, and whether the gateway is ready
 		go func() { _ = inside.Serve(inner) }()
 		defer inside.Close()
 	}
-	return g.listenOn(outer, p.pair)
+	return g.listenOn(outer, p.Pair)
 }
 
 // A gateway is a handler with the settings of its listeners.
 type gateway struct {
-	settings
+	settings.Settings
 	*front.Handler
 	leaving   context.Context // is done when the gateway ends
 	refreshed chan struct{}   // is closed when nothing is read again any more
@@ -144,29 +149,29 @@ type gateway struct {
 }
 
 // newGateway opens the store and the logs, and begins to follow the store.
-func newGateway(leaving context.Context, s settings, p parts) (g *gateway, err error) {
-	g = &gateway{settings: s, leaving: leaving, refreshed: make(chan struct{})}
-	of, refusal, err := s.findStore() // which may make the folder of the logs
+func newGateway(leaving context.Context, s settings.Settings, p settings.Parts) (g *gateway, err error) {
+	g = &gateway{Settings: s, leaving: leaving, refreshed: make(chan struct{})}
+	of, refusal, err := s.FindStore() // which may make the folder of the logs
 	if err != nil {
 		return nil, err
 	}
 	if refusal != nil {
 		log.Print(refusal)
 	}
-	if g.access, err = serve.OpenJournal(s.accessLog); err != nil {
-		return nil, s.wrong("access-log", ": %w", err)
+	if g.access, err = serve.OpenJournal(s.AccessLog); err != nil {
+		return nil, s.Wrong("access-log", ": %w", err)
 	}
-	if g.audit, err = serve.OpenJournal(s.auditLog); err != nil {
-		return nil, s.wrong("audit-log", ": %w", err)
+	if g.audit, err = serve.OpenJournal(s.AuditLog); err != nil {
+		return nil, s.Wrong("audit-log", ": %w", err)
 	}
-	options := s.options
+	options := s.Front
 	options.Access, options.Audit = serve.JournalOf(g.access), serve.JournalOf(g.audit)
 	options.Version, options.Commit, options.Leaving = version, commit, leaving
-	g.Handler = api.New(&front.Handler{Backend: replica.Open(of, p.engine, s.replica), Engine: p.engine, Tokens: p.tokens,
-		Convert: convert.New(s.program, conversions), Options: options})
+	g.Handler = api.New(&front.Handler{Backend: replica.Open(of, p.Engine, s.Replica), Engine: p.Engine, Tokens: p.Tokens,
+		Convert: convert.New(s.Program, conversions), Options: options})
 	g.Metrics.Counter("log_lines_dropped_total", "Lines of logs that were left out, as nobody took them.", serve.Dropped)
-	g.Metrics.Gauge("certificate_expiry_timestamp_seconds", "When the certificate expires, in seconds since 1970, or 0 without one.", p.pair.Expires)
-	g.Metrics.Gauge("certificate_bad", "1 if the files of the certificate can't be read again.", p.pair.Bad)
+	g.Metrics.Gauge("certificate_expiry_timestamp_seconds", "When the certificate expires, in seconds since 1970, or 0 without one.", p.Pair.Expires)
+	g.Metrics.Gauge("certificate_bad", "1 if the files of the certificate can't be read again.", p.Pair.Bad)
 	g.Metrics.Gauge("log_lines_waiting", "Lines of logs that wait to be written.", serve.Queued)
 	return g, nil
 }
@@ -194,7 +199,7 @@ func (g *gateway) refresh(ctx context.Context, hangups <-chan os.Signal, p *serv
 			g.Tokens.Reload(false)
 			p.Again()
 		case <-soon.C:
-			if g.keepTokens(); g.addTokens == "" || g.unkept != "" {
+			if g.keepTokens(); g.AddTokens == "" || g.unkept != "" {
 				soon.Stop()
 			}
 		case <-hangups:
@@ -211,25 +216,25 @@ func (g *gateway) refresh(ctx context.Context, hangups <-chan os.Signal, p *serv
 
 // keepTokens stores the tokens of -add-tokens once lookups are answered, so that a gateway that fails to start leaves none.
 func (g *gateway) keepTokens() {
-	if g.addTokens == "" || g.Backend.Ready() != nil {
+	if g.AddTokens == "" || g.Backend.Ready() != nil {
 		return
 	}
 	if err := g.Tokens.Keep(); err != nil {
 		if g.unkept != err.Error() {
-			log.Printf("tokens: those of %s can't be stored: %v", g.addTokens, err)
+			log.Printf("tokens: those of %s can't be stored: %v", g.AddTokens, err)
 		}
 		g.unkept = err.Error()
 		return
 	}
-	_ = os.Remove(g.addTokens)
-	g.addTokens = ""
+	_ = os.Remove(g.AddTokens)
+	g.AddTokens = ""
 }
 
 // server returns a server with the limits of the settings.
 func (g *gateway) server(handler http.Handler) *http.Server {
 	return &http.Server{
-		Handler: handler, ReadHeaderTimeout: g.headerTime, ReadTimeout: g.options.ReadTime, WriteTimeout: g.writeTime,
-		IdleTimeout: g.idleTime, MaxHeaderBytes: 16 << 10, ConnState: serve.State, ConnContext: wire.WithConn,
+		Handler: handler, ReadHeaderTimeout: g.HeaderTime, ReadTimeout: g.Front.ReadTime, WriteTimeout: g.WriteTime,
+		IdleTimeout: g.IdleTime, MaxHeaderBytes: 16 << 10, ConnState: serve.State, ConnContext: wire.WithConn,
 		ErrorLog: log.New(quiet{}, "", 0),
 	}
 }
@@ -247,9 +252,9 @@ func (quiet) Write(b []byte) (int, error) {
 // listenOn answers until the gateway is to end; then what is on its way is answered, and no more taken.
 func (g *gateway) listenOn(outer net.Listener, p *serve.Pair) error {
 	server := g.server(g)
-	var l net.Listener = &serve.Listener{Listener: outer, Metrics: g.Metrics, Most: g.connections, Plain: p == nil}
+	var l net.Listener = &serve.Listener{Listener: outer, Metrics: g.Metrics, Most: g.Connections, Plain: p == nil}
 	if p != nil {
-		l = serve.NewSecure(l, p.Configuration(), g.headerTime)
+		l = serve.NewSecure(l, p.Configuration(), g.HeaderTime)
 	}
 	ended := make(chan error, 1)
 	go func() { ended <- server.Serve(l) }()
@@ -266,13 +271,13 @@ func (g *gateway) listenOn(outer net.Listener, p *serve.Pair) error {
 	select {
 	case err := <-ended:
 		return err
-	case <-time.After(g.drain):
+	case <-time.After(g.Drain):
 	}
-	late, cancel := context.WithTimeout(context.Background(), g.leave)
+	late, cancel := context.WithTimeout(context.Background(), g.Leave)
 	defer cancel()
 	if err := server.Shutdown(late); err != nil {
 		_ = server.Close()
-		return fmt.Errorf("requests were on their way for %v; they are cut off", g.leave)
+		return fmt.Errorf("requests were on their way for %v; they are cut off", g.Leave)
 	}
 	return nil
 }

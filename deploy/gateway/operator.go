@@ -12,6 +12,7 @@ import (
 
 	"luvdregan.example/resb/deploy/internal/convert"
 	"luvdregan.example/resb/deploy/internal/manifest"
+	"luvdregan.example/resb/deploy/internal/settings"
 	"luvdregan.example/resb/deploy/internal/store"
 	"luvdregan.example/resb/deploy/internal/store/sqlite"
 )
@@ -25,8 +26,8 @@ const operatorUsage = `usage: resb-gateway backup -state FOLDER FILE
 
 // operatorCommand does a command over a store and returns the status: backup also while a gateway runs, the others before one does.
 func operatorCommand(name string, arguments []string, out, said io.Writer) int {
-	s := settings{}
-	all := s.flags()
+	s := settings.Settings{}
+	all := s.Flags()
 	f := flag.NewFlagSet("resb-gateway "+name, flag.ContinueOnError)
 	f.SetOutput(said)
 	f.Usage = func() { fmt.Fprint(said, operatorUsage) }
@@ -37,7 +38,7 @@ func operatorCommand(name string, arguments []string, out, said io.Writer) int {
 	if f.Parse(arguments) != nil {
 		return 2
 	}
-	if missing := s.missingFor(name, f.NArg()); missing != "" {
+	if missing := missingFor(s, name, f.NArg()); missing != "" {
 		fmt.Fprintf(said, "resb-gateway %s: %s\n", name, missing)
 		f.Usage()
 		return 2
@@ -45,9 +46,9 @@ func operatorCommand(name string, arguments []string, out, said io.Writer) int {
 	var err error
 	switch file := f.Arg(0); name {
 	case "backup":
-		err = report(out, file)(sqlite.Backup(s.state, file))
+		err = report(out, file)(sqlite.Backup(s.State, file))
 	case "restore":
-		err = report(out, s.state)(sqlite.Restore(s.state, file))
+		err = report(out, s.State)(sqlite.Restore(s.State, file))
 	case "copy":
 		err = copyStore(s, file, out)
 	case "export":
@@ -63,14 +64,14 @@ func operatorCommand(name string, arguments []string, out, said io.Writer) int {
 }
 
 // missingFor returns what a command with a number of arguments lacks, or "".
-func (s *settings) missingFor(name string, arguments int) string {
+func missingFor(s settings.Settings, name string, arguments int) string {
 	isEither := name == "list" || name == "export"
 	switch wants := map[string]int{"backup": 1, "restore": 1, "copy": 1, "export": 1}[name]; {
 	case arguments != wants:
 		return fmt.Sprintf("there are %d arguments in place of %d", arguments, wants)
-	case s.state == "" && (s.etcd == "" || !isEither):
+	case s.State == "" && (s.Etcd == "" || !isEither):
 		return "-state is missing"
-	case name == "copy" && s.etcd == "":
+	case name == "copy" && s.Etcd == "":
 		return "-etcd is missing"
 	}
 	return ""
@@ -87,18 +88,18 @@ func report(out io.Writer, to string) func(sqlite.Summary, error) error {
 }
 
 // copyStore copies the applications of a folder to etcd, or from there into a folder, which it makes.
-func copyStore(s settings, direction string, out io.Writer) error {
+func copyStore(s settings.Settings, direction string, out io.Writer) error {
 	here := s
-	here.etcd, here.create = "", direction == "from"
+	here.Etcd, here.Create = "", direction == "from"
 	if direction != "from" && direction != "to" {
 		return fmt.Errorf("%q is neither to nor from", direction)
 	}
-	local, err := here.openStore()
+	local, err := here.OpenStore()
 	if err != nil {
 		return err
 	}
 	defer local.Close()
-	shared, err := s.openStore()
+	shared, err := s.OpenStore()
 	if err != nil {
 		return err
 	}
@@ -115,8 +116,8 @@ func copyStore(s settings, direction string, out io.Writer) error {
 }
 
 // eachBundle opens the store, and calls a function for each bundle, by application.
-func eachBundle(s settings, do func(of store.Store, app string, b manifest.Bundle) error) error {
-	of, err := s.openStore()
+func eachBundle(s settings.Settings, do func(of store.Store, app string, b manifest.Bundle) error) error {
+	of, err := s.OpenStore()
 	if err != nil {
 		return err
 	}
@@ -139,7 +140,7 @@ func eachBundle(s settings, do func(of store.Store, app string, b manifest.Bundl
 }
 
 // listStore writes a line for each bundle: what it is, and who changed it when.
-func listStore(s settings, out io.Writer) error {
+func listStore(s settings.Settings, out io.Writer) error {
 	return eachBundle(s, func(_ store.Store, app string, b manifest.Bundle) error {
 		at := time.UnixMilli(b.At).UTC().Format(time.RFC3339)
 		_, err := fmt.Fprintf(out, "%s\t%s\t%d bytes\t%s\t%s\n", app, b.Locale, b.Bytes, at, b.Who)
@@ -148,8 +149,8 @@ func listStore(s settings, out io.Writer) error {
 }
 
 // exportStore writes the bundles as files APP/LOCALE.txt below a folder, and replaces none. One that has no text is written as LOCALE.res.
-func exportStore(s settings, to string, out io.Writer) error {
-	runner, bundles := convert.New(s.program, conversions), 0
+func exportStore(s settings.Settings, to string, out io.Writer) error {
+	runner, bundles := convert.New(s.Program, conversions), 0
 	err := eachBundle(s, func(of store.Store, app string, b manifest.Bundle) error {
 		body, err := of.Body(context.Background(), app, b)
 		if err != nil {

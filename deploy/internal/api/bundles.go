@@ -5,12 +5,26 @@ import (
 	"time"
 
 	"luvdregan.example/resb/deploy/internal/front"
+	"luvdregan.example/resb/deploy/internal/lookup"
 	"luvdregan.example/resb/deploy/internal/manifest"
 	"luvdregan.example/resb/deploy/internal/names"
 	"luvdregan.example/resb/deploy/internal/wire"
 )
 
 var fetches = front.Operation{Kind: front.KindFetch}
+
+// readBundle answers GET of a bundle: in a form, as a tree, or its table; or of an item whose path the query has.
+func readBundle(c *call) error {
+	if locale, form, isForm := wire.FormOf(c.Parts[0]); isForm {
+		return fetch(c, locale, form)
+	}
+	if given := c.Query["path"]; len(given) > 1 {
+		return wire.BadQuery.With("?path= is there twice")
+	} else if len(given) == 1 {
+		c.Path = given[0]
+	}
+	return lookup.Item(c)
+}
 
 // fetch answers with a bundle: as it was submitted, or converted.
 func fetch(c *call, locale string, form wire.Form) error {

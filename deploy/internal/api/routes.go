@@ -1,9 +1,10 @@
-// Package api answers what an application has: lookups, bundles, changes, the history. A table of addresses gives the routing and openapi.json.
+// Package api answers what an application has: bundles, changes, the history. A table of addresses gives the routing and openapi.json.
 package api
 
 import (
 	"luvdregan.example/resb/deploy/internal/auth"
 	"luvdregan.example/resb/deploy/internal/front"
+	"luvdregan.example/resb/deploy/internal/lookup"
 	"luvdregan.example/resb/deploy/internal/openapi"
 	"luvdregan.example/resb/deploy/internal/release"
 	"luvdregan.example/resb/deploy/internal/wire"
@@ -32,7 +33,7 @@ var (
 var addresses = []front.Address{
 	{Pattern: "", Operations: []front.Operation{
 		{Method: "GET", ID: "list", Summary: "Returns the names of the bundles, in the order of installation.", Right: auth.Read, Kind: front.KindList,
-			Do: list, Gives: asJSON, Statuses: []int{200, 304, 412}},
+			Do: lookup.List, Gives: asJSON, Statuses: []int{200, 304, 412}},
 		{Method: "DELETE", ID: "erase", Summary: "Removes all bundles, the history, and what was submitted.", Right: auth.Erase, Kind: front.KindChange,
 			Action: "erase", Do: erase, Gives: asJSON, Statuses: []int{200, 507}, Query: []string{"erase"}},
 	}},
@@ -52,7 +53,7 @@ var addresses = []front.Address{
 	}},
 	{Pattern: "/look", Operations: []front.Operation{
 		{Method: "POST", ID: "lookMany", Summary: "Makes many lookups, a line of JSON each, and writes a line of the reply or error each.",
-			Right: auth.Read, Kind: front.KindLooks, Do: lookMany, Takes: asLines, Gives: asLines, Statuses: []int{200, 408, 413}},
+			Right: auth.Read, Kind: front.KindLooks, Do: lookup.Many, Takes: asLines, Gives: asLines, Statuses: []int{200, 408, 413}},
 	}},
 	{Pattern: "/_releases", Operations: []front.Operation{
 		{Method: "POST", ID: "release", Summary: "Makes several changes, all or none.", Right: auth.Release, AnyLocale: true,
@@ -100,6 +101,6 @@ var addresses = []front.Address{
 	}},
 	{Pattern: "/{locale}/{path}", Operations: []front.Operation{
 		{Method: "GET", ID: "look", Summary: "Returns an item; with ?tree all that it inherits.", Right: auth.Read, Kind: front.KindLook,
-			Do: readItem, Gives: asJSON, Statuses: []int{200, 304, 404, 412, 413}, Query: []string{"tree"}},
+			Do: lookup.Item, Gives: asJSON, Statuses: []int{200, 304, 404, 412, 413}, Query: []string{"tree"}},
 	}},
 }

@@ -1,4 +1,5 @@
-package api
+// Package lookup answers what callers look up: items, trees, many lookups in one request, and the names of the bundles.
+package lookup
 
 import (
 	"bytes"
@@ -17,24 +18,14 @@ import (
 	"luvdregan.example/resb/deploy/internal/wire"
 )
 
+// A call is a request for what an application has.
+type call = front.Call
+
 // byLanguage in the place of a locale stands for the one that the caller's languages choose.
 const byLanguage = "-"
 
-// readBundle answers GET of a bundle: in a form, as a tree, or its table; or of an item whose path the query has.
-func readBundle(c *call) error {
-	if locale, form, isForm := wire.FormOf(c.Parts[0]); isForm {
-		return fetch(c, locale, form)
-	}
-	if given := c.Query["path"]; len(given) > 1 {
-		return wire.BadQuery.With("?path= is there twice")
-	} else if len(given) == 1 {
-		c.Path = given[0]
-	}
-	return readItem(c)
-}
-
-// readItem answers GET of an item.
-func readItem(c *call) error {
+// Item answers GET of an item.
+func Item(c *call) error {
 	if c.Parts[0] == byLanguage {
 		c.W.Header().Add("Vary", "Accept-Language")
 	}
@@ -139,8 +130,8 @@ func answer(c *call, tag string, body []byte) error {
 	return c.Write(http.StatusOK, front.JSONType, body)
 }
 
-// list answers with the names of the application's bundles.
-func list(c *call) error {
+// List answers with the names of the application's bundles.
+func List(c *call) error {
 	now := c.Backend.Now(c.App)
 	c.W.Header()["Resb-Revision"] = now.Header()
 	all := struct {
@@ -176,8 +167,8 @@ func tree(c *call) error {
 	return answer(c, wire.TagOf(tree), append(tree, '\n'))
 }
 
-// lookMany answers many lookups: a line each, and a line of the reply each, in order.
-func lookMany(c *call) error {
+// Many answers many lookups: a line each, and a line of the reply each, in order.
+func Many(c *call) error {
 	body, err := c.Body(c.Options.LookBytes)
 	if err != nil {
 		return err
@@ -188,7 +179,7 @@ func lookMany(c *call) error {
 		}
 	}
 	h := c.W.Header()
-	h["Resb-Revision"], h["Content-Type"] = c.Backend.Now(c.App).Header(), asLines
+	h["Resb-Revision"], h["Content-Type"] = c.Backend.Now(c.App).Header(), linesType
 	c.NoStore()
 	var made bytes.Buffer
 	to := wire.Compressed(h, c.R, &made)
@@ -197,6 +188,8 @@ func lookMany(c *call) error {
 	stream(c, body, &made, to)
 	return nil
 }
+
+var linesType = []string{wire.Lines}
 
 // together is how many lookups are made before others have their turn, and leastFlush how many bytes are sent together.
 const (

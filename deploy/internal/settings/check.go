@@ -1,4 +1,4 @@
-package main
+package settings
 
 import (
 	"context"
@@ -21,16 +21,16 @@ import (
 const checkTime = 5 * time.Second
 
 // Parts are what the files of the settings give to a gateway.
-type parts struct {
-	tokens *auth.Tokens
-	pair   *serve.Pair
-	engine *engine.Engine
+type Parts struct {
+	Tokens *auth.Tokens
+	Pair   *serve.Pair // or nil
+	Engine *engine.Engine
 }
 
-// open reads the files that the settings name, and returns an error if one isn't as it must be. It changes and binds nothing, so a gateway may
+// Open reads the files that the settings name, and returns an error if one isn't as it must be. It changes and binds nothing, so a gateway may
 // run meanwhile. A start and -check-config have the same errors from it.
-func (s *settings) open() (p parts, err error) {
-	for _, step := range []func(*parts) error{
+func (s *Settings) Open() (p Parts, err error) {
+	for _, step := range []func(*Parts) error{
 		s.checkUses, s.openTokens, s.openPair, s.checkAddresses, s.checkLogs, s.openEngine, s.checkProgram, s.checkStore} {
 		if err := step(&p); err != nil {
 			return p, err
@@ -46,7 +46,7 @@ type named struct {
 }
 
 // files returns the files that options name.
-func (s *settings) files() (all []named) {
+func (s *Settings) files() (all []named) {
 	for _, one := range s.table() {
 		of, _ := one.has.(use)
 		switch to := one.to.(type) {
@@ -65,22 +65,22 @@ func (s *settings) files() (all []named) {
 }
 
 // checkUses finds a file that isn't one, and one that the gateway would write or remove though another option names it, or the store has it.
-func (s *settings) checkUses(*parts) error {
+func (s *Settings) checkUses(*Parts) error {
 	files := s.files()
 	for _, one := range files {
 		if why := s.misuse(one, files); why != "" {
-			return s.wrong(one.option, ": %s%s", one.path, why)
+			return s.Wrong(one.option, ": %s%s", one.path, why)
 		}
 	}
 	return nil
 }
 
 // misuse returns why an option can't have its file, or "".
-func (s *settings) misuse(one named, all []named) string {
+func (s *Settings) misuse(one named, all []named) string {
 	if info, err := os.Stat(one.path); err == nil && !info.Mode().IsRegular() && one.option != "config" {
 		return ": not a regular file" // it might never end
 	}
-	if s.state != "" && sqlite.Owns(filepath.Base(one.path)) && isSame(filepath.Dir(one.path), s.state) {
+	if s.State != "" && sqlite.Owns(filepath.Base(one.path)) && isSame(filepath.Dir(one.path), s.State) {
 		return " is a file of the store"
 	}
 	for _, other := range all {
@@ -104,35 +104,35 @@ func isSame(a, b string) bool {
 	return errThere == nil && errOther == nil && a == b
 }
 
-func (s *settings) openTokens(p *parts) (err error) {
-	if p.tokens, err = auth.Open(s.tokenFile); err != nil {
-		return s.wrong("tokens", ": %w", err)
+func (s *Settings) openTokens(p *Parts) (err error) {
+	if p.Tokens, err = auth.Open(s.tokenFile); err != nil {
+		return s.Wrong("tokens", ": %w", err)
 	}
-	if s.addTokens == "" {
+	if s.AddTokens == "" {
 		return nil
 	}
-	if err := p.tokens.Add(s.addTokens); err != nil {
-		return s.wrong("add-tokens", ": %w", err)
+	if err := p.Tokens.Add(s.AddTokens); err != nil {
+		return s.Wrong("add-tokens", ": %w", err)
 	}
 	// the file of tokens is replaced by one beside it, and the other one removed
-	for _, path := range []string{s.tokenFile, s.addTokens} {
+	for _, path := range []string{s.tokenFile, s.AddTokens} {
 		if real, err := filepath.EvalSymlinks(path); err == nil {
 			path = real
 		}
 		if err := serve.CanMake(path); err != nil {
-			return s.wrong("add-tokens", ": %w", err)
+			return s.Wrong("add-tokens", ": %w", err)
 		}
 	}
 	return nil
 }
 
-func (s *settings) openPair(p *parts) (err error) {
-	p.pair, err = serve.OpenPair(s.cert, s.key)
+func (s *Settings) openPair(p *Parts) (err error) {
+	p.Pair, err = serve.OpenPair(s.cert, s.key)
 	return s.wrongPair("cert", "key", err)
 }
 
 // wrongPair returns the error of a certificate with its key, or nil.
-func (s *settings) wrongPair(cert, key string, err error) error {
+func (s *Settings) wrongPair(cert, key string, err error) error {
 	var at *os.PathError
 	switch {
 	case err == nil:
@@ -141,26 +141,26 @@ func (s *settings) wrongPair(cert, key string, err error) error {
 		at == nil && strings.Contains(err.Error(), "key") && !strings.Contains(err.Error(), "certificate input"):
 		cert = key
 	}
-	return s.wrong(cert, ": %w", err)
+	return s.Wrong(cert, ": %w", err)
 }
 
 // checkAddresses finds addresses at which this machine can never listen. Whether another process has one, a start finds out.
-func (s *settings) checkAddresses(*parts) error {
-	listen, err := s.address("listen", s.listen)
-	if err != nil || s.inside == "" {
+func (s *Settings) checkAddresses(*Parts) error {
+	listen, err := s.address("listen", s.Listen)
+	if err != nil || s.Inside == "" {
 		return err
 	}
-	inside, err := s.address("inside", s.inside)
+	inside, err := s.address("inside", s.Inside)
 	isAll := func(ip net.IP) bool { return ip == nil || ip.IsUnspecified() }
 	if err == nil && inside.Port == listen.Port && inside.Port != 0 &&
 		(inside.IP.Equal(listen.IP) || isAll(inside.IP) || isAll(listen.IP)) {
-		err = s.wrong("inside", " can't be %q: -listen has this address", s.inside)
+		err = s.Wrong("inside", " can't be %q: -listen has this address", s.Inside)
 	}
 	return err
 }
 
 // address returns where an option has the gateway listen.
-func (s *settings) address(name, text string) (*net.TCPAddr, error) {
+func (s *Settings) address(name, text string) (*net.TCPAddr, error) {
 	ctx, cancel := context.WithTimeout(context.Background(), checkTime)
 	defer cancel()
 	at := &net.TCPAddr{}
@@ -178,7 +178,7 @@ func (s *settings) address(name, text string) (*net.TCPAddr, error) {
 		err = errors.New("this machine hasn't the address")
 	}
 	if err != nil {
-		return nil, s.wrong(name, " can't be %q: %w", text, err)
+		return nil, s.Wrong(name, " can't be %q: %w", text, err)
 	}
 	return at, nil
 }
@@ -199,44 +199,44 @@ func isLocal(ip net.IP) bool {
 	return err != nil || strings.HasPrefix(string(foreign), "1")
 }
 
-func (s *settings) checkLogs(*parts) error {
+func (s *Settings) checkLogs(*Parts) error {
 	for _, one := range s.files() {
-		_, err := os.Stat(s.state)
-		isMade := err != nil && s.create && s.state != "" && isSame(filepath.Dir(one.path), s.state) // with the store
+		_, err := os.Stat(s.State)
+		isMade := err != nil && s.Create && s.State != "" && isSame(filepath.Dir(one.path), s.State) // with the store
 		if one.use == appends && !isMade {
 			if err := serve.CanAppend(one.path); err != nil {
-				return s.wrong(one.option, ": %w", err)
+				return s.Wrong(one.option, ": %w", err)
 			}
 		}
 	}
 	return nil
 }
 
-func (s *settings) openEngine(p *parts) (err error) {
+func (s *Settings) openEngine(p *Parts) (err error) {
 	if err := s.sources(); err != nil {
 		return err
 	}
-	p.engine, err = engine.Open(s.engine)
+	p.Engine, err = engine.Open(s.engine)
 	switch {
 	case err != nil && strings.HasPrefix(err.Error(), "parents"):
-		return s.wrong("parents", ": %w", err)
+		return s.Wrong("parents", ": %w", err)
 	case err != nil && len(s.icuData) > 0:
-		return s.wrong("icudata", ": %w", err)
+		return s.Wrong("icudata", ": %w", err)
 	}
 	return err
 }
 
 // checkProgram has the program print its version. A gateway starts without the one that is looked for if no option names one, and explains
 // nothing then.
-func (s *settings) checkProgram(*parts) error {
-	path, err := exec.LookPath(s.program)
+func (s *Settings) checkProgram(*Parts) error {
+	path, err := exec.LookPath(s.Program)
 	if err == nil {
 		err = printsVersion(path)
 	}
-	if err == nil || !s.checkOnly && !s.given["program"] && s.lines["program"] == 0 {
+	if err == nil || !s.CheckOnly && !s.given["program"] && s.lines["program"] == 0 {
 		return nil
 	}
-	return s.wrong("program", ": %w", err)
+	return s.Wrong("program", ": %w", err)
 }
 
 // printsVersion returns an error unless a program is resb. It waits for no process that the program leaves.
@@ -265,17 +265,17 @@ func printsVersion(path string) error {
 }
 
 // checkStore looks at the folder of the store, or reads the files for etcd. Whether etcd answers, a start finds out by itself: it waits for it.
-func (s *settings) checkStore(*parts) error {
-	if s.etcd == "" {
+func (s *Settings) checkStore(*Parts) error {
+	if s.Etcd == "" {
 		if err := sqlite.Look(s.folder()); err != nil {
-			return s.wrong("state", ": %w", err)
+			return s.Wrong("state", ": %w", err)
 		}
 		return nil
 	}
-	if _, err := s.etcdOptions(); err != nil || !s.checkOnly {
+	if _, err := s.etcdOptions(); err != nil || !s.CheckOnly {
 		return err
 	}
-	of, err := s.openStore()
+	of, err := s.OpenStore()
 	if err == nil {
 		err = of.Close()
 	}

@@ -1,4 +1,4 @@
-package main
+package settings
 
 import (
 	"bytes"
@@ -15,10 +15,10 @@ import (
 var notInFile = map[string]bool{"config": true, "check-config": true, "version": true}
 
 // readConfig sets the options that a file of JSON has and the command line hasn't.
-func (s *settings) readConfig(f *flag.FlagSet) error {
+func (s *Settings) readConfig(f *flag.FlagSet) error {
 	content, err := os.ReadFile(s.config)
 	if err != nil {
-		return s.wrong("config", ": %w", err)
+		return s.Wrong("config", ": %w", err)
 	}
 	s.lines = map[string]int{}
 	if line, err := s.setOptions(f, content); err != nil {
@@ -28,7 +28,7 @@ func (s *settings) readConfig(f *flag.FlagSet) error {
 }
 
 // setOptions sets the options of a file. It returns the line of the error.
-func (s *settings) setOptions(f *flag.FlagSet, content []byte) (line int, err error) {
+func (s *Settings) setOptions(f *flag.FlagSet, content []byte) (line int, err error) {
 	lineAt := func(at int64) int { return 1 + bytes.Count(content[:at], []byte("\n")) }
 	var whole map[string]json.RawMessage
 	var syntax *json.SyntaxError

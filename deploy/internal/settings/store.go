@@ -1,4 +1,4 @@
-package main
+package settings
 
 import (
 	"context"
@@ -18,20 +18,20 @@ import (
 )
 
 // folder returns the options of a store on this machine.
-func (s *settings) folder() sqlite.Options { return sqlite.Options{Folder: s.state, Create: s.create} }
+func (s *Settings) folder() sqlite.Options { return sqlite.Options{Folder: s.State, Create: s.Create} }
 
-// openStore opens the store that the settings name. etcd must answer.
-func (s *settings) openStore() (store.Store, error) {
-	of, refusal, err := s.findStore()
+// OpenStore opens the store that the settings name. etcd must answer.
+func (s *Settings) OpenStore() (store.Store, error) {
+	of, refusal, err := s.FindStore()
 	if err == nil {
 		err = refusal
 	}
 	return of, err
 }
 
-// findStore opens the store that the settings name. The refusal says why etcd doesn't answer yet; what it will never answer is an error.
-func (s *settings) findStore() (of store.Store, refusal, err error) {
-	if s.etcd == "" {
+// FindStore opens the store that the settings name. The refusal says why etcd doesn't answer yet; what it will never answer is an error.
+func (s *Settings) FindStore() (of store.Store, refusal, err error) {
+	if s.Etcd == "" {
 		of, err = sqlite.Open(s.folder())
 		return of, nil, err
 	}
@@ -45,12 +45,12 @@ func (s *settings) findStore() (of store.Store, refusal, err error) {
 		if s.etcdLogin != "" && !errors.Is(err, context.DeadlineExceeded) {
 			name = "etcd-login"
 		}
-		return nil, nil, s.wrong(name, ": %w", err)
+		return nil, nil, s.Wrong(name, ": %w", err)
 	}
 	ctx, cancel := context.WithTimeout(context.Background(), checkTime)
 	defer cancel()
 	if refusal = shared.Reach(ctx); refusal != nil {
-		refusal = s.wrong("etcd", ": %w", refusal)
+		refusal = s.Wrong("etcd", ": %w", refusal)
 		if ctx.Err() == nil {
 			_ = shared.Close()
 			return nil, nil, refusal
@@ -60,16 +60,16 @@ func (s *settings) findStore() (of store.Store, refusal, err error) {
 }
 
 // etcdOptions reads the files that say how etcd is reached.
-func (s *settings) etcdOptions() (o etcd.Options, err error) {
-	o = etcd.Options{Endpoints: split(s.etcd), Logf: log.Printf}
+func (s *Settings) etcdOptions() (o etcd.Options, err error) {
+	o = etcd.Options{Endpoints: split(s.Etcd), Logf: log.Printf}
 	if s.etcdLogin != "" {
 		text, err := os.ReadFile(s.etcdLogin)
 		if err != nil {
-			return o, s.wrong("etcd-login", ": %w", err)
+			return o, s.Wrong("etcd-login", ": %w", err)
 		}
 		words := strings.Fields(string(text))
 		if len(words) != 2 {
-			return o, s.wrong("etcd-login", ": %s: a user and a password are missing", s.etcdLogin)
+			return o, s.Wrong("etcd-login", ": %s: a user and a password are missing", s.etcdLogin)
 		}
 		o.User, o.Password = words[0], words[1]
 	}
@@ -84,13 +84,13 @@ func (s *settings) etcdOptions() (o etcd.Options, err error) {
 			err = fmt.Errorf("%s: there is no certificate in it", s.etcdCA)
 		}
 		if err != nil {
-			return o, s.wrong("etcd-ca", ": %w", err)
+			return o, s.Wrong("etcd-ca", ": %w", err)
 		}
 	}
 	if s.etcdCA != "" || s.etcdCert != "" {
 		files := transport.TLSInfo{TrustedCAFile: s.etcdCA, CertFile: s.etcdCert, KeyFile: s.etcdKey}
 		if o.TLS, err = files.ClientConfig(); err != nil {
-			err = s.wrong("etcd-ca", ": %w", err)
+			err = s.Wrong("etcd-ca", ": %w", err)
 		}
 	}
 	return o, err
