@@ -136,9 +136,16 @@ var tokens = map[string]string{"w": shopWrites, "r": shopReads, "b": bankWrites,
 // script makes the steps of a section of testdata/steps, where {name} stands for the text after name.
 func (s *site) script(section string, pairs ...string) {
 	s.t.Helper()
+	var lines []string
+	for _, line := range sectionOf(s.t, "steps", section) {
+		if strings.Contains(line, " ⇒ ") { // a whole step
+			line = strings.NewReplacer(" > ", "\n> ", " + ", "\n+ ", " ⇒ ", "\n", " < ", "\n< ").Replace(line)
+		}
+		lines = append(lines, strings.Split(line, "\n")...)
+	}
 	var steps []step
 	begun, isOver := 0, false // those from begun on share the next lines, up to a status and headers
-	for _, line := range sectionOf(s.t, "steps", section) {
+	for _, line := range lines {
 		kind, rest, _ := strings.Cut(line, " ")
 		status, _ := strconv.Atoi(kind)
 		if status == 0 && !strings.Contains(">+<", kind) {
