@@ -262,6 +262,8 @@ func (g *gateway) listenOn(outer net.Listener, p *serve.Pair) error {
 	select {
 	case err := <-ended:
 		return err
+	case err := <-g.Backend.WentBack():
+		return fmt.Errorf("%w; the next start reads it anew", err)
 	case <-g.leaving.Done():
 	}
 	log.Print("gateway: ends")

@@ -58,7 +58,8 @@ type Replica struct {
 	read      atomic.Int64 // bodies of the store
 	changing  atomic.Int64 // changes on their way
 	madeRoom  atomic.Int64 // when, in seconds
-	long      sync.Map     // of places by holder, taken while a long change is stored
+	wentBack  chan error
+	long      sync.Map // of places by holder, taken while a long change is stored
 
 	apps sync.Map // of *app by name
 	mu   sync.Mutex
@@ -104,7 +105,7 @@ const mostRead = 32
 func Open(s store.Store, e *engine.Engine, o Options) *Replica {
 	ctx, stop := context.WithCancel(context.Background())
 	r := &Replica{past: s, store: s, engine: e, options: o, ctx: ctx, stop: stop,
-		reading: make(places, mostRead), preparing: make(places, runtime.GOMAXPROCS(0))}
+		reading: make(places, mostRead), preparing: make(places, runtime.GOMAXPROCS(0)), wentBack: make(chan error, 1)}
 	r.do(r.watch)
 	r.do(func() {
 		r.start()
@@ -154,12 +155,20 @@ func (p places) leave() { <-p }
 
 func (r *Replica) watch() {
 	for r.ctx.Err() == nil {
-		if err := r.store.Watch(r.ctx, func(name string, revision int64) { r.seen(name, revision, false) }); err != nil && r.ctx.Err() == nil {
+		err := r.store.Watch(r.ctx, func(name string, revision int64) { r.seen(name, revision, false) })
+		if errors.Is(err, store.ErrWentBack) {
+			r.ready.Store(false)
+			r.wentBack <- err
+			return
+		} else if err != nil && r.ctx.Err() == nil {
 			log.Printf("store: watch: %v", err)
 			store.Pause(r.ctx, time.Second)
 		}
 	}
 }
+
+// WentBack gives an error once the store lacks changes that the engine has. Nothing is answered then until a process reads the store anew.
+func (r *Replica) WentBack() <-chan error { return r.wentBack }
 
 // start becomes ready once all applications have what was stored before. Then some processors are left for lookups.
 func (r *Replica) start() {

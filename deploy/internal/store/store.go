@@ -22,6 +22,7 @@ var (
 	ErrUnreached = errors.New("the store can't be reached")
 	ErrUnsettled = errors.New("the change may have been stored")
 	ErrBroken    = errors.New("the store takes no changes")
+	ErrWentBack  = errors.New("the store is an earlier one again")
 	ErrDamaged   = manifest.ErrDamaged
 )
 
@@ -63,7 +64,8 @@ type Store interface {
 	// Newest calls a function for the newest manifest of each application.
 	Newest(ctx context.Context, each func(app string, revision int64)) error
 	// Watch reports the newest manifests of all applications, and then those that are stored, until the context ends. It may leave out a
-	// manifest if the application has a later one, and may report one again. The function must not block. A store is watched by one caller.
+	// manifest if the application has a later one, and may report one again. The function must not block. A store is watched by one caller. The
+	// error is ErrWentBack if changes that were reported are no longer there.
 	Watch(ctx context.Context, seen func(app string, revision int64)) error
 	// Sync returns once Watch has reported all that was stored before the call.
 	Sync(ctx context.Context) error

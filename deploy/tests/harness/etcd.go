@@ -88,6 +88,22 @@ func (c *Cluster) Ctl(arguments ...string) (string, error) {
 	return string(text), err
 }
 
+// Restore ends the members, and restores a snapshot at each. They must be started then.
+func (c *Cluster) Restore(file string) {
+	for i, p := range c.Members {
+		p.Kill()
+		Must(p.T, os.RemoveAll(c.Folders[i]))
+		arguments := []string{"snapshot", "restore", file, "--data-dir", c.Folders[i]}
+		for n, argument := range p.Args {
+			if strings.Contains(" --name --initial-cluster --initial-advertise-peer-urls ", " "+argument+" ") {
+				arguments = append(arguments, argument, p.Args[n+1])
+			}
+		}
+		_, err := c.Ctl(arguments...)
+		Must(p.T, err)
+	}
+}
+
 // Machines are three gateways over three members.
 type Machines struct {
 	*Cluster

@@ -55,6 +55,29 @@ func TestReadyOnceAllIsRead(t *testing.T) {
 	first.awaitMetric("resb_behind_seconds", func(n float64) bool { return n < 5 })
 }
 
+// TestARestoredStore restores a snapshot of etcd under a gateway, which has changes that are no longer there: it ends by itself, and the next
+// start has what the snapshot has.
+func TestARestoredStore(t *testing.T) {
+	t.Parallel()
+	c := harness.NewCluster(t, t.TempDir(), 1, nil)
+	harness.StartAll(c.Members)
+	s := &site{harness.Open(t, harness.Setup{Etcd: c.From(0)}), t}
+	s.put("de", `de{a{"A"}}`)
+	file := filepath.Join(t.TempDir(), "snapshot")
+	_, err := c.Ctl("snapshot", "save", file)
+	must(t, err)
+	s.put("de", `de{a{"B"}}`)
+	s.put("fr", "fr{}")
+	c.Restore(file)
+	s.is("de/a", "B") // as of the change before
+	harness.StartAll(c.Members)
+	equal(t, s.Wait(), 1)
+	errorIf(t, !strings.Contains(s.Log.Tail(1000), "resb-gateway: the store is an earlier one again: "), "%s", s.Log.Tail(1000))
+	s.Restart()
+	s.is("de/a", "A")
+	s.names("de")
+}
+
 // TestQuotas bound what is stored of an application: what was submitted, also in comments and in
 // releases, and what is compiled.
 func TestQuotas(t *testing.T) {

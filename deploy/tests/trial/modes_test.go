@@ -259,18 +259,7 @@ func restoreSnapshot(t *testing.T) {
 	for _, p := range m.Both {
 		p.Kill()
 	}
-	for i, p := range m.Members {
-		harness.Must(t, os.RemoveAll(m.Folders[i]))
-		arguments := []string{"snapshot", "restore", file, "--data-dir", m.Folders[i]}
-		for n, argument := range p.Args {
-			if strings.Contains(" --name --initial-cluster --initial-advertise-peer-urls ", " "+argument+" ") {
-				arguments = append(arguments, argument, p.Args[n+1])
-			}
-		}
-		if _, err := snapshot.Ctl(arguments...); err != nil {
-			t.Fatal(err)
-		}
-	}
+	m.Restore(file)
 	harness.StartAll(m.Members)
 	harness.StartAll(m.Both[:3])
 	all.continued(t, "a restored snapshot", least, m.URLs())

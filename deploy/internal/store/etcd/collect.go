@@ -22,7 +22,7 @@ func (s *Store) Collect(ctx context.Context, keep store.Keep) (removed int, err 
 		return 0, err
 	}
 	apps, bodies := map[string]store.Stamp{}, map[string]map[manifest.Digest]int64{}
-	_, err = s.list(ctx, "d/", func(kv *mvccpb.KeyValue) {
+	err = s.list(ctx, "d/", func(kv *mvccpb.KeyValue) {
 		p := strings.Split(string(kv.Key), "/")
 		if kv.ModRevision > mark || len(p) != 3 {
 			return

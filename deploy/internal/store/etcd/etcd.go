@@ -1,7 +1,7 @@
 // Package etcd stores manifests and bodies in etcd, which any number of gateways share.
 //
 //	m/APP              REVISION ID of the newest manifest. A swap compares the whole value, so a copy of all keys works as well as a snapshot.
-//	m/                 nothing; each swap puts it, so its modification revision is that of the last swap of all applications.
+//	m/                 the ID of the last manifest of all applications; its modification revision is that of the last swap.
 //	h/APP/REVISION     the head of each manifest, with 16 digits.
 //	d/APP/DIGEST       nothing, for each body, or page of a manifest, whose parts are below. A client that stores a body puts this first.
 //	b/APP/DIGEST/PART  a part of a body.
@@ -38,6 +38,12 @@ const (
 	leastGrace = 10 * time.Minute // of a collection: a change may take this long after it stored its bodies
 )
 
+// A moment is a revision of etcd, with the value of m/ then.
+type moment struct {
+	revision int64
+	last     string
+}
+
 // Options say how etcd is reached.
 type Options struct {
 	Endpoints      []string
@@ -58,9 +64,9 @@ type Store struct {
 	mu       sync.Mutex
 	marks    []mark
 	sure     time.Time     // when Watch had reported all swaps
-	reported int64         // Watch has reported all swaps up to this revision of etcd
+	reported moment        // Watch has reported all swaps up to it
 	moved    chan struct{} // closed when reported grows
-	again    chan struct{} // asks for another watch
+	again    chan error    // why another watch is begun
 }
 
 // Open makes a client. It doesn't wait for a server.
@@ -72,7 +78,7 @@ func Open(o Options) (*Store, error) {
 	if err != nil {
 		return nil, fmt.Errorf("etcd: %w", err)
 	}
-	return &Store{Client: c, logf: o.Logf, grace: leastGrace, sure: time.Now(), moved: make(chan struct{}), again: make(chan struct{}, 1)}, nil
+	return &Store{Client: c, logf: o.Logf, grace: leastGrace, sure: time.Now(), moved: make(chan struct{}), again: make(chan error, 1)}, nil
 }
 
 // Reach returns an error unless etcd answers a read: at once if it refuses this client, or when the context ends.
@@ -90,6 +96,10 @@ func finalError(err error) error {
 		return store.ErrTooLong
 	case rpctypes.ErrPermissionDenied, rpctypes.ErrAuthFailed, rpctypes.ErrUserEmpty:
 		return fmt.Errorf("%w: %v", store.ErrUnreached, err)
+	case rpctypes.ErrFutureRev:
+		return fmt.Errorf("%w: %v", store.ErrWentBack, err)
+	case rpctypes.ErrCompacted:
+		return err
 	}
 	return nil
 }
@@ -128,22 +138,19 @@ func (s *Store) get(ctx context.Context, key string, options ...clientv3.OpOptio
 	return r, err
 }
 
-// list calls a function for the keys with a prefix, and returns a revision that they aren't older than. A server reads the values of a page into its
-// memory even if it sends only the keys, so pages are short.
-func (s *Store) list(ctx context.Context, prefix string, each func(kv *mvccpb.KeyValue), options ...clientv3.OpOption) (revision int64, err error) {
+// list calls a function for the keys with a prefix. A server reads the values of a page into its memory even if it sends only the keys, so pages are
+// short.
+func (s *Store) list(ctx context.Context, prefix string, each func(kv *mvccpb.KeyValue), options ...clientv3.OpOption) error {
 	for from, end := prefix, clientv3.GetPrefixRangeEnd(prefix); ; {
 		r, err := s.get(ctx, from, append(options, clientv3.WithRange(end), clientv3.WithLimit(pageKeys))...)
 		if err != nil {
-			return 0, err
-		}
-		if revision == 0 {
-			revision = r.Header.Revision
+			return err
 		}
 		for _, kv := range r.Kvs {
 			each(kv)
 		}
 		if !r.More {
-			return revision, nil
+			return nil
 		}
 		from = string(r.Kvs[len(r.Kvs)-1].Key) + "\x00"
 	}
@@ -241,7 +248,7 @@ func (s *Store) History(ctx context.Context, app string, before int64, most int)
 // Digests returns those of the bodies of an application.
 func (s *Store) Digests(ctx context.Context, app string) (map[manifest.Digest]bool, error) {
 	all := map[manifest.Digest]bool{}
-	_, err := s.list(ctx, indexKey(app, ""), func(kv *mvccpb.KeyValue) {
+	err := s.list(ctx, indexKey(app, ""), func(kv *mvccpb.KeyValue) {
 		all[manifest.Digest(kv.Key[len("d//")+len(app):])] = true
 	}, clientv3.WithKeysOnly())
 	return all, err
@@ -277,11 +284,6 @@ func (s *Store) body(ctx context.Context, app string, d manifest.Digest, bytes i
 
 // Newest calls a function for the newest manifest of each application.
 func (s *Store) Newest(ctx context.Context, each func(app string, revision int64)) error {
-	_, err := s.newest(ctx, each)
-	return err
-}
-
-func (s *Store) newest(ctx context.Context, each func(app string, revision int64)) (int64, error) {
 	return s.list(ctx, "m/", func(kv *mvccpb.KeyValue) {
 		if app, revision := newestOf(kv); app != "" {
 			each(app, revision)
@@ -293,14 +295,25 @@ func (s *Store) newest(ctx context.Context, each func(app string, revision int64
 // behind.
 func (s *Store) Watch(ctx context.Context, seen func(app string, revision int64)) error {
 	go func() {
-		for store.Pause(ctx, pulse) {
+		for before := (moment{}); store.Pause(ctx, pulse); {
 			within, cancel := context.WithTimeout(ctx, 2*overdue)
+			s.mu.Lock()
+			now := s.reported
+			s.mu.Unlock()
+			for _, one := range []moment{before, now} {
+				if err := s.look(within, one); errors.Is(err, store.ErrWentBack) {
+					s.begin(err)
+				}
+			}
+			before = now
 			_ = s.Sync(within)
 			cancel()
 		}
 	}()
 	for ctx.Err() == nil {
-		if err := s.watchOnce(ctx, seen); err != nil && ctx.Err() == nil {
+		if err := s.watchOnce(ctx, seen); errors.Is(err, store.ErrWentBack) {
+			return err
+		} else if err != nil && ctx.Err() == nil {
 			s.logf("etcd: watch: %v", err)
 			store.Pause(ctx, 100*time.Millisecond)
 		}
@@ -308,10 +321,44 @@ func (s *Store) Watch(ctx context.Context, seen func(app string, revision int64)
 	return ctx.Err()
 }
 
+// begin has the watch end, and then begun again if that can help.
+func (s *Store) begin(why error) {
+	select {
+	case s.again <- why:
+	default:
+	}
+}
+
+// look returns ErrWentBack unless etcd still has a moment: after a snapshot was restored it has no such revision, or another change was the last one
+// then. What etcd has forgotten isn't compared.
+func (s *Store) look(ctx context.Context, at moment) error {
+	if at.revision == 0 {
+		return nil
+	}
+	r, err := s.get(ctx, "m/", clientv3.WithRev(at.revision))
+	if err == nil && momentOf(r).last != at.last {
+		return fmt.Errorf("%w: it has another change at revision %d of etcd", store.ErrWentBack, at.revision)
+	}
+	return err
+}
+
+// momentOf returns when m/ was read.
+func momentOf(r *clientv3.GetResponse) moment {
+	at := moment{revision: r.Header.Revision}
+	if len(r.Kvs) > 0 {
+		at.last = string(r.Kvs[0].Value)
+	}
+	return at
+}
+
 // watchOnce lists what is there, and watches from that revision on. The watcher is a separate one, as the client's would stay at its server.
 func (s *Store) watchOnce(ctx context.Context, seen func(app string, revision int64)) error {
-	from, err := s.newest(ctx, seen)
+	r, err := s.get(ctx, "m/")
 	if err != nil {
+		return err
+	}
+	from := momentOf(r)
+	if err := s.Newest(ctx, seen); err != nil {
 		return err
 	}
 	s.report(from)
@@ -321,35 +368,36 @@ func (s *Store) watchOnce(ctx context.Context, seen func(app string, revision in
 		cancel()
 		go w.Close()
 	}()
-	updates := w.Watch(within, "m/", clientv3.WithPrefix(), clientv3.WithRev(from+1))
+	updates := w.Watch(within, "m/", clientv3.WithPrefix(), clientv3.WithRev(from.revision+1))
 	for {
 		select {
 		case u, open := <-updates:
 			if !open || u.Err() != nil {
 				return fmt.Errorf("it ended: %v", u.Err())
 			}
+			var at moment // not that of the header, which may be before its events
 			for _, e := range u.Events {
-				if app, revision := newestOf(e.Kv); app != "" && e.Type == clientv3.EventTypePut {
+				if app, revision := newestOf(e.Kv); app == "" {
+					at = moment{e.Kv.ModRevision, string(e.Kv.Value)}
+				} else if e.Type == clientv3.EventTypePut {
 					seen(app, revision)
 				}
 			}
-			if n := len(u.Events); n > 0 { // not the revision of the header, which may be before its events
-				s.report(u.Events[n-1].Kv.ModRevision)
-			}
-		case <-s.again:
-			return errors.New("it stands still")
+			s.report(at)
+		case err := <-s.again:
+			return err
 		case <-ctx.Done():
 			return ctx.Err()
 		}
 	}
 }
 
-// report notes that Watch has reported all swaps up to a revision of etcd.
-func (s *Store) report(revision int64) {
+// report notes that Watch has reported all swaps up to a moment.
+func (s *Store) report(at moment) {
 	s.mu.Lock()
 	defer s.mu.Unlock()
-	if revision > s.reported {
-		s.reported = revision
+	if at.revision > s.reported.revision {
+		s.reported = at
 		close(s.moved)
 		s.moved = make(chan struct{})
 	}
@@ -371,22 +419,20 @@ func (s *Store) Sync(ctx context.Context) error {
 	defer late.Stop()
 	for {
 		s.mu.Lock()
-		reported, moved := s.reported, s.moved
+		reported, moved := s.reported.revision, s.moved
 		isDone := reported >= last && reported > 0
 		if isDone && began.After(s.sure) {
 			s.sure = began
 		}
 		s.mu.Unlock()
 		if isDone {
+			s.report(momentOf(r)) // which etcd forgets later than that of the last swap
 			return nil
 		}
 		select {
 		case <-moved:
 		case <-late.C:
-			select {
-			case s.again <- struct{}{}:
-			default:
-			}
+			s.begin(errors.New("it stands still"))
 			late.Reset(overdue)
 		case <-ctx.Done():
 			return store.ErrUnreached

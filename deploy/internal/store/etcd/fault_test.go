@@ -263,7 +263,8 @@ func TestAFullQuota(t *testing.T) {
 	Must(t, s.Writable(Ctx))
 }
 
-// TestASnapshot restores a snapshot into another cluster, where a client changes a manifest that the snapshot doesn't have.
+// TestASnapshot restores a snapshot into another cluster, where a client changes a manifest that the snapshot doesn't have. A client that saw that
+// manifest notices, also once the cluster has had as many changes; and another one takes no collection for such a loss.
 func TestASnapshot(t *testing.T) {
 	folder := Memory(t)
 	c, endpoint := Etcd(t, folder, 1)
@@ -273,6 +274,10 @@ func TestASnapshot(t *testing.T) {
 	file := filepath.Join(folder, "snapshot")
 	ctl(t, c, "snapshot", "save", file)
 	lost := Make(t, s, now, Put("fr", "lost"))
+	watch(t, s)
+	Must(t, s.Sync(Ctx))
+	seen := s.reported
+	Must(t, s.look(Ctx, seen))
 	other := Memory(t)
 	ctl(t, c, "snapshot", "restore", file, "--data-dir", filepath.Join(other, "etcd0"))
 	_, endpoint = Etcd(t, other, 1, "--force-new-cluster")
@@ -282,5 +287,22 @@ func TestASnapshot(t *testing.T) {
 	if err := s.Swap(Ctx, next, bodies); !errors.Is(err, store.ErrConflict) {
 		t.Error("a change of a lost manifest: ", err)
 	}
-	Check(t, s, Make(t, s, now, Put("fr", "z")))
+	if err := s.look(Ctx, seen); !errors.Is(err, store.ErrWentBack) {
+		t.Error(err)
+	}
+	for i := 0; i < 4; i++ {
+		now = Make(t, s, now, Put("fr", fmt.Sprint(i)))
+		Check(t, s, now)
+	}
+	if err := s.look(Ctx, seen); !errors.Is(err, store.ErrWentBack) {
+		t.Error("after other changes: ", err)
+	}
+	watch(t, s)
+	Must(t, s.Sync(Ctx))
+	seen = s.reported
+	_, err := s.Collect(Ctx, store.Keep{Manifests: 1})
+	Must(t, err)
+	if err := s.look(Ctx, seen); errors.Is(err, store.ErrWentBack) {
+		t.Error("after a collection: ", err)
+	}
 }

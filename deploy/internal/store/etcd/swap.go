@@ -65,7 +65,7 @@ func (s *Store) txn(next *manifest.Manifest, head string, within []blob) func(ct
 	if next.Before != "" {
 		same = clientv3.Compare(clientv3.Value(now), "=", newestValue(next.Revision-1, next.Before))
 	}
-	then := []clientv3.Op{clientv3.OpPut(now, newestValue(next.Revision, next.ID)), clientv3.OpPut(key, head), clientv3.OpPut("m/", "")}
+	then := []clientv3.Op{clientv3.OpPut(now, newestValue(next.Revision, next.ID)), clientv3.OpPut(key, head), clientv3.OpPut("m/", next.ID)}
 	for _, b := range within {
 		then = append(then, b.ops(next.App)...)
 	}
