@@ -20,7 +20,7 @@ import (
 
 // A Client asks for one application. It may be used by several goroutines at once.
 type Client struct {
-	HTTP     *http.Client  // by default http.DefaultClient
+	HTTP     *http.Client  // by default one that waits for two minutes, as the gateway does for a request
 	Patience time.Duration // how long a request that can't be answered now is asked again
 
 	base, token string
@@ -28,7 +28,7 @@ type Client struct {
 
 // New returns a client of the application at a gateway's address.
 func New(gateway, app, token string) *Client {
-	return &Client{HTTP: http.DefaultClient, Patience: 30 * time.Second, base: strings.TrimSuffix(gateway, "/") + "/v1/" + url.PathEscape(app), token: token}
+	return &Client{HTTP: &http.Client{Timeout: 2 * time.Minute}, Patience: 30 * time.Second, base: strings.TrimSuffix(gateway, "/") + "/v1/" + url.PathEscape(app), token: token}
 }
 
 // An Error is a refusal. Code, Line and Message say why a bundle is refused; Name says which one of a release.

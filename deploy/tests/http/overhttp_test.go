@@ -3,6 +3,10 @@ package http
 import (
 	"context"
 	"fmt"
+	"io"
+	"net/http"
+	"net/http/httptest"
+	"os"
 	"reflect"
 	"strings"
 	"testing"
@@ -11,7 +15,7 @@ import (
 	"luvdregan.example/resb/deploy/client/overhttp"
 )
 
-// TestTheClientInGo makes each call.
+// TestTheClientInGo makes each call, and asks a server whose answer doesn't end.
 func TestTheClientInGo(t *testing.T) {
 	s := open(t)
 	ctx, cancel := context.WithTimeout(context.Background(), generous)
@@ -57,4 +61,15 @@ func TestTheClientInGo(t *testing.T) {
 	c.Patience = time.Millisecond
 	_, err = overhttp.New(s.URL, "bank", shopWrites).Names(ctx)
 	is("Forbidden", err, nil, nil)
+	stalled := httptest.NewServer(http.HandlerFunc(func(w http.ResponseWriter, r *http.Request) {
+		_, _ = io.WriteString(w, "{")
+		w.(http.Flusher).Flush()
+		<-r.Context().Done()
+	}))
+	defer stalled.Close()
+	c = overhttp.New(stalled.URL, "shop", shopWrites)
+	errorIf(t, c.HTTP.Timeout < time.Minute || c.HTTP.Timeout > 5*time.Minute, "it waits for %v", c.HTTP.Timeout)
+	c.HTTP.Timeout = 50 * time.Millisecond
+	_, err = c.Names(ctx)
+	errorIf(t, !os.IsTimeout(err), "%v", err)
 }
