@@ -33,6 +33,13 @@ func open(t *testing.T, folder string, wrap func(store.Store) store.Store) *gate
 
 func openKeeping(t *testing.T, folder string, wrap func(store.Store) store.Store, keep store.Keep) *gateway {
 	t.Helper()
+	g := begin(t, folder, wrap, keep)
+	harness.Eventually(t, "it is ready", func() bool { return g.Ready() == nil })
+	return g
+}
+
+func begin(t *testing.T, folder string, wrap func(store.Store) store.Store, keep store.Keep) *gateway {
+	t.Helper()
 	s, err := sqlite.Open(sqlite.Options{Folder: folder, Create: true})
 	if err != nil {
 		t.Fatal(err)
@@ -41,13 +48,7 @@ func openKeeping(t *testing.T, folder string, wrap func(store.Store) store.Store
 	if err != nil {
 		t.Fatal(err)
 	}
-	r := Open(wrap(s), e, Options{Apps: 64, Bytes: 1 << 30, Keep: keep, Every: time.Hour})
-	for began := time.Now(); r.Ready() != nil; time.Sleep(time.Millisecond) {
-		if time.Since(began) > time.Minute {
-			t.Fatal("it isn't ready")
-		}
-	}
-	return &gateway{r, e}
+	return &gateway{Open(wrap(s), e, Options{Apps: 64, Bytes: 1 << 30, Keep: keep, Every: time.Hour}), e}
 }
 
 func asIs(s store.Store) store.Store { return s }
@@ -113,6 +114,30 @@ func TestCompiledFiles(t *testing.T) {
 		g.is(t, "shop", "fr", "a", "F")
 		g.Close()
 	}
+}
+
+// TestAStalledStart has a store that stands still while a start reads it: the gateway has a part then, and isn't ready before it has all.
+func TestAStalledStart(t *testing.T) {
+	folder, may := t.TempDir(), make(chan bool)
+	g := open(t, folder, asIs)
+	for _, app := range []string{"bank", "shop"} {
+		_, err := g.put(app, "de", `de{a{"`+app+`"}}`)
+		harness.Must(t, err)
+	}
+	stalled := g.Now("shop").Bundles[0].Digest
+	g.Close()
+	g = begin(t, folder, func(s store.Store) store.Store {
+		return lossy{s, func(b manifest.Bundle) bool { return b.Digest == stalled && !<-may }}
+	}, store.Keep{})
+	defer g.Close()
+	harness.Eventually(t, "it has a part", func() bool { return g.Now("bank").Revision == 1 })
+	time.Sleep(50 * time.Millisecond)
+	if _, err := g.put("bank", "de", "de{}"); g.Ready() != ErrReplaying || err != ErrReplaying {
+		t.Error(g.Ready(), err)
+	}
+	may <- true
+	harness.Eventually(t, "it is ready", func() bool { return g.Ready() == nil })
+	g.is(t, "shop", "de", "a", "shop")
 }
 
 // TestADamagedFile damages a stored compiled file in SQLite: the next start compiles the text again.

@@ -33,7 +33,22 @@ func TestReadyOnceAllIsRead(t *testing.T) {
 	for i := 0; i < 80; i++ {
 		first.put(fmt.Sprintf("l%c%c", 'a'+i/26, 'a'+i%26), fmt.Sprintf(`x{a{"%d"}}`, i))
 	}
+	c.Members[0].Signal(syscall.SIGSTOP) // it takes connections, and answers nothing
+	sent := make(chan int)
+	for i := 0; i < 3; i++ {
+		go func(app string) { sent <- first.Ask("PUT", "/v1/app."+app+"/de.txt", appsWrite, "de{}").Status }(fmt.Sprint(i))
+	}
+	first.awaitMetric("resb_changes_waiting", func(n float64) bool { return n == 3 })
 	second := start()
+	eventually(t, "it answers", func() bool {
+		got, err := harness.Send(harness.Client, "GET", second.URL+"/readyz", "", "")
+		return err == nil && got.Status == 503
+	})
+	time.Sleep(3 * time.Second)
+	errorIf(t, second.Healthy(), "ready while its store stands still")
+	c.Members[0].Signal(syscall.SIGCONT)
+	equal(t, []int{<-sent, <-sent, <-sent}, []int{201, 201, 201})
+	first.awaitMetric("resb_changes_waiting", func(n float64) bool { return n == 0 })
 	for end := time.Now().Add(generous); !second.Healthy() && time.Now().Before(end); {
 		got, err := harness.Send(harness.Client, "GET", second.URL+"/v1/shop", shopReads, "")
 		if err == nil && got.Status == 200 && strings.Count(got.Body, "\"l") != 80 {
@@ -41,6 +56,7 @@ func TestReadyOnceAllIsRead(t *testing.T) {
 		}
 	}
 	second.is("lcb/a", "53")
+	equal(t, second.get("/v1/shop/lcb.txt").Header.Get("Last-Modified"), first.get("/v1/shop/lcb.txt").Header.Get("Last-Modified"))
 	c.Members[0].Kill()
 	first.is("lcb/a", "53") // lookups are still answered
 	if got := first.ask("PUT", "/v1/shop/de.txt", shopWrites, "de{}"); got.Status != 503 && got.Status != 504 {

@@ -137,7 +137,7 @@ func contentOf(t *testing.T, folder string) map[string]string {
 	return all
 }
 
-// TestCheckConfig ends with 0 or 2, and makes nothing. The command line wins over the file.
+// TestCheckConfig ends with 0 or 2, and makes nothing, also beside a gateway over the same folder. The command line wins over the file.
 func TestCheckConfig(t *testing.T) {
 	t.Parallel()
 	state, tokens, wrong := filepath.Join(t.TempDir(), "state"), fileOf(t, harness.Tokens), fileOf(t, "shop")
@@ -167,6 +167,10 @@ func TestCheckConfig(t *testing.T) {
 	s.Restart()
 	s.put("de", `de{a{"A"}}`)
 	eventually(t, "the change is logged", func() bool { return len(journal(t, filepath.Join(s.State, "audit"))) == 1 })
+	before := contentOf(t, s.State) // while the gateway runs
+	command(t, 0, "can be used", append([]string{"-check-config", "-program", program}, s.Args[1:]...)...)
+	equal(t, contentOf(t, s.State), before)
+	s.put("de", `de{a{"B"}}`)
 	command(t, 0, "resb-gateway ", "-version")
 }
 
@@ -308,9 +312,9 @@ func TestTLS(t *testing.T) {
 			}
 		})
 	}()
-	for serial, at := range map[int64]time.Time{2: time.Now().Add(time.Minute), 3: time.Now().Add(-24 * time.Hour)} {
+	renew := func(serial int64, at time.Time, hangup bool) {
 		writePair(t, folder, serial, at)
-		if serial == 2 {
+		if hangup {
 			s.Signal(syscall.SIGHUP)
 		}
 		eventually(t, "the certificate is read again", func() bool {
@@ -318,6 +322,14 @@ func TestTLS(t *testing.T) {
 			return err == nil && got.TLS.PeerCertificates[0].SerialNumber.Int64() == serial
 		})
 	}
+	renew(2, time.Now().Add(-24*time.Hour), false)
+	isAtOnce := false
+	for serial := int64(3); serial < 20 && !isAtOnce; serial++ { // the next look without a signal comes a second after the last one
+		began := time.Now()
+		renew(serial, began.Add(-24*time.Hour), true)
+		isAtOnce = time.Since(began) < 500*time.Millisecond
+	}
+	errorIf(t, !isAtOnce, "a hangup doesn't have the certificate read")
 	must(t, os.WriteFile(filepath.Join(folder, "cert"), []byte("half"), 0o600))
 	time.Sleep(1500 * time.Millisecond)
 	if got, err := get(); err != nil || got.StatusCode != 200 {

@@ -163,7 +163,7 @@ func TestBrowserHostile(t *testing.T) {
 // TestBrowserTranslate shows a source beside translations into Arabic and Hindi, each in its own direction and language.
 func TestBrowserTranslate(t *testing.T) {
 	b, s := visit(t, "en", `en{menu{open{"Open file {0}"} close{"Close"} ok{"OK"}} list{"one", "two"} n:int{5} empty:table{}}`,
-		"ar", `ar{menu{open{"فتح الملف {0} (PDF)"} ok{"OK"}} list:array{"واحد"} extra{"زائد"}}`,
+		"ar", `ar{menu{open{"فتح الملف {0} (PDF)"} ok{"OK"}} list:array{"واحد"} extra{"{n, plural, other {زائد}}"}}`,
 		"hi", `hi{menu{open{"फ़ाइल {0} खोलें"} close{"बंद करें"} ok{"ठीक है"}} list{"एक", "दो"} n:int{5} empty:table{}}`)
 	b.play(s, "Translate")
 }
