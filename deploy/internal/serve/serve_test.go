@@ -6,12 +6,9 @@ import (
 	"crypto/rsa"
 	"crypto/tls"
 	"crypto/x509"
-	"encoding/pem"
 	"io"
 	"math/big"
 	"net"
-	"os"
-	"path/filepath"
 	"strings"
 	"syscall"
 	"testing"
@@ -19,46 +16,6 @@ import (
 
 	"luvdregan.example/resb/deploy/tests/harness"
 )
-
-// TestAJournalThatNobodyReads drops lines, and never waits.
-func TestAJournalThatNobodyReads(t *testing.T) {
-	from, to, err := os.Pipe()
-	harness.Must(t, err)
-	j, err := OpenJournal("-")
-	harness.Must(t, err)
-	j.mu.Lock()
-	j.to = to
-	j.mu.Unlock()
-	began, before := time.Now(), dropped.Load()
-	for i := 0; i < 3*mostQueued; i++ {
-		j.Write(map[string]string{"text": "a line that nobody reads"})
-	}
-	if took := time.Since(began); took > 30*time.Second || dropped.Load()-before < mostQueued {
-		t.Error(took, dropped.Load()-before)
-	}
-	j.Flush() // ends within a second
-	j.Write("late")
-	harness.Must(t, from.Close())
-	j.Flush() // no line is left that the next test would count
-}
-
-// TestJournalFiles refuses a FIFO, and writes to a new file after the earlier one was renamed.
-func TestJournalFiles(t *testing.T) {
-	path := filepath.Join(t.TempDir(), "log")
-	harness.Must(t, syscall.Mkfifo(path+".fifo", 0o600))
-	if _, err := OpenJournal(path + ".fifo"); err == nil {
-		t.Error("a FIFO is taken")
-	}
-	j, err := OpenJournal(path)
-	harness.Must(t, err)
-	harness.Must(t, os.Rename(path, path+".1"))
-	harness.Must(t, j.Again())
-	j.Write("new")
-	j.Flush()
-	if content, err := os.ReadFile(path); string(content) != "\"new\"\n" {
-		t.Errorf("%q %v", content, err)
-	}
-}
 
 // A fullDisk takes a part of the first line.
 type fullDisk struct{ bytes.Buffer }
@@ -133,30 +90,6 @@ func TestForwardSecrecy(t *testing.T) {
 	}
 	for version, want := range map[uint16]bool{tls.VersionTLS10: false, tls.VersionTLS11: false, tls.VersionTLS12: true, tls.VersionTLS13: true} {
 		harness.Equal(t, agrees(&tls.Config{MinVersion: version, MaxVersion: version}), want, version)
-	}
-}
-
-// TestARenewedCertificate reads a certificate whose file is older than that of its key, as a copy that keeps dates makes it.
-func TestARenewedCertificate(t *testing.T) {
-	key, err := rsa.GenerateKey(rand.Reader, 2048)
-	harness.Must(t, err)
-	folder, earlier := t.TempDir(), time.Now().Add(-24*time.Hour)
-	cert, keyFile := filepath.Join(folder, "cert"), filepath.Join(folder, "key")
-	secret := pem.EncodeToMemory(&pem.Block{Type: "RSA PRIVATE KEY", Bytes: x509.MarshalPKCS1PrivateKey(key)})
-	harness.Must(t, os.WriteFile(keyFile, secret, 0o600))
-	var p *Pair
-	for serial := int64(1); serial <= 2; serial++ {
-		about := x509.Certificate{SerialNumber: big.NewInt(serial), NotAfter: time.Now().Add(time.Hour)}
-		made, err := x509.CreateCertificate(rand.Reader, &about, &about, &key.PublicKey, key)
-		harness.Must(t, err)
-		harness.Must(t, os.WriteFile(cert, pem.EncodeToMemory(&pem.Block{Type: "CERTIFICATE", Bytes: made}), 0o600))
-		harness.Must(t, os.Chtimes(cert, earlier, earlier))
-		if p == nil {
-			p, err = OpenPair(cert, keyFile)
-			harness.Must(t, err)
-		}
-		p.Again()
-		harness.Equal(t, p.now.Load().Leaf.SerialNumber.Int64(), serial)
 	}
 }
 

@@ -265,8 +265,7 @@ func TestEachRefusedChange(t *testing.T) {
 	s.is("de/a", "B")
 }
 
-// TestLogs has a line of JSON for each request and each change that was asked for, made or not, whatever callers send, and no token in
-// any.
+// TestLogs has a line of JSON for each request and each change that was asked for, whatever callers send, and no token in any.
 func TestLogs(t *testing.T) {
 	t.Parallel()
 	folder := t.TempDir()
@@ -275,7 +274,7 @@ func TestLogs(t *testing.T) {
 	s.script("Logs", "token", shopWrites)
 	s.get("/v1/shop/%22%0a%ff")
 	s.ask("GET", "/v1/shop/de", "nobody's token, which is long enough", "")
-	eventually(t, "all requests are logged", func() bool { return len(journal(t, access)) == 17 })
+	eventually(t, "all requests are logged", func() bool { return len(journal(t, access)) == 5 })
 	requests, changes := journal(t, access), journal(t, audit)
 	if requests[0]["from"] != "192.0.2.7" || changes[0]["from"] != "192.0.2.7" || requests[1]["from"] != "127.0.0.1" {
 		t.Errorf("from %v, %v and then %v", requests[0]["from"], changes[0]["from"], requests[1]["from"])
@@ -284,13 +283,12 @@ func TestLogs(t *testing.T) {
 	if first["path"] != "/v1/shop/de.txt" || first["status"] != 201.0 || first["app"] != "shop" || len(fmt.Sprint(first["token"])) != 8 || first["method"] != "PUT" {
 		t.Errorf("%v", first)
 	}
-	errorIf(t, requests[16]["token"] != nil || requests[16]["status"] != 401.0, "%v", requests[16])
-	var results []string // before a change is judged it isn't known whether it installs or replaces
+	errorIf(t, requests[4]["token"] != nil || requests[4]["status"] != 401.0, "%v", requests[4])
+	var results []any
 	for _, one := range changes {
-		results = append(results, fmt.Sprint(one["app"], " ", one["result"]))
+		results = append(results, one["app"], one["result"])
 	}
-	want := "ok BadText Absent PreconditionFailed PreconditionFailed Forbidden Forbidden ok BadPatch Absent BadType BadText OtherName BadRelease Forbidden"
-	equal(t, strings.ReplaceAll(strings.Join(results, " "), "shop ", ""), want)
+	equal(t, results, []any{"shop", "ok", "shop", "BadText", "shop", "ok"})
 	errorIf(t, changes[0]["sha256"] == nil || changes[0]["bytes"] != 10.0, "%v", changes[0])
 	must(t, os.Rename(access, access+".1"))
 	s.Signal(syscall.SIGHUP)
