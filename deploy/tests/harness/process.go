@@ -11,6 +11,7 @@ import (
 	"net/http"
 	"os"
 	"os/exec"
+	"path/filepath"
 	"reflect"
 	"runtime"
 	"sort"
@@ -75,13 +76,29 @@ func (p *Process) PID() int {
 	return p.command.Process.Pid
 }
 
-// Signal sends a signal.
+// Signal sends a signal. It returns from SIGSTOP once all threads stand still: on a busy machine the others
+// go on until the one that takes the signal has its turn.
 func (p *Process) Signal(s syscall.Signal) {
 	p.mu.Lock()
 	defer p.mu.Unlock()
-	if p.command != nil {
-		_ = p.command.Process.Signal(s)
+	if p.command == nil || p.command.Process.Signal(s) != nil || s != syscall.SIGSTOP {
+		return
 	}
+	for end := time.Now().Add(Generous); time.Now().Before(end) && !isStopped(p.command.Process.Pid); {
+		time.Sleep(time.Millisecond)
+	}
+}
+
+// isStopped returns true if no thread of a process runs or waits.
+func isStopped(pid int) bool {
+	threads, _ := filepath.Glob(fmt.Sprintf("/proc/%d/task/*/stat", pid))
+	for _, name := range threads {
+		stat, _ := os.ReadFile(name)
+		if _, state, _ := strings.Cut(string(stat), ") "); state != "" && !strings.ContainsAny(state[:1], "TtZX") {
+			return false
+		}
+	}
+	return true
 }
 
 // Kill kills the process, and waits for its end.
