@@ -70,12 +70,15 @@ static void lists(resb *e) {
 
 /* Compares the items of a table or an array with what resb_look writes of them. */
 static void lists_children(resb *e, const char *path, size_t number) {
-    resb_child children[9], last;
+    resb_child children[10], last;
     size_t count = 0;
     memset(&last, 0x5a, sizeof last);
     children[number - 1] = last;
     EXPECT(resb_children(e, S("shop"), S("de_AT"), S(path), children, number - 1, &count) == RESB_NO_ROOM && count == number);
     EXPECT(memcmp(&children[number - 1], &last, sizeof last) == 0);
+    children[number] = last;
+    EXPECT(resb_children(e, S("shop"), S("de_AT"), S(path), children, number + 1, &count) == RESB_OK && count == number);
+    EXPECT(memcmp(&children[number], &last, sizeof last) == 0);
     EXPECT(resb_children(e, S("shop"), S("de_AT"), S(path), children, number, &count) == RESB_OK && count == number);
     for (size_t i = 0; i < number; i++) {
         char below[40], key[16];

@@ -1,6 +1,6 @@
 //! The items of a table or an array, described by one lookup.
 ghost use Rattle.std.specs.Prelude.{◌≡◌, ◌≢◌, ◌<◌, ◌≤◌, IfNone, IfSome, Some, length, map};
-ghost use Rattle.std.specs.Prelude.{option_map, slice_get, take};
+ghost use Rattle.std.specs.Prelude.{drop, option_map, slice_get, take};
 ghost use Rattle.rb_views.specs.Seen.{entries_seen, tree_seen, trees_seen};
 ghost use Rattle.rb_handle.specs.Stored.{engine_of};
 ghost use Rattle.resb.specs.Children.{CopiesChildren, children_of, listed, shown, shown_child};
@@ -95,8 +95,8 @@ fn child_at(items: Items<'_>, i: usize) -> Child
 
 #[tactic(auto, using(crate::proofs::Shown::one_more))]
 fn describe_all(items: Items<'_>, out: &mut [Child])
-    requires { length (listed items) ≤ length out.old }
-    ensures { map shown_child (take (length (listed items.entry)) out.new) ≡ listed items.entry }
+    requires { length (listed items) ≡ length out.old }
+    ensures { map shown_child out.new ≡ listed items.entry }
 {
     for i in 0..count_of(items) {
         out[i] = child_at(items, i);
@@ -113,6 +113,7 @@ fn children_in(
 ) -> u32
     ensures children { CopiesChildren (answer_in engine.now app.now locale.now path.now) result
         count.new (length out.old) (map shown_child (take count.new out.new)) }
+    ensures beyond { result ≡ 0 → drop count.new out.new ≡ drop count.new out.old }
     ensures unchanged { result ≢ 0 → out.new ≡ out.old }
 {
     let item = match engine.look(app, locale, path) {
@@ -126,7 +127,7 @@ fn children_in(
     if *count > out.len() {
         return NO_ROOM;
     }
-    describe_all(items, out);
+    describe_all(items, &mut out[..*count]);
     0
 }
 
@@ -146,6 +147,7 @@ pub extern "C" fn resb_children(
     ensures children { IfSome (engine_of handle.old) (λ e. CopiesChildren
         (answer_in e app.now locale.now path.now) result count.new (length out.old)
         (map shown_child (take count.new out.new))) }
+    ensures beyond { result ≡ 0 → drop count.new out.new ≡ drop count.new out.old }
     ensures unchanged { result ≢ 0 → out.new ≡ out.old }
     ensures closed { IfNone (engine_of handle.old) (result ≡ 2) }
 {
