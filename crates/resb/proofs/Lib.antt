@@ -1,5 +1,6 @@
 pub mod Copies
 pub mod FoundItems
+pub mod LooksBelow
 pub mod Named
 pub mod OpenAliases
 pub mod Releasing

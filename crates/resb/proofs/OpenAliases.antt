@@ -1,10 +1,11 @@
 -- A search for an open alias, child by child.
-use Rattle.std.proofs.Common.{◌≡◌, ◌<◌, ◌≤◌, ◌⊎◌, inl, inr, ℕ, List, [], ◌∷◌, Some, length, sym, subst, arith}
-use Rattle.std.specs.Prelude.{slice_get}
+use Rattle.std.proofs.Common.{◌≡◌, ◌<◌, ◌≤◌, ◌+◌, ◌⊎◌, inl, inr, ℕ, List, [], ◌∷◌, Some, length, take, sym, subst, arith}
+use Rattle.std.specs.Prelude.{slice_get, sum_by}
 use Rattle.std.proofs.lemmas.Option.{slice_get_within}
 use Rattle.rb_tree.specs.Parts.{children_of}
 use Rattle.rb_tree.specs.Resource.{Resource}
-use Rattle.resb.specs.Icu.{HasOpenAlias, IsClosed, IsOpenAlias}
+use Rattle.resb.specs.Icu.{HasOpenAlias, IsClosed, IsOpenAlias, cost_of, looks}
+use Rattle.resb.proofs.LooksBelow.{too_many}
 
 -- the units before an index are no NUL
 abbrev pub HasNoNul : List ℕ → ℕ → Type 0
@@ -23,7 +24,8 @@ all_closed t i past all here (k ∷ is) part p ends =
 open_below : (t child : Resource) (i : ℕ) → Some child ≡ slice_get (children_of t) i → HasOpenAlias child → HasOpenAlias t
 open_below t child i e h = record { path = i ∷ h.path; part = h.part; there = (child, e, h.there); ends = h.ends }
 
-pub error_below : (t child : Resource) (i n : ℕ) → Some child ≡ slice_get (children_of t) i → (n ≡ 78) ⊎ ((n ≡ 77) × HasOpenAlias child)
-    → (n ≡ 78) ⊎ ((n ≡ 77) × HasOpenAlias t)
-error_below t child i n e (inl many) = inl many
-error_below t child i n e (inr h) = inr (h.0, open_below t child i e h.1)
+pub error_below : (t child : Resource) (i left limit n : ℕ) → Some child ≡ slice_get (children_of t) i
+    → left + cost_of t + sum_by looks (take i (children_of t)) ≡ limit
+    → ((n ≡ 77) × HasOpenAlias child) ⊎ ((n ≡ 78) × (left < looks child)) → ((n ≡ 77) × HasOpenAlias t) ⊎ ((n ≡ 78) × (limit < looks t))
+error_below t child i left limit n e so (inl h) = inl (h.0, open_below t child i e h.1)
+error_below t child i left limit n e so (inr h) = inr (h.0, too_many t child i left limit e h.1 so)

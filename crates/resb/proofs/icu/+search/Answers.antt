@@ -3,6 +3,7 @@ use Rattle.rb_tree.specs.Parts.{children_of}
 use Rattle.rb_tree.specs.Resource.{height}
 use Rattle.rb_tree.specs.inner.Lower.{child_lower}
 use Rattle.rb_views.specs.Seen.{tree_seen}
+use Rattle.resb.proofs.LooksBelow.{left_all}
 use Rattle.resb.proofs.OpenAliases.{all_closed, error_below}
 use Rattle.resb.proofs.icu.+search.Goals as goal
 
@@ -14,9 +15,15 @@ search-requires t c =
 
 pub returns-in-Err-clause-open : goal.returns-in-Err-clause-open
 returns-in-Err-clause-open t c =
-    error_below (tree_seen c.args.item) (tree_seen c.at.result) c.loop-i.i c.in-Err.number c.at.ensures c.in-Err.ensures.open
+    error_below (tree_seen c.args.item) (tree_seen c.at.result) c.loop-i.i c.loop-i.left c.args.limit c.in-Err.number c.at.ensures
+    c.loop-i.invariant.1 c.in-Err.ensures.open
 
 pub returns-clause-closed : goal.returns-clause-closed
 returns-clause-closed t c =
     let past : length (children_of (tree_seen c.args.item)) ≤ c.loop-i.i = omega (arith, c.child_count-i-end.ensures.count, c.loop-i-test.false) in
-    all_closed (tree_seen c.args.item) c.loop-i.i past c.loop-i.invariant (c.is_open_alias.ensures.closed c.if-is_open_alias.false)
+    all_closed (tree_seen c.args.item) c.loop-i.i past c.loop-i.invariant.0 (c.is_open_alias.ensures.closed c.if-is_open_alias.false)
+
+pub returns-clause-cost : goal.returns-clause-cost
+returns-clause-cost t c =
+    let past : length (children_of (tree_seen c.args.item)) ≤ c.loop-i.i = omega (arith, c.child_count-i-end.ensures.count, c.loop-i-test.false) in
+    left_all (tree_seen c.args.item) c.loop-i.i c.loop-i.left c.args.limit past c.loop-i.invariant.1
