@@ -39,6 +39,7 @@ import (
 	"fmt"
 	"math"
 	"runtime"
+	"strings"
 	"sync"
 	"unsafe"
 )
@@ -289,4 +290,24 @@ func (b *Bundles) TreeJSON(app, locale, path string, steps uint64) ([]byte, erro
 func CheckForICU(file []byte) error {
 	p, n := bytes(file)
 	return errorOf(C.resb_check_for_icu(unsafe.Pointer(p), n))
+}
+
+// AliasTargets checks a file like CheckForICU, and returns the bundles that its aliases name, which libicu opens too: NAME for one beside the
+// file, and /PACKAGE/NAME.
+func AliasTargets(file []byte) ([]string, error) {
+	p, n := bytes(file)
+	out := make([]byte, 256)
+	for {
+		var written C.size_t
+		to, room := bytes(out)
+		switch number := C.resb_alias_targets(unsafe.Pointer(p), n, to, room, &written); number {
+		case C.RESB_OK:
+			names := strings.Split(string(out[:written]), "\x00")
+			return names[:len(names)-1], nil
+		case C.RESB_NO_ROOM:
+			out = make([]byte, written)
+		default:
+			return nil, errorOf(number)
+		}
+	}
 }

@@ -6,6 +6,7 @@ import (
 	"fmt"
 	"reflect"
 	"runtime"
+	"strings"
 	"sync"
 	"testing"
 	"time"
@@ -385,6 +386,25 @@ func TestBundle(t *testing.T) {
 	alias := prepared(t, `de{"%%ALIAS"{"de"}}`)
 	file, err := alias.File()
 	if err != nil || resb.Check(file) != nil || fmt.Sprint(resb.CheckForICU(file)) != "IcuAlias" {
+		t.Error(err)
+	}
+}
+
+func TestAliasTargets(t *testing.T) {
+	for text, want := range map[string][]string{
+		`de{a{"b"}}`: {},
+		`de{a:alias{"fr/x"} b:alias{"/ICUDATA/de/y"} c:alias{"fr/z"} d:alias{"/LOCALE/a"}}`: {"/ICUDATA/de", "fr"},
+		`de{a:alias{"` + strings.Repeat("x", 1000) + `"}}`:                                  {strings.Repeat("x", 1000)},
+	} {
+		file, err := resb.Compile([]byte(text))
+		if err != nil {
+			t.Fatal(err)
+		}
+		if names, err := resb.AliasTargets(file); err != nil || !reflect.DeepEqual(names, want) {
+			t.Error(err, names)
+		}
+	}
+	if _, err := resb.AliasTargets(nil); fmt.Sprint(err) != "FileHeader" {
 		t.Error(err)
 	}
 }

@@ -79,6 +79,13 @@ class Test(unittest.TestCase):
         self.assertEqual(code(resb.check_for_icu, alias), "IcuAlias")
         resb.check_for_icu(prepared.file())
 
+    def test_alias_targets(self):
+        file = resb.compile('de{a:alias{"fr/x"} b:alias{"/ICUDATA/de/y"} c:alias{"fr/z"} d:alias{"/LOCALE/a"}}')
+        self.assertEqual(resb.alias_targets(file), ["/ICUDATA/de", "fr"])
+        self.assertEqual(resb.alias_targets(resb.compile('de{a:alias{"%s"}}' % ("x" * 1000))), ["x" * 1000])
+        self.assertEqual(resb.alias_targets(resb.compile('de{a{"b"}}')), [])
+        self.assertEqual(code(resb.alias_targets, b""), "FileHeader")
+
     def test_releases(self):
         root = resb.prepare('x{open{"Open"} menu{quit{"Quit"}}}')
         self.bundles.release("shop", {"root": root, "de": resb.prepare(TEXT)})

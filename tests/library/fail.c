@@ -37,6 +37,20 @@ static bool worked(uint32_t error) {
     return error == RESB_OK;
 }
 
+static void targets(void) {
+    static uint8_t file[4096];
+    char names[16] = "";
+    size_t written, len = 0;
+    uint64_t line;
+    if (!worked(resb_compile(S("de{a:alias{\"fr/x\"} b:alias{\"root\"}}"), file, sizeof file, &written, &line)))
+        return;
+    worked(resb_check_for_icu(file, written));
+    if (worked(resb_alias_targets(file, written, names, sizeof names, &len)))
+        EXPECT(len == 8 && memcmp(names, "fr\0root", 8) == 0);
+    else
+        EXPECT(len == 0 && *names == 0);
+}
+
 static void history(void) {
     static uint8_t out[4096];
     static char names[64];
@@ -101,7 +115,6 @@ static void history(void) {
         if (made)
             worked(resb_release(&e, S("shop"), edits + 1, 1, &place));
     }
-    worked(resb_check_for_icu(out, written));
     if (worked(resb_share(&e, &other)))
         EXPECT(resb_look(&other, S("shop"), S("de_AT"), S("greeting"), &f) == seen);
     else
@@ -125,6 +138,7 @@ int main(void) {
     long over;
     do {
         left = ++runs;
+        targets();
         history();
         over = left;
         left = 0;

@@ -263,6 +263,7 @@ static uint32_t checked(const char *text) {
     size_t size;
     EXPECT(resb_compile(S(text), file, sizeof file, &size, &line) == RESB_OK && resb_check(file, size) == RESB_OK);
     uint32_t error = resb_check_for_icu(file, size);
+    EXPECT(resb_alias_targets(file, size, out, sizeof out, &len) == error);
     file[16] = 4; /* the version of the format */
     EXPECT(resb_check_for_icu(file, size) == RESB_FILE_FORMAT_VERSION);
     return error;
@@ -281,6 +282,30 @@ static void checks_for_icu(void) {
     EXPECT(checked("de{t{a:alias{\"/LOCALE/\\u0000x\"}}}") == RESB_ICU_TARGET);
     EXPECT(checked("de{a{\"/LOCALE/\"} b:alias{\"/LOCALE/a\"} c:alias{\"\"} d:alias{\"/LOCALE\"} \"e/\"{\"x/\"}}") == RESB_OK);
     EXPECT(resb_check_for_icu(out, 0) == RESB_FILE_HEADER);
+}
+
+/* Expects the names of the bundles to which a text's aliases lead, each with a zero byte after it, and an untouched byte behind. */
+static void leads_to(const char *text, const char *names, size_t whole) {
+    memset(out, 'x', sizeof out);
+    EXPECT(checked(text) == RESB_OK && len == whole && memcmp(out, names, whole) == 0 && out[whole] == 'x');
+    static uint8_t file[1 << 12];
+    size_t size;
+    memset(out, 'x', sizeof out);
+    EXPECT(resb_compile(S(text), file, sizeof file, &size, &line) == RESB_OK);
+    len = 0;
+    EXPECT(whole == 0 || (resb_alias_targets(file, size, out, whole - 1, &len) == RESB_NO_ROOM && len == whole && out[0] == 'x'));
+}
+
+#define LEADS_TO(text, names) leads_to(text, names, sizeof(names) - 1)
+
+static void lists_targets(void) {
+    LEADS_TO("de{a{\"fr/x\"} b:alias{\"/LOCALE/a\"} c:alias{\"/LOCALE\"} d:alias{\"\"}}", "");
+    LEADS_TO("de{a:alias{\"fr/x\"} b{\"c\",:alias{\"de_AT\"},{:alias{\"fr/y/z\"}}} c:alias{\"root/a\"}}", "de_AT\0fr\0root\0");
+    LEADS_TO("de{a:alias{\"/ICUDATA/de/x\"} b:alias{\"/ICUDATA-lang/fr\"} c:alias{\"/ICUDATA\"} d:alias{\"//de\"} e:alias{\"LOCALE/x\"}}",
+             "//de\0/ICUDATA-lang/fr\0/ICUDATA/\0/ICUDATA/de\0LOCALE\0");
+    LEADS_TO("de{a:alias{\"\\u00e9\\ud83d\\ude00\\ud800/x\"}}", "\xc3\xa9\xf0\x9f\x98\x80\xef\xbf\xbd\0");
+    len = 9;
+    EXPECT(resb_alias_targets(out, 0, out + 1, 100, &len) == RESB_FILE_HEADER && len == 9);
 }
 
 /* Checks that aliases may share a text of usual length. */
@@ -333,6 +358,7 @@ int main(int argc, char **argv) {
     if (!quick)
         fills(&e);
     checks_for_icu();
+    lists_targets();
     shares_a_target();
     EXPECT(checked_sharing(1) == RESB_OK && checked_sharing(100) == RESB_ICU_ITEMS);
     resb_close(&e);

@@ -114,6 +114,13 @@ static void *check_for_icu(void *a) {
     return a;
 }
 
+static void *alias_targets(void *a) {
+    static char targets[64];
+    size_t len;
+    result = resb_alias_targets(out, written, targets, sizeof targets, &len);
+    return a;
+}
+
 static void *look_within(void *a) {
     result = resb_look_within(&e, S("a"), S("de_DE_POSIX"), S(path), 1000, &f);
     return a;
@@ -190,6 +197,7 @@ int main(void) {
     measure("compile", compile);
     measure("check", check);
     measure("check for libicu", check_for_icu);
+    measure("list targets of aliases", alias_targets);
     measure("prepare a text", prepare_text);
     measure("prepare a file", prepare_file);
     measure("install", install);

@@ -1,3 +1,4 @@
+pub mod AliasNames
 pub mod Copies
 pub mod FoundItems
 pub mod LooksBelow

@@ -1,3 +1,4 @@
+pub mod AliasTargets
 pub mod BundleForms
 pub mod Changes
 pub mod Children

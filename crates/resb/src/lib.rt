@@ -2,6 +2,7 @@
 //! static library over this one.
 #![tactic(auto)]
 
+pub mod alias_targets;
 pub mod bundle_forms;
 pub mod changes;
 pub mod check;

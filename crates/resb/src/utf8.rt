@@ -16,7 +16,7 @@ use rb_views::Units;
 use std::alloc::{AllocError, Global};
 
 /// Makes UTF-8 of units, with U+FFFD for a surrogate without its other half.
-fn utf8_of(alloc: Global, units: Units<'_>) -> Result<String, AllocError>
+pub(crate) fn utf8_of(alloc: Global, units: Units<'_>) -> Result<String, AllocError>
     ensures { IfOk result (λ text. string_bytes text
         ≡ encode_utf8_all (utf16_lossy_chars (units_seen units.entry))) }
 {

@@ -35,6 +35,7 @@ __all__ = [
     "Prepared",
     "Table",
     "Value",
+    "alias_targets",
     "check",
     "check_for_icu",
     "compile",
@@ -89,6 +90,15 @@ def check_for_icu(file: BytesLike) -> None:
     """Checks a file like `check`, and for what makes libicu crash on a bundle."""
     with _library.bytes_of(file) as (at, length):
         _must(_library.check_for_icu(at, length))
+
+
+def alias_targets(file: BytesLike) -> list[str]:
+    """Checks a file like `check_for_icu`, and returns the bundles that its aliases name, which libicu opens too: NAME for one beside the
+    file, and /PACKAGE/NAME."""
+    with _library.bytes_of(file) as (at, length):
+        error, names = _written(256, lambda *out: _library.alias_targets(at, length, *out))
+    _must(error)
+    return names.decode().split("\0")[:-1]
 
 
 def prepare(bundle: Bundle) -> Prepared:

@@ -103,6 +103,7 @@ _bundle = ctypes.POINTER(Prepared)
 
 check = _declare(_free, "check", *_content)
 check_for_icu = _declare(_free, "check_for_icu", *_content)
+alias_targets = _declare(_free, "alias_targets", *_content, *_out)
 compile = _declare(_free, "compile", *_content, *_out, _number)
 prepare = _declare(_free, "prepare", *_content, ctypes.c_bool, _bundle, _number)
 prepare_json = _declare(_free, "prepare_json", *_content, _bundle, _number)

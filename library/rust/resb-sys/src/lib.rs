@@ -149,6 +149,13 @@ extern "C" {
     pub fn resb_get_error_name(error: u32, name: *mut *const c_char);
     pub fn resb_check(file: *const u8, len: usize) -> u32;
     pub fn resb_check_for_icu(file: *const u8, len: usize) -> u32;
+    pub fn resb_alias_targets(
+        file: *const u8,
+        len: usize,
+        out: *mut u8,
+        capacity: usize,
+        written: *mut usize,
+    ) -> u32;
     pub fn resb_compile(
         text: *const u8,
         len: usize,

@@ -42,6 +42,17 @@ pub fn check_for_icu(file: &[u8]) -> Result<(), Error> {
     error::result_of(unsafe { sys::resb_check_for_icu(file.as_ptr(), file.len()) })
 }
 
+/// Checks a file like [`check_for_icu`], and returns the bundles that its aliases name, which libicu
+/// opens too: NAME for one beside the file, and /PACKAGE/NAME.
+pub fn alias_targets(file: &[u8]) -> Result<Vec<String>, Error> {
+    // SAFETY: the pointers have the lengths of what they point to.
+    let names = written(256, |out, capacity, len| unsafe {
+        sys::resb_alias_targets(file.as_ptr(), file.len(), out, capacity, len)
+    })?;
+    let names = String::from_utf8_lossy(&names);
+    Ok(names.split_terminator('\0').map(String::from).collect())
+}
+
 /// Compiles a bundle text to a `.res` file, or returns the first error with its line.
 pub fn compile(text: &str) -> Result<Vec<u8>, Error> {
     let mut line = 0;

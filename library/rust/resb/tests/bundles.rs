@@ -1,5 +1,6 @@
 use resb::{
-    check, check_for_icu, compile, sys, Bundle, Bundles, Child, Content, Error, Item, Place,
+    alias_targets, check, check_for_icu, compile, sys, Bundle, Bundles, Child, Content, Error,
+    Item, Place,
 };
 
 const GERMAN: &str = "de{greeting{\"Grüß\"} low:int{-1} v:intvector{1,-2} b:bin{00ff} e:bin{\"\"} \
@@ -183,6 +184,16 @@ fn prepares_bundles() {
     let alias = compile("de{\"%%ALIAS\"{\"de\"}}").unwrap();
     assert_eq!(check(&alias), Ok(()));
     assert_eq!(check_for_icu(&alias), Err(error(sys::RESB_ICU_ALIAS)));
+}
+
+#[test]
+fn lists_alias_targets() {
+    let text = "de{a:alias{\"fr/x\"} b:alias{\"/ICUDATA/de/y\"} c:alias{\"fr/z\"}}";
+    let file = compile(text).unwrap();
+    assert_eq!(alias_targets(&file).unwrap(), ["/ICUDATA/de", "fr"]);
+    let none = compile("de{a{\"b\"}}").unwrap();
+    assert_eq!(alias_targets(&none), Ok(vec![]));
+    assert_eq!(alias_targets(&[]), Err(error(sys::RESB_FILE_HEADER)));
 }
 
 #[test]
