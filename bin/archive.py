@@ -35,6 +35,7 @@ ARGUMENTS = {
     "&mut [u16]": "&mut []", "&mut usize": "&mut 0", "&mut u64": "&mut 0", "&mut *mut u8": "&mut at", "u32": "0", "u64": "0", "usize": "0",
     "bool": "false", "&[Entry<'_>]": "&[]", "&mut [Edit<'_>]": "&mut []", "&mut Found": "&mut found", "&mut Origin": "&mut origin",
     "&OpenLocale": "&opened", "&mut OpenLocale": "&mut opened", "&mut [Child]": "&mut []",
+    "&mut [Finding]": "&mut []",
 }
 MAIN = """
 use rb_handle::{BundleHandle, Handle};

@@ -390,6 +390,25 @@ func TestBundle(t *testing.T) {
 	}
 }
 
+func TestLint(t *testing.T) {
+	text := []byte("de{\na{\"b\" \"c\", \"d\"}\nb:int{09}\n}")
+	found, more, err := resb.Lint(text, "de", 10)
+	if err != nil || more != 0 || len(found) != 2 || found[0].Message == "" || found[1].Message == "" {
+		t.Fatal(found, more, err)
+	}
+	found[0].Message, found[1].Message = "", ""
+	want := []resb.Finding{{Line: 2, Column: 6, Rule: "joined-strings"}, {Line: 3, Column: 7, IsError: true, Rule: "BadInt"}}
+	if !reflect.DeepEqual(found, want) {
+		t.Error(found)
+	}
+	if found, more, err = resb.Lint(text, "", 0); err != nil || more != 1 || len(found) != 1 || !found[0].IsError {
+		t.Error(found, more, err)
+	}
+	if found, _, err = resb.Lint([]byte(`de{a{"b"}}`), "fr", 10); err != nil || len(found) != 1 || found[0].Rule != "bundle-name" {
+		t.Error(found, err)
+	}
+}
+
 func TestAliasTargets(t *testing.T) {
 	for text, want := range map[string][]string{
 		`de{a{"b"}}`: {},

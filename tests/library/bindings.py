@@ -79,6 +79,17 @@ class Test(unittest.TestCase):
         self.assertEqual(code(resb.check_for_icu, alias), "IcuAlias")
         resb.check_for_icu(prepared.file())
 
+    def test_lint(self):
+        text = 'de{\na{"b" "c", "d"}\nb:int{09}\n}'
+        found, more = resb.lint(text, "de")
+        self.assertEqual([f[:4] for f in found], [(2, 6, False, "joined-strings"), (3, 7, True, "BadInt")])
+        self.assertIn("'09'", found[1].message)
+        self.assertEqual(more, 0)
+        found, more = resb.lint(text.encode(), limit=0)
+        self.assertEqual(([f.rule for f in found], more), (["BadInt"], 1))
+        self.assertEqual([f.rule for f in resb.lint('de{a{"b"}}', "fr")[0]], ["bundle-name"])
+        self.assertEqual(resb.lint('de{a{"b"}}', "de"), ([], 0))
+
     def test_alias_targets(self):
         file = resb.compile('de{a:alias{"fr/x"} b:alias{"/ICUDATA/de/y"} c:alias{"fr/z"} d:alias{"/LOCALE/a"}}')
         self.assertEqual(resb.alias_targets(file), ["/ICUDATA/de", "fr"])

@@ -37,11 +37,17 @@ static bool worked(uint32_t error) {
     return error == RESB_OK;
 }
 
-static void targets(void) {
+static void linting(void) {
     static uint8_t file[4096];
+    static resb_finding found[9];
     char names[16] = "";
-    size_t written, len = 0;
-    uint64_t line;
+    size_t written, len = 0, count = 0;
+    uint64_t line, more;
+    memset(found, 0, sizeof found);
+    if (worked(resb_lint(S("de{a{\"b\" \"c\", \"d\"}\nb:int{09}}"), S("de"), found, 9, &count, &more)))
+        EXPECT(count == 2 && found[0].line == 1 && found[1].error == RESB_TEXT_BAD_INT && more == 0);
+    else
+        EXPECT(count == 0 && found[0].line == 0);
     if (!worked(resb_compile(S("de{a:alias{\"fr/x\"} b:alias{\"root\"}}"), file, sizeof file, &written, &line)))
         return;
     worked(resb_check_for_icu(file, written));
@@ -138,7 +144,7 @@ int main(void) {
     long over;
     do {
         left = ++runs;
-        targets();
+        linting();
         history();
         over = left;
         left = 0;

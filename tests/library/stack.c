@@ -121,6 +121,14 @@ static void *alias_targets(void *a) {
     return a;
 }
 
+static void *lint(void *a) {
+    static resb_finding found[101];
+    size_t count;
+    uint64_t more;
+    result = resb_lint((char *)text, text_len, S("de"), found, 101, &count, &more);
+    return a;
+}
+
 static void *look_within(void *a) {
     result = resb_look_within(&e, S("a"), S("de_DE_POSIX"), S(path), 1000, &f);
     return a;
@@ -198,6 +206,7 @@ int main(void) {
     measure("check", check);
     measure("check for libicu", check_for_icu);
     measure("list targets of aliases", alias_targets);
+    measure("lint", lint);
     measure("prepare a text", prepare_text);
     measure("prepare a file", prepare_file);
     measure("install", install);

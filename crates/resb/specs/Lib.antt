@@ -6,6 +6,7 @@ pub mod Copied
 pub mod Exports
 pub mod Icu
 pub mod ItemTexts
+pub mod Lint
 pub mod Lists
 pub mod Looks
 pub mod OpenLocales

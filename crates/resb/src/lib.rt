@@ -16,6 +16,7 @@ mod held;
 pub mod icu;
 pub mod item_texts;
 pub mod json_source;
+pub mod lint;
 pub mod lists;
 pub mod looks;
 pub mod names;

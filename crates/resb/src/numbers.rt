@@ -35,6 +35,9 @@ pub(crate) const STALE: u32 = 8;
 /// The locale isn't a name.
 pub(crate) const BAD_LOCALE: u32 = 13;
 
+/// The text isn't compiled.
+pub(crate) const BAD_TEXT: u32 = 14;
+
 /// The tree is too large.
 pub(crate) const TREE_TOO_LARGE: u32 = 20;
 

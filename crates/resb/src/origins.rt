@@ -28,14 +28,14 @@ pub struct Origin {
     pub valid: [u8; NAME_SIZE],
 }
 
-fn put_front(field: &mut [u8], bytes: &[u8])
+pub(crate) fn put_front(field: &mut [u8], bytes: &[u8])
     requires { length bytes.now ≤ length field.old }
     ensures { take (length bytes.now) field.new ≡ bytes.now }
 {
     field[..bytes.len()].copy_from_slice(bytes);
 }
 
-fn put_zero(field: &mut [u8], at: usize)
+pub(crate) fn put_zero(field: &mut [u8], at: usize)
     requires { at < length field.old }
     ensures front { take at field.new ≡ take at field.old }
     ensures zero { slice_get field.new at ≡ Some 0 }

@@ -18,7 +18,7 @@ import os
 import threading
 from collections.abc import Iterator, Mapping, Sequence
 from contextlib import ExitStack
-from typing import TYPE_CHECKING, Callable, NoReturn, Optional, TypeVar, Union, overload
+from typing import TYPE_CHECKING, Callable, NamedTuple, NoReturn, Optional, TypeVar, Union, overload
 
 from . import _library
 
@@ -32,6 +32,7 @@ __all__ = [
     "Array",
     "Bundles",
     "Error",
+    "Finding",
     "Prepared",
     "Table",
     "Value",
@@ -39,6 +40,7 @@ __all__ = [
     "check",
     "check_for_icu",
     "compile",
+    "lint",
     "prepare",
     "prepare_json",
 ]
@@ -99,6 +101,27 @@ def alias_targets(file: BytesLike) -> list[str]:
         error, names = _written(256, lambda *out: _library.alias_targets(at, length, *out))
     _must(error)
     return names.decode().split("\0")[:-1]
+
+
+class Finding(NamedTuple):
+    """An error or a warning at its place in a text. `column` counts UTF-16 units; `rule` is the code of the error, such as "BadInt", or
+    the name of the warning."""
+
+    line: int
+    column: int
+    is_error: bool
+    rule: str
+    message: str
+
+
+def lint(text: Bundle, name: str = "", limit: int = 100) -> tuple[list[Finding], int]:
+    """Returns what `resb lint` reports of a text without settings: its error and the first warnings up to a limit, in the order of the
+    text; and how many warnings are left out. The name is that of the file, such as "de"."""
+    found, count, more = (_library.Finding * (limit + 1))(), ctypes.c_size_t(), ctypes.c_uint64()
+    of = name.encode()
+    with _library.bytes_of(text) as (at, length):
+        _must(_library.lint(at, length, of, len(of), found, limit + 1, count, more))
+    return [Finding(f.line, f.column, f.error != 0, f.rule.decode(), f.message.decode()) for f in found[: count.value]], more.value
 
 
 def prepare(bundle: Bundle) -> Prepared:

@@ -30,6 +30,16 @@ class Child(ctypes.Structure):
     _fields_ = [("key", ctypes.c_void_p), ("key_len", ctypes.c_size_t), ("item", Found)]
 
 
+class Finding(ctypes.Structure):
+    _fields_ = [
+        ("line", ctypes.c_uint64),
+        ("column", ctypes.c_uint64),
+        ("error", ctypes.c_uint32),
+        ("rule", ctypes.c_char * 28),
+        ("message", ctypes.c_char * 464),
+    ]
+
+
 class Entry(ctypes.Structure):
     _fields_ = [
         ("locale", ctypes.c_char_p),
@@ -104,6 +114,7 @@ _bundle = ctypes.POINTER(Prepared)
 check = _declare(_free, "check", *_content)
 check_for_icu = _declare(_free, "check_for_icu", *_content)
 alias_targets = _declare(_free, "alias_targets", *_content, *_out)
+lint = _declare(_free, "lint", *_content, *_name, ctypes.POINTER(Finding), ctypes.c_size_t, ctypes.POINTER(ctypes.c_size_t), _number)
 compile = _declare(_free, "compile", *_content, *_out, _number)
 prepare = _declare(_free, "prepare", *_content, ctypes.c_bool, _bundle, _number)
 prepare_json = _declare(_free, "prepare_json", *_content, _bundle, _number)

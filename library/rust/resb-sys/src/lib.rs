@@ -137,6 +137,16 @@ pub struct resb_child {
 
 #[repr(C)]
 #[derive(Clone, Copy)]
+pub struct resb_finding {
+    pub line: u64,
+    pub column: u64,
+    pub error: u32,
+    pub rule: [u8; 28],
+    pub message: [u8; 464],
+}
+
+#[repr(C)]
+#[derive(Clone, Copy)]
 pub struct resb_locale {
     pub version: u64,
     pub app: usize,
@@ -155,6 +165,16 @@ extern "C" {
         out: *mut u8,
         capacity: usize,
         written: *mut usize,
+    ) -> u32;
+    pub fn resb_lint(
+        text: *const u8,
+        len: usize,
+        name: *const u8,
+        name_len: usize,
+        findings: *mut resb_finding,
+        capacity: usize,
+        count: *mut usize,
+        more: *mut u64,
     ) -> u32;
     pub fn resb_compile(
         text: *const u8,

@@ -23,10 +23,12 @@
 mod bundle;
 mod bundles;
 mod error;
+mod lint;
 
 pub use bundle::Bundle;
 pub use bundles::{Bundles, Child, Content, Item, Locale};
 pub use error::{Error, Place};
+pub use lint::{lint, Finding};
 pub use resb_sys as sys;
 
 /// Checks whether bytes are a valid `.res` file, or returns the first error.

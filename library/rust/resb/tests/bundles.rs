@@ -1,6 +1,6 @@
 use resb::{
-    alias_targets, check, check_for_icu, compile, sys, Bundle, Bundles, Child, Content, Error,
-    Item, Place,
+    alias_targets, check, check_for_icu, compile, lint, sys, Bundle, Bundles, Child, Content,
+    Error, Item, Place,
 };
 
 const GERMAN: &str = "de{greeting{\"Grüß\"} low:int{-1} v:intvector{1,-2} b:bin{00ff} e:bin{\"\"} \
@@ -184,6 +184,27 @@ fn prepares_bundles() {
     let alias = compile("de{\"%%ALIAS\"{\"de\"}}").unwrap();
     assert_eq!(check(&alias), Ok(()));
     assert_eq!(check_for_icu(&alias), Err(error(sys::RESB_ICU_ALIAS)));
+}
+
+#[test]
+fn lints_texts() {
+    let text = b"de{\na{\"b\" \"c\", \"d\"}\nb:int{09}\n}";
+    let (found, more) = lint(text, "de", 10).unwrap();
+    let places: Vec<_> = found
+        .iter()
+        .map(|one| (one.line, one.column, one.is_error, one.rule.as_str()))
+        .collect();
+    assert_eq!(
+        places,
+        [(2, 6, false, "joined-strings"), (3, 7, true, "BadInt")]
+    );
+    assert!(more == 0 && found[1].message.contains("'09'"));
+    let (found, more) = lint(text, "", 0).unwrap();
+    assert!(more == 1 && found.len() == 1 && found[0].is_error);
+    assert_eq!(
+        lint(b"de{a{\"b\"}}", "fr", 10).unwrap().0[0].rule,
+        "bundle-name"
+    );
 }
 
 #[test]
