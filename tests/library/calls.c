@@ -140,6 +140,16 @@ static void looks_alike(resb *e, const char *app, const char *locale, const char
     EXPECT(resb_open_locale(e, S(app), S(locale), &opened) == RESB_OK);
     uint32_t error = resb_look(e, S(app), S(locale), S(path), &f);
     EXPECT(resb_look_at(e, &opened, S(path), &g) == error && memcmp(&f, &g, sizeof f) == 0);
+    /* with each limit on the steps, up to one that is enough */
+    uint64_t steps = 0;
+    do {
+        memset(&f, 0, sizeof f);
+        memset(&g, 0, sizeof g);
+        error = resb_look_within(e, S(app), S(locale), S(path), steps, &f);
+        EXPECT(resb_look_at_within(e, &opened, S(path), steps, &g) == error && memcmp(&f, &g, sizeof f) == 0);
+    } while (error == RESB_TOO_MANY_STEPS && ++steps < 1000);
+    EXPECT(error != RESB_TOO_MANY_STEPS);
+    EXPECT(resb_look_at_within(e, &opened, S(path), UINT64_MAX, &g) == error && memcmp(&f, &g, sizeof f) == 0);
 }
 
 static void opens_locales(resb *e) {
@@ -163,6 +173,10 @@ static void opens_locales(resb *e) {
     EXPECT(resb_look_at(e, &opened, S("count"), &f) == RESB_OK && f.kind == RESB_INT && f.number == 7);
     EXPECT(resb_look_at(e, &opened, S("nothing"), &f) == RESB_MISSING && f.number == 7);
     EXPECT(resb_look_at(e, &opened, S("a//b"), &f) == RESB_BAD_PATH && f.number == 7);
+    EXPECT(resb_look_at_within(&closed, &opened, S("greeting"), 9, &f) == RESB_NOT_OPEN);
+    EXPECT(resb_look_at_within(e, &opened, S("greeting"), 3, &f) == RESB_TOO_MANY_STEPS && f.number == 7);
+    EXPECT(resb_look_at_within(e, &opened, S("nothing"), 99, &f) == RESB_MISSING && f.number == 7);
+    EXPECT(resb_look_at_within(e, &opened, S("a//b"), 0, &f) == RESB_BAD_PATH && f.number == 7);
     static const char *const paths[] = {"", "greeting", "count", "low", "v", "b", "list", "list/1", "empty", "menu/open", "menu/x", "link", "only", "/"};
     static const char *const locales[] = {"de", "de_AT", "fr", "root", "zz_Zzzz_ZZ"};
     for (size_t i = 0; i < sizeof paths / sizeof *paths; i++)
@@ -172,6 +186,7 @@ static void opens_locales(resb *e) {
     resb_locale forged = opened;
     forged.app = SIZE_MAX;
     EXPECT(resb_look_at(e, &forged, S("greeting"), &f) == RESB_NO_BUNDLE);
+    EXPECT(resb_look_at_within(e, &forged, S("greeting"), 99, &f) == RESB_NO_BUNDLE);
     forged = opened;
     forged.count = SIZE_MAX;
     forged.stops[0] = SIZE_MAX;
@@ -182,6 +197,7 @@ static void opens_locales(resb *e) {
     EXPECT(resb_look_at(e, &bank, S("greeting"), &f) == RESB_OK && ((const uint16_t *)f.at)[0] == 'M');
     EXPECT(resb_install(e, S("bank"), S("fr"), S("fr{}"), true) == RESB_OK);
     EXPECT(resb_look_at(e, &bank, S("greeting"), &f) == RESB_STALE && resb_look_at(e, &opened, S("greeting"), &f) == RESB_STALE);
+    EXPECT(resb_look_at_within(e, &bank, S("a//b"), 0, &f) == RESB_STALE);
     EXPECT(resb_open_locale(e, S("bank"), S("de"), &bank) == RESB_OK && resb_look_at(e, &bank, S("greeting"), &f) == RESB_OK);
     EXPECT(resb_replace(e, S("bank"), S("fr"), S("fr{a{\"b\"}}"), true) == RESB_OK);
     EXPECT(resb_look_at(e, &bank, S("greeting"), &f) == RESB_STALE);

@@ -97,6 +97,7 @@ static void history(void) {
     long before = left;
     EXPECT(resb_open_locale(&e, S("shop"), S("de_AT"), &opened) == seen);
     EXPECT((seen || resb_look_at(&e, &opened, S("greeting"), &f) == RESB_OK) && left == before);
+    EXPECT((seen || resb_look_at_within(&e, &opened, S("greeting"), 9, &f) == RESB_OK) && left == before);
     resb_origin origin;
     EXPECT((seen || resb_look_origin_at(&e, &opened, S("greeting"), &f, &origin) == RESB_OK) && left == before);
     EXPECT(resb_look_origin(&e, S("shop"), S("de_AT"), S("greeting"), &f, &origin) == seen && left == before);

@@ -149,6 +149,11 @@ static void *look_at(void *a) {
     return a;
 }
 
+static void *look_at_within(void *a) {
+    result = resb_look_at_within(&e, &opened, S(path), 1000, &f);
+    return a;
+}
+
 static void *export(void *a) {
     size_t len;
     result = resb_export(&e, S("a"), S("de"), out, FILE_ROOM, &len);
@@ -217,6 +222,7 @@ int main(void) {
     measure("look_within", look_within);
     measure("open_locale", open_locale);
     measure("look_at", look_at);
+    measure("look_at_within", look_at_within);
     measure("text", copy);
     measure("look_origin", look_origin);
     measure("export", export);

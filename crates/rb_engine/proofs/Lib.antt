@@ -12,4 +12,5 @@ pub mod KeptOpen
 mod Places
 pub mod KeptFound
 pub mod Finding
+pub mod OpenBounded
 mod LastChanges

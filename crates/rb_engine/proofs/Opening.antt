@@ -21,6 +21,7 @@ use Rattle.rb_parents.proofs.Trails.{stop_is}
 use Rattle.rb_parents.specs.declared.fault.TrailFault.{TrailFault}
 use Rattle.rb_parents.specs.declared.fault.TrailFault.TheVariants as bad
 use Rattle.rb_fallback.specs.Search.{by_stops, by_trail, first_stop, level, look_up}
+use Rattle.rb_fallback.specs.Steps.{trail_length}
 use Rattle.rb_fallback.specs.Stops.{AreStopsOf, stop_among, with_tree}
 use Rattle.rb_fallback.specs.declared.found.Found.{Found}
 use Rattle.rb_fallback.specs.declared.fault.LookError.{LookError}
@@ -38,7 +39,7 @@ use Rattle.rb_engine.specs.Kept.{Kept, state_of}
 use Rattle.rb_engine.specs.LookResponse.{look_response}
 use Rattle.rb_engine.specs.Place.{place_of}
 use Rattle.rb_engine.specs.LookFaults.{look_fault_of, trail_refusal}
-use Rattle.rb_engine.specs.OpenLocale.{IsOpenLocale, RefusesAll, named_tree, opened_stop, stop_indices}
+use Rattle.rb_engine.specs.OpenLocale.{CountsNames, IsOpenLocale, RefusesAll, named_tree, opened_stop, stop_indices}
 use Rattle.rb_engine.specs.inner.Opening.{HasStops}
 use Rattle.rb_engine.specs.declared.open_locale.OpenLocale.{OpenLocale}
 use Rattle.rb_engine.specs.declared.place.Place.{Place}
@@ -152,7 +153,7 @@ pub opens : (opened : OpenLocale) (files : Files) (ps : ParentsOf) (n : List ℕ
 opens opened files ps n ns is h = record { ns = ns; trail = is; stops = stops_are opened files ns h }
 
 module _ (packages : Stored) (parents : Parents) (version : ℕ) where
-  abbrev kept : Kept
+  abbrev pub kept : Kept
   kept = record { packages = packages; parents = family_pairs parents; version = version }
 
   pub is_open : (opened : OpenLocale) (app locale : List ℕ) (p : Place) → place_of app locale ≡ Ok p
@@ -167,6 +168,17 @@ module _ (packages : Stored) (parents : Parents) (version : ℕ) where
         files = f ∙ ap (λ a. files_of a packages) same;
         stops = subst (λ (a : List ℕ). AreStopsOf (opened_stop opened (files_of a packages)) (bundle_at (list_of a packages)) (parent_of parents) p.name) same s;
       }
+
+  -- the place that was read is the only one
+  pub counts : (opened : OpenLocale) (app locale : List ℕ) (p : Place) → place_of app locale ≡ Ok p
+      → opened.names ≡ trail_length (trail (bundle_at (list_of p.app packages)) (parent_of parents) p.name) → CountsNames opened kept app locale
+  counts opened app locale p h e = λ q read.
+      let ok : Ok p ≡ Ok q = sym h ∙ read in
+      let there : p ≡ q = cc in
+      let same : p.app ≡ app = app-place_of app locale p h in
+      e
+      ∙ ap (λ (a : List ℕ). trail_length (trail (bundle_at (list_of a packages)) (parent_of parents) p.name)) same
+      ∙ ap (λ (x : Place). trail_length (trail (bundle_at (list_of app packages)) (parent_of parents) x.name)) there
 
   pub is_refused : (app locale : List ℕ) (p : Place) (e : LookFault) → place_of app locale ≡ Ok p
       → ((path : List ℕ) → is_path path ≡ true → length path ≤ 1024

@@ -2,7 +2,7 @@
 use Rattle.std.proofs.Common.{◌≡◌, ◌<◌, ◌≤◌, ◌==◌, ◌&&◌, ℕ, List, [], ◌∷◌, Bool, true, false, nat_lt, ap, sym, ◌∙◌, subst, refl, arith, inl, inr}
 use Rattle.std.proofs.lemmas.Bool.{eqb-true, ltb-false, ltb-true}
 use Rattle.rb_engine.specs.Kept.{Kept}
-use Rattle.rb_engine.specs.OpenLocale.{Follows, IsOpenLocale, IsReached, StaysOpen}
+use Rattle.rb_engine.specs.OpenLocale.{CountsNames, Follows, IsOpenLocale, IsReached, StaysCounted, StaysOpen}
 use Rattle.rb_engine.specs.Version.{is_current, last_version}
 
 -- the states are the same, or the version is greater, or the last one
@@ -40,13 +40,23 @@ current_is v w e = by (v == w) (nat_lt w last_version) refl refl e
     by true false f g h = cc
     by false b f g h = cc
 
-pub stays_open : StaysOpen
-stays_open opened app locale first last between there was reached current =
-    let c = current_is opened.version last.version current in
+-- the engine is the same while a version is current
+unchanged : (read : ℕ) (first last : Kept) (between : List Kept) → read ≡ first.version → IsReached first between last
+    → is_current read last.version ≡ true → last ≡ first
+unchanged read first last between was reached current =
+    let c = current_is read last.version current in
     let equal : first.version ≡ last.version = sym was ∙ c.0 in
     by (course first last between reached) equal c.1
   where
-    by : Course first last → first.version ≡ last.version → last.version < last_version → IsOpenLocale opened last app locale
-    by (same e) q l = subst (λ (k : Kept). IsOpenLocale opened k app locale) (sym e) there
+    by : Course first last → first.version ≡ last.version → last.version < last_version → last ≡ first
+    by (same e) q l = e
     by (greater g) q l = absurd (omega arith)
     by (over g) q l = absurd (omega arith)
+
+pub stays_open : StaysOpen
+stays_open opened app locale first last between there was reached current =
+    subst (λ (k : Kept). IsOpenLocale opened k app locale) (sym (unchanged opened.version first last between was reached current)) there
+
+pub stays_counted : StaysCounted
+stays_counted opened app locale first last between there was reached current =
+    subst (λ (k : Kept). CountsNames opened k app locale) (sym (unchanged opened.version first last between was reached current)) there

@@ -7,7 +7,9 @@ use Rattle.rb_tree.specs.Resource.{Resource}
 use Rattle.rb_tree.specs.Path.{is_path}
 use Rattle.rb_format.specs.File.{tree_of}
 use Rattle.rb_parents.specs.Family.{parent_in}
+use Rattle.rb_parents.specs.Trail.{trail}
 use Rattle.rb_fallback.specs.Limits.{path_limit}
+use Rattle.rb_fallback.specs.Steps.{trail_length}
 use Rattle.rb_fallback.specs.Stops.{AreStopsOf}
 use Rattle.rb_packages.specs.Shelf.{bundle_at}
 use Rattle.rb_packages.specs.Packages.{Files, files_of, list_of}
@@ -41,6 +43,12 @@ pub record IsOpenLocale (opened : OpenLocale) (engine : Kept) (app locale : List
   pub stops : AreStopsOf (opened_stop opened (files_of app engine.packages)) (bundle_at (list_of app engine.packages))
       (parent_in engine.parents) place.name
 
+-- it has the number of the trail's names, by which the steps of a lookup count
+abbrev pub CountsNames : OpenLocale → Kept → List ℕ → List ℕ → Type 0
+CountsNames opened engine app locale = (place : Place) → place_of app locale ≡ Ok place
+    → opened.names
+    ≡ trail_length (trail (bundle_at (list_of app engine.packages)) (parent_in engine.parents) place.name)
+
 -- a lookup of any path that isn't too long ends with this error
 abbrev pub RefusesAll : Kept → List ℕ → List ℕ → LookFault → Type 0
 RefusesAll engine app locale fault = (path : List ℕ) → is_path path ≡ true → length path ≤ path_limit
@@ -63,3 +71,10 @@ StaysOpen =
     (opened : OpenLocale) (app locale : List ℕ) (first last : Kept) (between : List Kept)
     → IsOpenLocale opened first app locale → opened.version ≡ first.version → IsReached first between last
     → is_current opened.version last.version ≡ true → IsOpenLocale opened last app locale
+
+-- nor does the number of its names change
+abbrev pub StaysCounted : Type 0
+StaysCounted =
+    (opened : OpenLocale) (app locale : List ℕ) (first last : Kept) (between : List Kept)
+    → CountsNames opened first app locale → opened.version ≡ first.version → IsReached first between last
+    → is_current opened.version last.version ≡ true → CountsNames opened last app locale

@@ -18,7 +18,7 @@ ghost use Rattle.rb_engine.specs.Change.{files_after, Removes};
 ghost use Rattle.rb_engine.specs.Place.{place_of as place_at};
 ghost use Rattle.rb_engine.specs.Steps.{takes_more, takes_more_from};
 ghost use Rattle.rb_engine.specs.Version.{is_current, next_version};
-ghost use Rattle.rb_engine.specs.OpenLocale.{IsOpenLocale, RefusesAll};
+ghost use Rattle.rb_engine.specs.OpenLocale.{CountsNames, IsOpenLocale, RefusesAll};
 ghost use Rattle.rb_engine.specs.inner.LastChanges.{AreUpTo};
 ghost use Rattle.rb_engine.specs.inner.KeptLocales.{AreKept};
 ghost use Rattle.rb_engine.specs.inner.KeptItems.{AreItemsKept};
@@ -28,6 +28,8 @@ ghost use Rattle.rb_fallback.specs.FoundNode.{IsNodeOf};
 ghost use Rattle.rb_engine.specs.LookResponse.{look_response};
 ghost use Rattle.rb_engine.specs.Start.{Loads, IsRefused, IsIndexed};
 ghost use Rattle.rb_engine.specs.declared.request.Payload.{Payload};
+
+mod bounded;
 
 use crate::app_shelves::AppShelves;
 use crate::asked::Asked;
@@ -515,6 +517,7 @@ impl Engine {
     pub fn open_locale(&self, app: &[u8], locale: &[u8]) -> Result<OpenLocale, LookFault>
         ensures opened { IfOk result
             (λ opened. IsOpenLocale opened self.now app.now locale.now) }
+        ensures names { IfOk result (λ opened. CountsNames opened self.now app.now locale.now) }
         ensures version { IfOk result (λ opened. opened.version ≡ self.now.version) }
         ensures refused { IfErr result (RefusesAll self.now app.now locale.now) }
     {

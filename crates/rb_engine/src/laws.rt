@@ -2,7 +2,7 @@ ghost use Rattle.std.specs.Prelude.{◌≡◌, ℕ, List};
 ghost use Rattle.rb_compiler.specs.Compiled.{IsCompiled};
 ghost use Rattle.rb_engine.specs.History.{AsksOne, AnswersOwn, IsIsolated};
 ghost use Rattle.rb_engine.specs.Kept.{KeepsTexts, KeepsCommonTexts, KeepsTrees};
-ghost use Rattle.rb_engine.specs.OpenLocale.{StaysOpen};
+ghost use Rattle.rb_engine.specs.OpenLocale.{StaysCounted, StaysOpen};
 
 /// Proves that applications are isolated: each is answered from its own bundles, those of ICUDATA
 /// and the explicit parents, whatever the others ask.
@@ -33,7 +33,8 @@ pub fn one_compiled()
 
 /// Proves that an open locale stays one as long as its version is current: if each call in between
 /// changes nothing or raises the version, nothing has changed.
-#[tactic(auto, using(crate::proofs::StayingOpen::stays_open))]
+#[tactic(auto, using(crate::proofs::StayingOpen::stays_open, crate::proofs::StayingOpen::stays_counted))]
 pub fn a_locale_stays_open_until_a_change()
-    ensures { StaysOpen }
+    ensures stops { StaysOpen }
+    ensures names { StaysCounted }
 {}

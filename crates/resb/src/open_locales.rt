@@ -1,20 +1,21 @@
 //! Locales that are opened once and looked up from often.
 ghost use Rattle.std.specs.Prelude.{◌≡◌, ◌≢◌, ℕ, List, IfNone, IfSome, true, false};
-ghost use Rattle.rb_engine.specs.OpenLocale.{IsOpenLocale};
+ghost use Rattle.rb_engine.specs.OpenLocale.{CountsNames, IsOpenLocale};
 ghost use Rattle.rb_engine.specs.Version.{is_current};
 ghost use Rattle.rb_handle.specs.Stored.{engine_of};
-ghost use Rattle.resb.specs.Looks.{answer_in, Describes};
+ghost use Rattle.resb.specs.Looks.{answer_in, takes_more_in, Describes};
 ghost use Rattle.resb.specs.OpenLocales.{RefusesWith};
 
 use crate::found::Found;
 use crate::held::take;
-use crate::numbers::{CLOSED, STALE, look_number};
-use rb_engine::{Engine, OpenLocale};
+use crate::numbers::{CLOSED, STALE, TOO_MANY_STEPS, look_number};
+use rb_engine::{Engine, OpenLocale, Stale, TooManySteps};
 use rb_handle::Handle;
 use std::alloc::Global;
 
 fn open_in(engine: &Engine, app: &[u8], locale: &[u8], opened: &mut OpenLocale) -> u32
     ensures opened { result ≡ 0 → IsOpenLocale opened.new engine.now app.now locale.now }
+    ensures names { result ≡ 0 → CountsNames opened.new engine.now app.now locale.now }
     ensures version { result ≡ 0 → opened.new.version ≡ engine.now.version }
     ensures refused { result ≢ 0 → RefusesWith engine.now app.now locale.now result }
     ensures unchanged { result ≢ 0 → opened.new ≡ opened.old }
@@ -41,6 +42,8 @@ pub extern "C" fn resb_open_locale(
     ensures stays { engine_of handle.new ≡ engine_of handle.old }
     ensures opened { result ≡ 0 → IfSome (engine_of handle.old)
         (λ e. IsOpenLocale opened.new e app.now locale.now) }
+    ensures names { result ≡ 0 → IfSome (engine_of handle.old)
+        (λ e. CountsNames opened.new e app.now locale.now) }
     ensures version { result ≡ 0 → IfSome (engine_of handle.old)
         (λ e. opened.new.version ≡ e.version) }
     ensures refused { result ≢ 0 → IfSome (engine_of handle.old)
@@ -101,6 +104,80 @@ pub extern "C" fn resb_look_at(
         return CLOSED;
     };
     let result = look_at(&engine, opened, path, found);
+    *handle = Handle::of(engine);
+    result
+}
+
+fn look_at_within(
+    engine: &Engine,
+    opened: &OpenLocale,
+    path: &[u8],
+    steps: u64,
+    found: &mut Found,
+) -> u32
+    ensures stale { result ≡ 8 → is_current opened.now.version engine.now.version ≡ false }
+    ensures current { result ≢ 8 → is_current opened.now.version engine.now.version ≡ true }
+    ensures within { result ≢ 8 → result ≢ 30 → (app locale : List ℕ)
+        → IsOpenLocale opened.now engine.now app locale
+        → CountsNames opened.now engine.now app locale
+        → takes_more_in engine.now steps app locale path.now ≡ false }
+    ensures more { result ≡ 30 → (app locale : List ℕ)
+        → IsOpenLocale opened.now engine.now app locale
+        → CountsNames opened.now engine.now app locale
+        → takes_more_in engine.now steps app locale path.now ≡ true }
+    ensures answer { result ≢ 8 → result ≢ 30 → (app locale : List ℕ)
+        → IsOpenLocale opened.now engine.now app locale
+        → CountsNames opened.now engine.now app locale
+        → Describes (answer_in engine.now app locale path.now) result
+        found.new.kind found.new.count found.new.number }
+    ensures unchanged { result ≢ 0 → found.new ≡ found.old }
+{
+    match engine.look_at_within(opened, path, steps) {
+        Ok(Ok(Ok(it))) => {
+            *found = Found::of(it.node);
+            0
+        }
+        Ok(Ok(Err(fault))) => look_number(fault),
+        Ok(Err(TooManySteps)) => TOO_MANY_STEPS,
+        Err(Stale) => STALE,
+    }
+}
+
+/// Looks up like `resb_look_within` from a locale that was opened before, or returns the number of
+/// `Stale` if the engine has changed since.
+#[unsafe(no_mangle)]
+pub extern "C" fn resb_look_at_within(
+    alloc: Global,
+    handle: &mut Handle,
+    opened: &OpenLocale,
+    path: &[u8],
+    steps: u64,
+    found: &mut Found,
+) -> u32
+    ensures stays { engine_of handle.new ≡ engine_of handle.old }
+    ensures stale { result ≡ 8 → IfSome (engine_of handle.old)
+        (λ e. is_current opened.now.version e.version ≡ false) }
+    ensures current { result ≢ 8 → IfSome (engine_of handle.old)
+        (λ e. is_current opened.now.version e.version ≡ true) }
+    ensures within { result ≢ 8 → result ≢ 30 → IfSome (engine_of handle.old)
+        (λ e. (app locale : List ℕ) → IsOpenLocale opened.now e app locale
+        → CountsNames opened.now e app locale
+        → takes_more_in e steps app locale path.now ≡ false) }
+    ensures more { result ≡ 30 → IfSome (engine_of handle.old) (λ e. (app locale : List ℕ)
+        → IsOpenLocale opened.now e app locale → CountsNames opened.now e app locale
+        → takes_more_in e steps app locale path.now ≡ true) }
+    ensures answer { result ≢ 8 → result ≢ 30 → IfSome (engine_of handle.old)
+        (λ e. (app locale : List ℕ) → IsOpenLocale opened.now e app locale
+        → CountsNames opened.now e app locale
+        → Describes (answer_in e app locale path.now) result
+        found.new.kind found.new.count found.new.number) }
+    ensures unchanged { result ≢ 0 → found.new ≡ found.old }
+    ensures closed { IfNone (engine_of handle.old) (result ≡ 2) }
+{
+    let Some(engine) = take(alloc, handle) else {
+        return CLOSED;
+    };
+    let result = look_at_within(&engine, opened, path, steps, found);
     *handle = Handle::of(engine);
     result
 }

@@ -345,6 +345,14 @@ extern "C" {
         path_len: usize,
         found: *mut resb_found,
     ) -> u32;
+    pub fn resb_look_at_within(
+        engine: *mut resb,
+        opened: *const resb_locale,
+        path: *const u8,
+        path_len: usize,
+        steps: u64,
+        found: *mut resb_found,
+    ) -> u32;
     pub fn resb_text(
         engine: *mut resb,
         app: *const u8,

@@ -411,6 +411,21 @@ impl Bundles {
         })
     }
 
+    /// Looks up like [`Bundles::look_at`], or returns RESB_TOO_MANY_STEPS just as
+    /// [`Bundles::look_within`] does.
+    pub fn look_at_within(
+        &self,
+        opened: &Locale,
+        path: &str,
+        steps: u64,
+    ) -> Result<Item<'_>, Error> {
+        let (at, p, pn) = (&opened.0, path.as_ptr(), path.len());
+        // SAFETY: the pointers have the lengths of what they point to.
+        self.found(|found| unsafe {
+            sys::resb_look_at_within(self.0.get(), at, p, pn, steps, found)
+        })
+    }
+
     /// Looks up a string, with U+FFFD for lone surrogates. RESB_OTHER_KIND, and the errors of
     /// [`Bundles::look`].
     pub fn text(&self, app: &str, locale: &str, path: &str) -> Result<String, Error> {

@@ -68,6 +68,10 @@ fn changes_and_counts() {
     assert_eq!(bundles.apps().unwrap(), 2);
     let opened = bundles.open_locale("shop", "de_AT").unwrap();
     assert_eq!(bundles.look_at(&opened, "low"), Ok(Item::Int(-1)));
+    // de_AT, de and root, each a step, and one more for the segment
+    let within = |steps| bundles.look_at_within(&opened, "low", steps);
+    assert_eq!(within(6), Ok(Item::Int(-1)));
+    assert_eq!(within(5), Err(error(sys::RESB_TOO_MANY_STEPS)));
     bundles
         .replace("shop", "de", Content::Text("de{greeting{\"Tag\"}}"))
         .unwrap();

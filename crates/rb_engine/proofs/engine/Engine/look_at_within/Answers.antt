@@ -1,0 +1,67 @@
+use Rattle.std.proofs.Common.{◌≡◌, ℕ, List, IfOk, OnErr, OnOk, false, true, subst}
+use Rattle.std.proofs.lemmas.Result.{on_ok_weaker, on_err_weaker, IfOk-weaker}
+use Rattle.rb_views.specs.Seen.{tree_seen}
+use Rattle.rb_packages.specs.Lent.{bundles_lent, files_in}
+use Rattle.rb_engine.specs.Answer.{answer_over}
+use Rattle.rb_engine.specs.Ask.{Looks}
+use Rattle.rb_engine.specs.Kept.{Kept, state_of}
+use Rattle.rb_engine.specs.LookResponse.{look_response}
+use Rattle.rb_engine.specs.OpenLocale.{CountsNames, IsOpenLocale}
+use Rattle.rb_engine.specs.Place.{place_of}
+use Rattle.rb_engine.specs.Steps.{takes_more}
+use Rattle.rb_engine.proofs.OpenBounded.{answered_open, open_over, takes_open}
+use Rattle.rb_engine.proofs.engine.Engine.look_at_within.Goals as goal
+
+pub returns-clause-within : goal.returns-clause-within
+returns-clause-within c =
+    let e = c.self.inside in
+    let opened = c.args.opened.now in
+    let path = c.args.path.now in
+    let steps = c.args.steps in
+    let r = c.look_over_within.result in
+    let files = files_in c.shelf_at-own.result in
+    let icu = bundles_lent c.icu_shelf-icu.result in
+    subst
+    (λ (k : Kept). (app locale : List ℕ) → IsOpenLocale opened k app locale → CountsNames opened k app locale
+    → OnOk r (takes_more steps (state_of k).start ((state_of k).lists app) (place_of app locale) path ≡ false))
+    c.self.view_is
+    (λ app locale a n. on_ok_weaker r
+    (takes_open e.packages e.parents e.versions.latest opened app locale path a files icu c.shelf_at-own.ensures c.icu_shelf-icu.ensures.bundles false steps)
+    (c.look_over_within.ensures.within a.place.name
+    (open_over e.packages e.parents e.versions.latest opened app locale path a files icu c.shelf_at-own.ensures c.icu_shelf-icu.ensures.bundles n)))
+
+pub returns-clause-more : goal.returns-clause-more
+returns-clause-more c =
+    let e = c.self.inside in
+    let opened = c.args.opened.now in
+    let path = c.args.path.now in
+    let steps = c.args.steps in
+    let r = c.look_over_within.result in
+    let files = files_in c.shelf_at-own.result in
+    let icu = bundles_lent c.icu_shelf-icu.result in
+    subst
+    (λ (k : Kept). (app locale : List ℕ) → IsOpenLocale opened k app locale → CountsNames opened k app locale
+    → OnErr r (takes_more steps (state_of k).start ((state_of k).lists app) (place_of app locale) path ≡ true))
+    c.self.view_is
+    (λ app locale a n. on_err_weaker r
+    (takes_open e.packages e.parents e.versions.latest opened app locale path a files icu c.shelf_at-own.ensures c.icu_shelf-icu.ensures.bundles true steps)
+    (c.look_over_within.ensures.more a.place.name
+    (open_over e.packages e.parents e.versions.latest opened app locale path a files icu c.shelf_at-own.ensures c.icu_shelf-icu.ensures.bundles n)))
+
+pub returns-clause-found : goal.returns-clause-found
+returns-clause-found c =
+    let e = c.self.inside in
+    let opened = c.args.opened.now in
+    let path = c.args.path.now in
+    let r = c.look_over_within.result in
+    let files = files_in c.shelf_at-own.result in
+    let icu = bundles_lent c.icu_shelf-icu.result in
+    subst
+    (λ (k : Kept). (app locale : List ℕ) → IsOpenLocale opened k app locale → CountsNames opened k app locale
+    → IfOk r (λ found. look_response tree_seen found ≡ answer_over (state_of k).start ((state_of k).lists app) (Looks app locale path)))
+    c.self.view_is
+    (λ app locale a n. IfOk-weaker r _ _
+    (λ found h. answered_open e.packages e.parents e.versions.latest opened app locale path a files icu c.shelf_at-own.ensures c.icu_shelf-icu.ensures.bundles
+    (look_response tree_seen found) h)
+    (c.look_over_within.ensures.found a.place.name
+    (open_over e.packages e.parents e.versions.latest opened app locale path a files icu c.shelf_at-own.ensures c.icu_shelf-icu.ensures.bundles n)))
