@@ -6,24 +6,6 @@ package resb
 
 static resb_bundle *new_bundle(void) { return calloc(1, sizeof(resb_bundle)); }
 
-typedef struct item {
-	uint32_t error;
-	size_t len;
-} item;
-
-// Writes an item as JSON, but no long one where `most` is less: even its length would take long.
-static item item_json(resb *handle, const char *app, size_t app_len, const char *locale, size_t locale_len, const char *path,
-                      size_t path_len, uint64_t steps, size_t most, char *out, size_t capacity) {
-	resb_found found;
-	item made = {resb_look_within(handle, app, app_len, locale, locale_len, path, path_len, steps, &found), 0};
-	if (made.error)
-		return made;
-	if (found.count > most)
-		return (item){RESB_NO_ROOM, found.count};
-	made.error = resb_item_json(handle, app, app_len, locale, locale_len, path, path_len, steps, out, capacity, &made.len);
-	return made;
-}
-
 // Ends the process without memory, as C.CBytes does.
 static resb_edit *new_edits(size_t count) {
 	resb_edit *edits = calloc(count + 1, sizeof(resb_edit));
@@ -254,25 +236,52 @@ func (b *Bundles) ItemJSON(app, locale, path string, steps uint64) ([]byte, erro
 // AppendItemJSON appends to a slice what ItemJSON returns. If that has more than most bytes, it appends nothing, and returns about how many
 // there are: a long item isn't written to measure it.
 func (b *Bundles) AppendItemJSON(to []byte, app, locale, path string, steps uint64, most int) (reply []byte, needs int, err error) {
+	return b.AppendItemWithin(to, app, locale, path, steps, most, math.MaxInt)
+}
+
+// AppendItemWithin appends like AppendItemJSON, but counts no more than some bytes to say how many there are: there may be more than it returns
+// if that is above the limit.
+func (b *Bundles) AppendItemWithin(to []byte, app, locale, path string, steps uint64, most, limit int) (reply []byte, needs int, err error) {
 	a, an := textOf(app)
 	l, ln := textOf(locale)
 	p, pn := textOf(path)
+	var length C.size_t
+	write := func(h *C.resb, most int, out *C.char, room C.size_t) C.uint32_t {
+		return C.resb_item_json_within(h, a, an, l, ln, p, pn, C.uint64_t(steps), C.uint64_t(most), out, room, &length)
+	}
+	if most > limit {
+		most = limit
+	}
 	for {
 		out, room := bytes(to[len(to):cap(to)])
-		var made C.item
 		err = b.with(func(h *C.resb) C.uint32_t {
-			made = C.item_json(h, a, an, l, ln, p, pn, C.uint64_t(steps), C.size_t(most), out, room)
-			return made.error
+			number := write(h, most, out, room)
+			if number != C.RESB_REPLY_TOO_LONG {
+				return number
+			}
+			if length = C.size_t(limit) + 1; most == limit {
+				return C.RESB_NO_ROOM
+			}
+			var found C.resb_found
+			if number = C.resb_look_within(h, a, an, l, ln, p, pn, C.uint64_t(steps), &found); number != C.RESB_OK {
+				return number
+			}
+			if found.count > C.size_t(most) {
+				length = found.count
+			} else if number = write(h, limit, out, 0); number != C.RESB_REPLY_TOO_LONG {
+				return number
+			}
+			return C.RESB_NO_ROOM
 		})
 		switch {
 		case err == nil:
-			return to[:len(to)+int(made.len)], 0, nil
-		case made.error != C.RESB_NO_ROOM:
+			return to[:len(to)+int(length)], 0, nil
+		case !errors.Is(err, Code(C.RESB_NO_ROOM)):
 			return to, 0, err
-		case made.len > C.size_t(most):
-			return to, int(made.len), nil
+		case length > C.size_t(most):
+			return to, int(length), nil
 		}
-		to = append(make([]byte, 0, len(to)+int(made.len)+1), to...) // one more for a line feed
+		to = append(make([]byte, 0, len(to)+int(length)+1), to...) // one more for a line feed
 	}
 }
 

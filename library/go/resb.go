@@ -63,6 +63,7 @@ const (
 	ErrAliasPackage   Code = C.RESB_ALIAS_PACKAGE
 	ErrTooManyAliases Code = C.RESB_TOO_MANY_ALIASES
 	ErrTooManySteps   Code = C.RESB_TOO_MANY_STEPS
+	ErrReplyTooLong   Code = C.RESB_REPLY_TOO_LONG
 )
 
 // Error returns the name of the error, such as "BadPath".
@@ -394,22 +395,6 @@ func (b *Bundles) Valid(app, locale string) (string, error) {
 		return "", err
 	}
 	return C.GoString(&origin.valid[0]), nil
-}
-
-// Entries looks up like LookWithin, and returns how many entries a table has, or 0 for another item.
-func (b *Bundles) Entries(app, locale, path string, steps uint64) (count int, err error) {
-	a, an := textOf(app)
-	l, ln := textOf(locale)
-	p, pn := textOf(path)
-	err = b.with(func(h *C.resb) C.uint32_t {
-		var found C.resb_found
-		number := C.resb_look_within(h, a, an, l, ln, p, pn, C.uint64_t(steps), &found)
-		if number == C.RESB_OK && found.kind == C.RESB_TABLE {
-			count = int(found.count)
-		}
-		return number
-	})
-	return count, err
 }
 
 // value returns what a lookup finds.

@@ -290,6 +290,15 @@ func TestAppendItemJSON(t *testing.T) {
 	if item, needs, err := b.AppendItemJSON(to, "shop", "fr", "long", 1000, 4999); string(item) != "[" || needs != 5000 || err != nil {
 		t.Errorf("%s, %d, %v", item, needs, err)
 	}
+	const keys = `{"actual":"fr","keys":["long"],"type":"table","valid":"fr"}`
+	for _, c := range []struct {
+		path               string
+		most, limit, needs int
+	}{{"long", 60, 100, 5000}, {"long", 9999, 4999, 5000}, {"", 9, 1000, len(keys)}, {"", 9, len(keys), len(keys)}, {"", 9, len(keys) - 1, len(keys)}, {"", 9, 20, 21}} {
+		if item, needs, err := b.AppendItemWithin(to, "shop", "fr", c.path, 1000, c.most, c.limit); string(item) != "[" || needs != c.needs || err != nil {
+			t.Errorf("%v: %s, %d, %v", c, item, needs, err)
+		}
+	}
 	if item, _, err := b.AppendItemJSON(to, "shop", "de", "none", 1000, 1000); string(item) != "[" || !errors.Is(err, resb.ErrMissing) {
 		t.Errorf("%s, %v", item, err)
 	}

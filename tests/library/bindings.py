@@ -104,6 +104,9 @@ class Test(unittest.TestCase):
         self.assertEqual(self.bundles.item_json("shop", "de_AT", "open"), '{"actual":"root","type":"string","valid":"de","value":"Open"}')
         self.assertEqual(self.bundles.tree_json("shop", "de_AT", "menu"), '{"close":"Zu","open":"Auf","quit":"Quit"}')
         self.assertEqual(code(self.bundles.tree_json, "shop", "de_AT", "menu", 1), "TooManySteps")
+        for call, path, length, error in ((self.bundles.item_json, "open", 61, "ReplyTooLong"), (self.bundles.tree_json, "menu", 41, "TreeTooLarge")):
+            self.assertEqual(len(call("shop", "de_AT", path, 1000, length)), length)
+            self.assertEqual(code(call, "shop", "de_AT", path, 1000, length - 1), error)
         self.assertEqual(code(self.bundles.release, "shop", {"root": None, "fr": None}), "Absent, bundle fr")
         self.assertEqual(code(self.bundles.release, "shop", {"fr": root}), "NotOpen, bundle fr")
         self.assertEqual(code(self.bundles.release, "sh op", {"fr": None}), "BadApp")

@@ -105,6 +105,11 @@ static void history(void) {
     EXPECT(resb_text(&e, S("shop"), S("de_AT"), S("greeting"), units, 8, &len) == seen && (seen || (len == 5 && units[1] == (de ? 'a' : 'e'))));
     uint32_t error = resb_item_json(&e, S("shop"), S("de_AT"), S("greeting"), 99, names, sizeof names, &len);
     EXPECT(error == RESB_MEMORY ? worked(error) == 0 : error == (seen ? seen : RESB_OK));
+    before = left;
+    error = resb_item_json_within(&e, S("shop"), S("de_AT"), S("greeting"), 99, 20, names, sizeof names, &len);
+    EXPECT(error == (seen ? seen : RESB_REPLY_TOO_LONG) && left == before);
+    error = resb_item_json(&e, S("shop"), S("de_AT"), S("greeting"), 99, names, 0, &len);
+    EXPECT(error == (seen ? seen : RESB_NO_ROOM) && left == before);
     error = resb_tree_json(&e, S("shop"), S("de_AT"), S(""), 999, names, sizeof names, &len);
     EXPECT(error == RESB_MEMORY ? worked(error) == 0 : error == (seen ? seen : RESB_OK));
     error = resb_text_utf8(&e, S("shop"), S("de_AT"), S("greeting"), names, sizeof names, &len);

@@ -1,6 +1,9 @@
 /* Writes items, trees and prepared bundles as JSON, texts and files, prepares bundles from JSON, and makes many changes together, with
  * each error for a caller with memory. Expected texts are those of docs/JSON.md and docs/SERVER.md.
  * usage: forms [quick]: leaves out what takes long under valgrind */
+#include <sys/resource.h>
+#include <time.h>
+
 #include "common.h"
 
 static const char root[] = "root{menu{open{\"Open\"} shut:alias{\"/LOCALE/menu/close\"} close{\"Close\"}} bad:alias{\"/LOCALE/none\"}}";
@@ -33,6 +36,77 @@ static void refuses(json *call, resb *e) {
     EXPECT(call(e, S("shop"), S("de"), S("menu/none"), UINT64_MAX, out, sizeof out, &len) == RESB_MISSING);
     EXPECT(call(e, S("none"), S("de"), S("menu"), UINT64_MAX, out, sizeof out, &len) == RESB_NO_BUNDLE);
     EXPECT(len == 9 && out[0] == 'x');
+}
+
+typedef uint32_t json_within(resb *, const char *, size_t, const char *, size_t, const char *, size_t, uint64_t, uint64_t, char *, size_t,
+                             size_t *);
+
+/* Expects what a call without a limit on the bytes gives, and with one that is less by a byte an error, and nothing written. */
+static void limits(json_within *call, json *whole, uint32_t error, resb *e, const char *path) {
+    static char wanted[sizeof out];
+    size_t bytes = 0;
+    EXPECT(whole(e, S("shop"), S("de"), S(path), UINT64_MAX, wanted, sizeof wanted, &bytes) == RESB_OK);
+    len = 9;
+    memset(out, 'x', sizeof out);
+    EXPECT(call(e, S("shop"), S("de"), S(path), 99, bytes - 1, out, sizeof out, &len) == error);
+    EXPECT(call(e, S("shop"), S("de"), S(path), 99, 0, out, 0, &len) == error && len == 9 && out[0] == 'x');
+    EXPECT(call(e, S("shop"), S("de"), S(path), 0, bytes, out, sizeof out, &len) == RESB_TOO_MANY_STEPS);
+    EXPECT(call(e, S("shop"), S("de"), S("a//b"), 0, 0, out, sizeof out, &len) == RESB_BAD_PATH && len == 9);
+    EXPECT(call(e, S("shop"), S("de"), S(path), 99, bytes, out, bytes - 1, &len) == RESB_NO_ROOM && len == bytes && out[0] == 'x');
+    EXPECT(call(e, S("shop"), S("de"), S(path), 99, bytes, out, bytes, &len) == RESB_OK && len == bytes && memcmp(out, wanted, bytes) == 0);
+    resb closed = RESB_CLOSED;
+    EXPECT(call(&closed, S("shop"), S("de"), S(path), 99, bytes, out, sizeof out, &len) == RESB_NOT_OPEN);
+}
+
+/* Writes a word of a file. */
+static uint8_t *word(uint8_t *at, uint32_t value) {
+    for (int i = 0; i < 4; i++)
+        *at++ = (uint8_t)(value >> 8 * i);
+    return at;
+}
+
+/* Installs a file with a table whose keys are the ends of one key of some bytes (docs/FORMAT.md), so they are far longer than the file. */
+static void shares_keys(resb *e, uint32_t count) {
+    uint32_t top = 6 + (count + 4) / 4, end = top + 1 + 2 * count;
+    static const char head[] = "\x20\0\xda\x27\x14\0\0\0\0\0\2\0ResB\1\1\0\0\0\0\0\0\0\0\0\0\0\0\0";
+    uint8_t *file = calloc(1, 32 + 4 * (size_t)end), *at = file + 32;
+    EXPECT(file != NULL && sizeof head == 32);
+    memcpy(file, head, 32);
+    at = word(word(word(word(word(word(at, 4u << 28 | top), 5), top), end), end), count);
+    memset(at, 'k', count);
+    at = word(file + 32 + 4 * (size_t)top, count);
+    for (uint32_t i = count; i-- > 0;)
+        at = word(at, 24 + i);
+    for (uint32_t i = 0; i < count; i++)
+        at = word(at, 7u << 28);
+    EXPECT(resb_install(e, S("shared"), S("de"), file, 32 + 4 * (size_t)end, false) == RESB_OK);
+    free(file);
+}
+
+static long most_memory(void) {
+    struct rusage usage;
+    EXPECT(getrusage(RUSAGE_SELF, &usage) == 0);
+    return usage.ru_maxrss;
+}
+
+/* Neither memory nor time grow with an item above a limit. */
+static void limits_items(resb *e, bool is_quick) {
+    limits(resb_item_json_within, resb_item_json, RESB_REPLY_TOO_LONG, e, "menu");
+    limits(resb_item_json_within, resb_item_json, RESB_REPLY_TOO_LONG, e, "menu/open");
+    limits(resb_item_json_within, resb_item_json, RESB_REPLY_TOO_LONG, e, "b");
+    limits(resb_tree_json_within, resb_tree_json, RESB_TREE_TOO_LARGE, e, "menu");
+    limits(resb_tree_json_within, resb_tree_json, RESB_TREE_TOO_LARGE, e, "l");
+    const uint32_t count = is_quick ? 500 : 20000;
+    shares_keys(e, count);
+    long before = most_memory();
+    clock_t begin = clock();
+    EXPECT(resb_item_json_within(e, S("shared"), S("de"), S(""), 9, 9999, out, sizeof out, &len) == RESB_REPLY_TOO_LONG);
+    EXPECT(is_quick || clock() - begin < CLOCKS_PER_SEC / 10);
+    EXPECT(resb_item_json(e, S("shared"), S("de"), S(""), 9, out, sizeof out, &len) == RESB_NO_ROOM);
+    /* keys of 1 to `count` bytes, each with quotes and a comma but the last */
+    EXPECT(len == strlen("{\"actual\":\"de\",\"keys\":[],\"type\":\"table\",\"valid\":\"de\"}") + (size_t)count * (count + 1) / 2 + 3 * (size_t)count - 1);
+    EXPECT(is_quick || most_memory() < before + 16384);
+    EXPECT(resb_remove(e, S("shared"), S("de")) == RESB_OK);
 }
 
 static void writes_items(resb *e) {
@@ -349,6 +423,7 @@ int main(int argc, char **argv) {
     EXPECT(resb_install(&e, S("shop"), S("de"), S(de), true) == RESB_OK);
     writes_items(&e);
     writes_trees(&e);
+    limits_items(&e, quick);
     if (!quick)
         limits_trees(&e);
     writes_bundles();

@@ -1,6 +1,8 @@
-ghost use Rattle.std.specs.Prelude.{◌↔◌, IsTrue, Some, length};
+ghost use Rattle.std.specs.Prelude.{◌≡◌, ◌≤◌, ◌<◌, ◌↔◌, IfNone, IfSome, IsTrue, Some, length};
+ghost use Rattle.serde_json.specs.Written.{compact_text};
 ghost use Rattle.rb_engine.specs.Answer.{Finds, Replies};
 ghost use Rattle.rb_fallback.specs.Answers.{hit_of};
+ghost use Rattle.rb_json.specs.Item.{found_data};
 ghost use Rattle.rb_replies.specs.Replied.{reply_line};
 ghost use Rattle.rb_replies.specs.Within.{IsAbove, limit_of};
 ghost use Rattle.rb_views.specs.Seen.{tree_seen};
@@ -8,7 +10,7 @@ ghost use Rattle.rb_views.specs.Seen.{tree_seen};
 use crate::reply::{put_found_line, put_reply};
 use rb_engine::Reply;
 use rb_fallback::Found;
-use rb_json::Outlet;
+use rb_json::{Outlet, put_found};
 use rb_views::Item;
 
 /// An outlet that counts down the bytes that a text may still have; `None` once the text is longer.
@@ -55,6 +57,25 @@ pub fn found_is_above(found: &Found<Item<'_>>, limit: Option<u64>) -> bool
     let mut room = Room { left: Some(most) };
     put_found_line(&mut room, found);
     room.left.is_none()
+}
+
+/// Returns the length of an item that was found as JSON, without a line feed, or `None` if it is
+/// above a limit. It takes no memory, and spells no more of the item than the limit's length.
+pub fn found_len(found: &Found<Item<'_>>, limit: u64) -> Option<u64>
+    ensures within { IfSome result (λ n. n ≤ limit) }
+    ensures len { IfSome result (λ n. n ≡ length (compact_text
+        (found_data found.now.actual found.now.valid (tree_seen found.now.node)))) }
+    ensures above { IfNone result (limit < length (compact_text
+        (found_data found.now.actual found.now.valid (tree_seen found.now.node)))) }
+{
+    let mut room = Room { left: Some(limit) };
+    put_found(
+        &mut room,
+        found.actual.as_bytes(),
+        found.valid.as_bytes(),
+        found.node,
+    );
+    limit.checked_sub(room.left?)
 }
 
 fn line_is_above(reply: &Reply, limit: Option<u64>) -> bool

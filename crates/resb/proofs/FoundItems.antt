@@ -1,5 +1,5 @@
 -- The place at which a lookup that finds an item searches, and the tree of the item there.
-use Rattle.std.proofs.Common.{◌≡◌, ℕ, Bool, true, false, List, Option, Some, None, Result, Ok, Err, refl, sym, subst}
+use Rattle.std.proofs.Common.{◌≡◌, ◌≢◌, ◌⊎◌, inl, inr, ℕ, Bool, true, false, List, Option, Some, None, Result, Ok, Err, refl, sym, subst}
 use Rattle.rb_tree.specs.Path.{IsPath, is_path, segments}
 use Rattle.rb_tree.proofs.Paths.{path_test}
 use Rattle.rb_parents.specs.Family.{parent_in}
@@ -9,12 +9,12 @@ use Rattle.rb_locales.specs.Locale.{name}
 use Rattle.rb_packages.specs.App.{app_of}
 use Rattle.rb_packages.specs.Packages.{Files, files_of, icudata_files, icudata_of, list_of, shelf_of}
 use Rattle.rb_packages.specs.Shelf.{Shelf, bundle_at}
-use Rattle.rb_engine.specs.Answer.{Start, Finds, lookup_at, lookup_from, search_response}
+use Rattle.rb_engine.specs.Answer.{Response, Replies, Refuses, Start, Finds, lookup_at, lookup_from, search_response}
 use Rattle.rb_engine.specs.Kept.{Kept, state_of}
 use Rattle.rb_engine.specs.Place.{place_of}
 use Rattle.rb_engine.specs.declared.place.Place.{Place}
 use Rattle.rb_engine.proofs.StepLemmas.{app-place_of}
-use Rattle.resb.specs.ItemTexts.{CopiesTree, CopiesTreeOf}
+use Rattle.resb.specs.ItemTexts.{CopiesItem, CopiesItemWithin, CopiesTree, CopiesTreeOf}
 
 search_found : (first : Option (List ℕ)) (answer : Result Hit LookError) (hit : Hit) (valid : List ℕ) → Finds hit valid ≡ search_response first answer
     → answer ≡ Ok hit
@@ -93,3 +93,11 @@ found_tree kept app locale path hit valid n count room copy h told =
     (λ (a : List ℕ). look_up (bundle_at (list_of a kept.packages)) (bundle_at (icudata_of kept.packages)) (parent_in kept.parents) p.name (segments path) ≡ Ok hit)
     (sym (app-place_of app locale p found.is)) found.search in
     (p, found.is, told p found.is found.good search)
+
+-- an item that isn't above the limit is copied
+pub whole_item : (limit : ℕ) (r : Response) (n count room : ℕ) (copy : List ℕ) → n ≢ 79 → CopiesItemWithin limit r n count room copy
+    → CopiesItem r n count room copy
+whole_item limit (Replies reply) n count room copy low h = h
+whole_item limit (Refuses fault) n count room copy low h = h
+whole_item limit (Finds hit valid) n count room copy low (inl (long, above)) = absurd (low long)
+whole_item limit (Finds hit valid) n count room copy low (inr (within, copied)) = copied

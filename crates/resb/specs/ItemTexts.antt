@@ -1,6 +1,6 @@
 -- Defines items as JSON in C, a rule of this project: an item that a lookup finds is `found_data` of rb_json, a tree with
 -- inheritance is that of rb_inherit.
-use Rattle.std.specs.Prelude.{◌≡◌, ◌⊎◌, ℕ, List, Ok}
+use Rattle.std.specs.Prelude.{◌≡◌, ◌⊎◌, ◌<◌, ◌≤◌, ℕ, List, Ok, length}
 use Rattle.serde_json.specs.Written.{compact_text}
 use Rattle.rb_json.specs.Item.{found_data}
 use Rattle.rb_parents.specs.Family.{parent_in}
@@ -15,6 +15,17 @@ use Rattle.rb_engine.specs.Place.{place_of}
 use Rattle.rb_engine.specs.declared.place.Place.{Place}
 use Rattle.resb.specs.Copied.{CopiesBytes}
 use Rattle.resb.specs.Looks.{IfFound}
+
+-- a text is above a limit, which is error 79, or is copied
+abbrev pub CopiesWithin : ℕ → List ℕ → ℕ → ℕ → ℕ → List ℕ → Type 0
+CopiesWithin limit text n count room copy =
+    ((n ≡ 79) × (limit < length text)) ⊎ ((length text ≤ limit) × CopiesBytes text n count room copy)
+
+-- a copy of the item that is found, unless it is above a limit
+abbrev pub CopiesItemWithin : ℕ → Response → ℕ → ℕ → ℕ → List ℕ → Type 0
+CopiesItemWithin limit response n count room copy =
+    IfFound response n (λ hit valid. CopiesWithin limit (compact_text (found_data hit.actual valid hit.tree))
+    n count room copy)
 
 -- a copy of the item that is found
 abbrev pub CopiesItem : Response → ℕ → ℕ → ℕ → List ℕ → Type 0

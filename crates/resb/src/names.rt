@@ -110,6 +110,7 @@ fn parents_name(error: u32) -> &'static Name
         76 => b"IcuParent\0\0\0\0\0\0\0\0\0",
         77 => b"IcuTarget\0\0\0\0\0\0\0\0\0",
         78 => b"IcuItems\0\0\0\0\0\0\0\0\0\0",
+        79 => b"ReplyTooLong\0\0\0\0\0\0",
         _ => UNNAMED,
     }
 }

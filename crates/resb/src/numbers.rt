@@ -55,6 +55,9 @@ pub(crate) const ICU_TARGET: u32 = 77;
 /// The tree has more items than the file has words.
 pub(crate) const ICU_ITEMS: u32 = 78;
 
+/// The item as JSON is longer than the caller allows.
+pub(crate) const REPLY_TOO_LONG: u32 = 79;
+
 /// The lookup takes more steps than the caller allows.
 pub(crate) const TOO_MANY_STEPS: u32 = 30;
 

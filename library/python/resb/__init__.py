@@ -423,17 +423,19 @@ class Bundles:
         """Looks up like `look`, or raises Error with the code "TooManySteps" if the lookup takes more than this many steps."""
         return self._found(_library.look_within, app, locale, path, steps)
 
-    def item_json(self, app: str, locale: str, path: str, steps: int = _NO_LIMIT) -> str:
-        """Looks up like `look_within`, and returns the item as the reply of `resb serve` (docs/SERVER.md)."""
-        return self._json(_library.item_json, app, locale, path, steps)
+    def item_json(self, app: str, locale: str, path: str, steps: int = _NO_LIMIT, size: int = _NO_LIMIT) -> str:
+        """Looks up like `look_within`, and returns the item as the reply of `resb serve` (docs/SERVER.md), or raises Error with the code
+        "ReplyTooLong" if it has more than `size` bytes in UTF-8."""
+        return self._json(_library.item_json, app, locale, path, steps, size)
 
-    def tree_json(self, app: str, locale: str, path: str, steps: int = _NO_LIMIT) -> str:
-        """Looks up like `look_within`, and returns the item with everything that it inherits as one JSON value."""
-        return self._json(_library.tree_json, app, locale, path, steps)
+    def tree_json(self, app: str, locale: str, path: str, steps: int = _NO_LIMIT, size: int = _NO_LIMIT) -> str:
+        """Looks up like `look_within`, and returns the item with everything that it inherits as one JSON value, or raises Error with the
+        code "TreeTooLarge" if it has more than `size` bytes in UTF-8."""
+        return self._json(_library.tree_json, app, locale, path, steps, size)
 
-    def _json(self, call: Callable[..., int], app: str, locale: str, path: str, steps: int) -> str:
+    def _json(self, call: Callable[..., int], app: str, locale: str, path: str, *limits: int) -> str:
         a, l, p = app.encode(), locale.encode(), path.encode()
-        error, json = _written(1024, lambda *out: self._ask(call, a, len(a), l, len(l), p, len(p), steps, *out))
+        error, json = _written(1024, lambda *out: self._ask(call, a, len(a), l, len(l), p, len(p), *limits, *out))
         _must(error)
         return json.decode()
 

@@ -136,8 +136,8 @@ usage = _declare(_held, "usage", _handle, *_name, _number, _number)
 apps = _declare(_held, "apps", _handle, _number)
 look = _declare(_held, "look", _handle, *_name, *_name, *_name, _found)
 look_within = _declare(_held, "look_within", _handle, *_name, *_name, *_name, ctypes.c_uint64, _found)
-item_json = _declare(_held, "item_json", _handle, *_name, *_name, *_name, ctypes.c_uint64, *_out)
-tree_json = _declare(_held, "tree_json", _handle, *_name, *_name, *_name, ctypes.c_uint64, *_out)
+item_json = _declare(_held, "item_json_within", _handle, *_name, *_name, *_name, ctypes.c_uint64, ctypes.c_uint64, *_out)
+tree_json = _declare(_held, "tree_json_within", _handle, *_name, *_name, *_name, ctypes.c_uint64, ctypes.c_uint64, *_out)
 children = _declare(_held, "children", _handle, *_name, *_name, *_name, ctypes.POINTER(Child), ctypes.c_size_t, ctypes.POINTER(ctypes.c_size_t))
 # Without declared types this function takes half as long to convert its arguments. Each must have its C type: a plain int
 # would leave half of a size_t undefined.

@@ -69,6 +69,7 @@ pub const RESB_ICU_ALIAS: u32 = 75;
 pub const RESB_ICU_PARENT: u32 = 76;
 pub const RESB_ICU_TARGET: u32 = 77;
 pub const RESB_ICU_ITEMS: u32 = 78;
+pub const RESB_REPLY_TOO_LONG: u32 = 79;
 pub const RESB_JSON_TOO_LONG: u32 = 81;
 pub const RESB_JSON_NOT_UTF8: u32 = 82;
 pub const RESB_JSON_NOT_JSON: u32 = 83;
@@ -326,6 +327,34 @@ extern "C" {
         path: *const u8,
         path_len: usize,
         steps: u64,
+        out: *mut u8,
+        capacity: usize,
+        len: *mut usize,
+    ) -> u32;
+    pub fn resb_item_json_within(
+        engine: *mut resb,
+        app: *const u8,
+        app_len: usize,
+        locale: *const u8,
+        locale_len: usize,
+        path: *const u8,
+        path_len: usize,
+        steps: u64,
+        bytes: u64,
+        out: *mut u8,
+        capacity: usize,
+        len: *mut usize,
+    ) -> u32;
+    pub fn resb_tree_json_within(
+        engine: *mut resb,
+        app: *const u8,
+        app_len: usize,
+        locale: *const u8,
+        locale_len: usize,
+        path: *const u8,
+        path_len: usize,
+        steps: u64,
+        bytes: u64,
         out: *mut u8,
         capacity: usize,
         len: *mut usize,

@@ -355,11 +355,24 @@ impl Bundles {
         path: &str,
         steps: u64,
     ) -> Result<String, Error> {
+        self.item_json_within(app, locale, path, steps, u64::MAX)
+    }
+
+    /// Writes like [`Bundles::item_json`], or returns RESB_REPLY_TOO_LONG if the item has more than
+    /// this many bytes.
+    pub fn item_json_within(
+        &self,
+        app: &str,
+        locale: &str,
+        path: &str,
+        steps: u64,
+        bytes: u64,
+    ) -> Result<String, Error> {
         let (a, an, l, ln) = (app.as_ptr(), app.len(), locale.as_ptr(), locale.len());
         let (p, pn, handle) = (path.as_ptr(), path.len(), self.0.get());
         // SAFETY: the pointers have the lengths of what they point to.
-        let json = written(256, |out, capacity, len| unsafe {
-            sys::resb_item_json(handle, a, an, l, ln, p, pn, steps, out, capacity, len)
+        let json = written(256, |out, room, len| unsafe {
+            sys::resb_item_json_within(handle, a, an, l, ln, p, pn, steps, bytes, out, room, len)
         })?;
         Ok(String::from_utf8_lossy(&json).into_owned())
     }
@@ -373,11 +386,24 @@ impl Bundles {
         path: &str,
         steps: u64,
     ) -> Result<String, Error> {
+        self.tree_json_within(app, locale, path, steps, u64::MAX)
+    }
+
+    /// Writes like [`Bundles::tree_json`], or returns RESB_TREE_TOO_LARGE if the tree has more than
+    /// this many bytes.
+    pub fn tree_json_within(
+        &self,
+        app: &str,
+        locale: &str,
+        path: &str,
+        steps: u64,
+        bytes: u64,
+    ) -> Result<String, Error> {
         let (a, an, l, ln) = (app.as_ptr(), app.len(), locale.as_ptr(), locale.len());
         let (p, pn, handle) = (path.as_ptr(), path.len(), self.0.get());
         // SAFETY: the pointers have the lengths of what they point to.
-        let json = written(1024, |out, capacity, len| unsafe {
-            sys::resb_tree_json(handle, a, an, l, ln, p, pn, steps, out, capacity, len)
+        let json = written(1024, |out, room, len| unsafe {
+            sys::resb_tree_json_within(handle, a, an, l, ln, p, pn, steps, bytes, out, room, len)
         })?;
         Ok(String::from_utf8_lossy(&json).into_owned())
     }

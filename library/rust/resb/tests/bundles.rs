@@ -235,6 +235,14 @@ fn releases_bundles() {
         bundles.item_json("shop", "de_AT", "open", 1000).unwrap(),
         "{\"actual\":\"root\",\"type\":\"string\",\"valid\":\"de\",\"value\":\"Open\"}"
     );
+    let long = bundles.item_json_within("shop", "de_AT", "open", 1000, 60);
+    assert_eq!(long, Err(error(sys::RESB_REPLY_TOO_LONG)));
+    let long = bundles.tree_json_within("shop", "de_AT", "menu", 1000, 40);
+    assert_eq!(long, Err(error(sys::RESB_TREE_TOO_LARGE)));
+    assert_eq!(
+        bundles.tree_json_within("shop", "de_AT", "menu", 1000, 41),
+        bundles.tree_json("shop", "de_AT", "menu", 1000)
+    );
     assert_eq!(
         bundles.tree_json("shop", "de_AT", "menu", 1000).unwrap(),
         "{\"close\":\"Zu\",\"open\":\"Auf\",\"quit\":\"Quit\"}"
