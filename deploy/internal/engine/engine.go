@@ -48,8 +48,7 @@ type Engine struct {
 // A shard has the bundles of the applications whose names have one of some hashes. A long change or a tree holds up changes of its shard alone.
 type shard struct {
 	pool *resb.Pool
-	long sync.RWMutex   // read by trees and long items, so that a change waits for them while short lookups continue
-	keys map[string]int // the longest key of each application, read by lookups and written by changes
+	long sync.RWMutex // read by trees and long items, so that a change waits for them while short lookups continue
 }
 
 // The number of shards, which is less if all together would have more than some bytes of ICUDATA.
@@ -100,7 +99,7 @@ func Open(o Options) (*Engine, error) {
 		case err != nil:
 			return nil, err
 		}
-		e.shards[i] = &shard{pool: pool, keys: map[string]int{}}
+		e.shards[i] = &shard{pool: pool}
 	}
 	return e, nil
 }
@@ -114,27 +113,21 @@ func (e *Engine) of(app string) *shard {
 const longItem = 64 << 10
 
 // Item appends what `resb serve` replies to a lookup (docs/SERVER.md), without its line feed, or returns the code of a refusal. If the reply has
-// more than some bytes it only returns about how many.
+// more than some bytes it only returns about how many, or how many at least.
 func (e *Engine) Item(dst []byte, app, locale, path string, most int) (reply []byte, needs int, code string) {
-	its, isLong := e.of(app), most > longItem
-	if isLong {
+	its, limit := e.of(app), int(e.options.ReplyBytes)
+	if most > longItem {
 		its.long.RLock()
 		defer its.long.RUnlock()
+	} else if limit > longItem {
+		limit = longItem // to count more would take long
 	}
-	if int64(most) > e.options.ReplyBytes {
-		most = int(e.options.ReplyBytes)
-	}
-	fits, err := true, error(nil)
+	var err error
 	its.pool.Look(func(b *resb.Bundles) {
-		if fits = its.keysFit(b, app, locale, path, e.options.Steps, most, isLong); fits {
-			reply, needs, err = b.AppendItemJSON(dst, app, locale, path, e.options.Steps, most)
-		}
+		reply, needs, err = b.AppendItemWithin(dst, app, locale, path, e.options.Steps, most, limit)
 	})
-	switch {
-	case !fits && isLong, int64(needs) > e.options.ReplyBytes:
+	if int64(needs) > e.options.ReplyBytes {
 		return dst, 0, "ReplyTooLong"
-	case !fits:
-		return dst, most + 1, ""
 	}
 	return reply, needs, codeOf(err)
 }
@@ -185,12 +178,10 @@ func (e *Engine) Release(app string, edits []Edit, done func()) {
 	}
 	// removals first, so that there is always room for what is put
 	sort.SliceStable(all, func(i, j int) bool { return all[i].Bundle == nil && all[j].Bundle != nil })
-	longest := longestOf(edits)
 	its := e.of(app)
 	its.long.Lock()
 	defer its.long.Unlock()
 	err := its.pool.Change(func(b *resb.Bundles) error {
-		defer its.note(b, app, longest)
 		for len(all) > mostEdits { // nobody looks up in the shard meanwhile
 			if err := b.Release(app, all[:mostEdits]); err != nil {
 				return err
@@ -232,7 +223,6 @@ type Bundle struct {
 	*resb.Bundle
 	compiled int64
 	isText   bool
-	longest  int    // key, of a file
 	file     []byte // of Stored
 	digest   manifest.Digest
 }
@@ -249,7 +239,6 @@ func Prepare(kind string, body []byte) (*Bundle, error) {
 		b.compiled = int64(length)
 		return b, err
 	}
-	b.longest = longestKey(body)
 	return b, nil
 }
 

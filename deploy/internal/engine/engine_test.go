@@ -80,8 +80,4 @@ func TestKeysThatShareBytes(t *testing.T) {
 		harness.ErrorIf(t, (needs > 0) == (code == "ReplyTooLong"), "%d: %d %s", most, needs, code)
 	}
 	harness.ErrorIf(t, peak() > before+200, "%d MB are %d MB", before, peak())
-	for _, locale := range []string{"fr", "de"} {
-		e.Release("shop", []Edit{{locale, nil}}, func() {})
-	}
-	harness.Equal(t, len(e.of("shop").keys), 0)
 }

@@ -79,7 +79,7 @@ func look(c *call) (err error) {
 		if err = c.Hold(int64(needs)); err == nil {
 			err = c.Work(c.Context(), func() error {
 				now = withView(c, func() { reply, _, code = c.Engine.Item(nil, c.App, localeOf(c), c.Path, mostReply) })
-				return nil
+				return holdMore(c, len(reply)-needs)
 			})
 		}
 		if err != nil {
@@ -107,6 +107,14 @@ func look(c *call) (err error) {
 		}
 	}
 	return answer(c, tag, append(reply, '\n'))
+}
+
+// holdMore counts the bytes by which a reply is longer than it was said to be.
+func holdMore(c *call, bytes int) error {
+	if bytes <= 0 {
+		return nil
+	}
+	return c.Hold(int64(bytes))
 }
 
 // actualOf returns the locale in which an item was found.
@@ -250,16 +258,18 @@ func answerLine(c *call, dst, line []byte, hasTurn bool) []byte {
 	if refusal != "" {
 		return append(dst, refusal...)
 	}
+	before := len(dst)
 	dst, needs, code := c.Engine.Item(dst, c.App, locale, path, front.Short)
 	if needs > 0 {
 		err := inTurn(c, !hasTurn, func() (err error) {
 			if err = c.Hold(3 * int64(needs)); err == nil { // here, and in the buffers of the stream
 				dst, _, code = c.Engine.Item(dst, c.App, locale, path, mostReply)
+				err = holdMore(c, 3*(len(dst)-before-needs))
 			}
 			return err
 		})
 		if err != nil {
-			code = wire.ProblemOf(err).Code
+			dst, code = dst[:before], wire.ProblemOf(err).Code
 		}
 	}
 	if code != "" {
