@@ -1,7 +1,8 @@
 -- What a look at each item of a tree counts for, child by child.
-use Rattle.std.proofs.Common.{◌≡◌, ◌∙◌, ◌<◌, ◌≤◌, ◌+◌, ℕ, List, Some, length, take, drop, get_or, ap, sym, refl, arith}
+use Rattle.std.proofs.Common.{◌≡◌, ◌∙◌, ◌<◌, ◌≤◌, ◌+◌, ℕ, List, Some, length, take, ap, sym, refl, arith}
 use Rattle.std.specs.Prelude.{slice_get, sum_by}
 use Rattle.std.specs.Map.{values_of}
+use Rattle.std.proofs.lemmas.List.{take_all}
 use Rattle.std.proofs.lemmas.List.Sums.{sum_by-cons, sum_by_more, sum_by-take-drop}
 use Rattle.std.proofs.lemmas.Option.{get_or_from_slice_get, slice_get_within}
 use Rattle.rb_tree.specs.Keys.{items, pairs}
@@ -49,9 +50,9 @@ pub left_all : (t : Resource) (i left limit : ℕ) → length (children_of t) �
     → left + cost_of t + sum_by looks (take i (children_of t)) ≡ limit → left + looks t ≡ limit
 left_all t i left limit past so =
     let whole = looks_are t in
-    let parts = sum_by-take-drop looks (children_of t) i in
-    let none : sum_by looks (drop i (children_of t)) ≡ 0 = search (rules, past) in
-    omega (arith, whole, parts, none, so)
+    let all : sum_by looks (take i (children_of t)) ≡ sum_by looks (children_of t) =
+    ap (λ (us : List Resource). sum_by looks us) (take_all i (children_of t) past) in
+    omega (arith, whole, all, so)
 
 -- a child that counts for too much
 pub too_many : (t child : Resource) (i left limit : ℕ) → Some child ≡ slice_get (children_of t) i → left < looks child

@@ -1,7 +1,8 @@
 -- A search for an open alias, child by child.
-use Rattle.std.proofs.Common.{◌≡◌, ◌<◌, ◌≤◌, ◌+◌, ◌⊎◌, inl, inr, ℕ, List, [], ◌∷◌, Some, length, take, sym, subst, arith}
+use Rattle.std.proofs.Common.{◌≡◌, ◌∙◌, ◌<◌, ◌≤◌, ◌+◌, ◌⊎◌, inl, inr, ℕ, List, [], ◌∷◌, Some, length, take, sym, subst, arith}
 use Rattle.std.specs.Prelude.{slice_get, sum_by}
 use Rattle.std.proofs.lemmas.Option.{slice_get_within}
+use borrow.Author.Count.{below_more}
 use Rattle.rb_tree.specs.Parts.{children_of}
 use Rattle.rb_tree.specs.Resource.{Resource}
 use Rattle.resb.specs.Icu.{HasOpenAlias, IsClosed, IsOpenAlias, cost_of, looks}
@@ -20,6 +21,12 @@ all_closed t i past all here [] part p ends = here (subst IsOpenAlias p ends)
 all_closed t i past all here (k ∷ is) part p ends =
     let within : k < length (children_of t) = slice_get_within (children_of t) k p.0 (sym p.1) in
     all k p.0 (omega arith) p.1 is part p.2 ends
+
+-- one child more has none
+pub closed_more : (t child : Resource) (i : ℕ) → Some child ≡ slice_get (children_of t) i → IsClosed child → AreClosed t i → AreClosed t (i + 1)
+closed_more t child i e here before k u low is =
+    below_more (λ (j : ℕ). (v : Resource) → Some v ≡ slice_get (children_of t) j → IsClosed v) i (λ j less v at. before j v less at)
+    (λ v at. let both = e ∙ sym at in let same : child ≡ v = cc in subst IsClosed same here) k low u is
 
 open_below : (t child : Resource) (i : ℕ) → Some child ≡ slice_get (children_of t) i → HasOpenAlias child → HasOpenAlias t
 open_below t child i e h = record { path = i ∷ h.path; part = h.part; there = (child, e, h.there); ends = h.ends }

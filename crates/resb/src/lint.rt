@@ -1,5 +1,6 @@
 //! Why a text isn't compiled, and what is doubtful in it.
-ghost use Rattle.std.specs.Prelude.{◌≡◌, ◌≢◌, ◌⊎◌, ◌+◌, ◌<◌, ◌≤◌, ◌↔◌, IfOk, drop, length, take, vec_len};
+ghost use Rattle.std.specs.Prelude.{◌≡◌, ◌≢◌, ◌+◌, ◌<◌, ◌≤◌, ◌↔◌, IfOk, drop, length, take};
+ghost use Rattle.std.specs.Prelude.{vec_len};
 ghost use Rattle.std.specs.List.{AllZip};
 ghost use Rattle.rb_lint.specs.Warnings.{AreInOrder, AreWithin, HasNoError, IsCompiled};
 ghost use Rattle.rb_lint.specs.Warnings.{line_count};
@@ -112,7 +113,7 @@ fn report_of(alloc: Global, text: &[u8], name: &[u8], limit: usize) -> Result<Re
     find_all(alloc, text, &settings)
 }
 
-/// Returns the findings of a text, of which warnings up to a limit, and the number of those past it.
+/// Returns the findings of a text, with warnings up to a limit, and the number of those past it.
 fn findings_of(
     alloc: Global,
     text: &[u8],
@@ -127,7 +128,7 @@ fn findings_of(
     Ok((findings, report.left_out))
 }
 
-/// Finds what `resb lint` reports of a text, which should have a name unless that is empty: its error
+/// Finds what `resb lint` reports of a text, which should have a name unless it is empty: its error
 /// and the first warnings, in the order of the text, as far as there is room. Writes the number of
 /// warnings that are left out to `more`.
 #[unsafe(no_mangle)]
