@@ -4,8 +4,8 @@ use Rattle.rb_requests.specs.ExtendedReply.{ExtendedWithin}
 use Rattle.rb_requests.specs.Served.{AfterFaultWithin, at}
 use Rattle.rb_requests.specs.Within.{longest_read}
 use Rattle.rb_requests.specs.declared.limits.Limits.{Limits}
-use Rattle.rb_tool.specs.inner.Limits.{most_lines}
-use Rattle.rb_tool.proofs.server.Server.serve_extended.Goals as goal
+use Rattle.rb_serving.specs.inner.Limits.{most_lines}
+use Rattle.rb_serving.proofs.server.Server.serve_extended.Goals as goal
 
 pub returns-clause-fault : goal.returns-clause-fault
 returns-clause-fault g c =

@@ -1,8 +1,5 @@
--- Defines where explicit parents come from, and what serving under limits is: those that the options give, or none.
-use Rattle.std.specs.Prelude.{◌≡◌, ℕ, List, [], Bool, false, Option, Some, None, option_map, unwrap_or, if◌then◌else◌}
-use Rattle.std.specs.Borrow.{Bor}
-use Rattle.rb_console.specs.declared.parents.ParentsSource.{ParentsSource}
-use Rattle.rb_console.specs.declared.parents.ParentsSource.TheVariants.{File, Cldr}
+-- Defines what serving under limits is: those that the options give, or none.
+use Rattle.std.specs.Prelude.{◌≡◌, ℕ, [], false, Option, Some, None, unwrap_or}
 use Rattle.rb_arguments.specs.Limits.{AreGiven}
 use Rattle.rb_arguments.specs.declared.asking.AskedLimits.{AskedLimits}
 use Rattle.rb_engine.specs.History.{State}
@@ -11,11 +8,7 @@ use Rattle.rb_requests.specs.Served.{Moment, at, AnswersAll, AnswersWithin, Afte
 use Rattle.rb_requests.specs.Within.{LineReplyWithin, longest_read}
 use Rattle.rb_requests.specs.declared.limits.Limits.{Limits}
 use Rattle.rb_requests.specs.declared.lines.ServeFault.{ServeFault}
-use Rattle.rb_tool.specs.inner.Limits.{most_lines}
-
--- ---- the explicit parents that a command line asks for: CLDR's, or those of a file
-abbrev pub parents_source : Option (Bor (List ℕ)) → Bool → Option ParentsSource
-parents_source file is_cldr = if is_cldr then Some Cldr else option_map File file
+use Rattle.rb_serving.specs.inner.Limits.{most_lines}
 
 -- ---- the limits that a command line asks for
 pub record IsLimits (asked : AskedLimits) (limits : Limits) : Type 0 where

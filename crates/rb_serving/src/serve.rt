@@ -2,20 +2,23 @@
 ghost use Rattle.std.specs.Prelude.{◌≡◌, IfOk};
 ghost use Rattle.rb_engine.specs.Kept.{state_of};
 ghost use Rattle.rb_console.specs.Starting.{HasParentsFor};
+ghost use Rattle.rb_serving.specs.inner.Serving.{AreLimits};
 
 use crate::batching_writer::{BatchingWriter, LookaheadFeed};
 use crate::server::Server;
 use crate::start::start_engine;
+use rb_arguments::{Asked, AskedLimits};
 use rb_console::{Console, EscapingWriter, ParentsSource, StartError, not_started_on};
 use rb_engine::Engine;
 use rb_requests::{Limits, ServeFault, WriteSink};
+use rb_running::{Commands, lacking, source_of};
 use std::alloc::Global;
 use std::cell::Cell;
 use std::io;
 use std::io::{BufReader, BufWriter, Write};
 use std::process::ExitCode;
 use std::random::RandomSource;
-use std::rt::Files;
+use std::rt::{Clock, Env, Files};
 
 /// Flushes the replies that are still buffered when serving ends early. If that fails, the error
 /// is `Write`.
@@ -87,14 +90,32 @@ const KEPT_HINTS: usize = 262_144;
 
 /// The arguments of `resb serve`.
 #[derive(Drop)]
-pub struct Serving<'a> {
+struct ServeWords<'a> {
     /// The place of explicit parents, if they are given.
     pub parents: Option<ParentsSource<'a>>,
     /// The bundles of ICUDATA, each `LOCALE=FILE`.
     pub bundles: Vec<&'a str>,
-    pub limits: Option<Limits>,
+    pub limits: AskedLimits,
     /// True if extended requests are answered, too.
     pub is_extended: bool,
+}
+
+/// Returns the limits that the options give, or `None` if there are none.
+fn limits_of(asked: AskedLimits) -> Option<Limits>
+    ensures { AreLimits asked result }
+{
+    if asked == AskedLimits::none() {
+        return None;
+    }
+    Some(Limits {
+        bundle_bytes: asked.bundle_bytes,
+        app_bytes: asked.app_bytes,
+        apps: asked.apps,
+        steps: asked.steps,
+        line_bytes: asked.line_bytes,
+        reply_bytes: asked.reply_bytes,
+        keep_serving: asked.keep_serving,
+    })
 }
 
 /// Makes room for what an engine keeps to save time. Without memory for it lookups are slower and
@@ -110,9 +131,9 @@ fn make_room(alloc: Global, engine: &mut Engine)
 /// Starts the server.
 fn start_server<'a, R: Files + RandomSource + AllocGlobal>(
     rt: &R,
-    serving: &Serving<'a>,
+    serving: &ServeWords<'a>,
 ) -> Result<Server, StartError<'a>>
-    ensures limits { IfOk result (λ server. server.limits ≡ serving.now.limits) }
+    ensures limits { IfOk result (λ server. AreLimits serving.now.limits server.limits) }
     ensures parents { IfOk result
         (λ server. HasParentsFor serving.now.parents (state_of server.engine).start.parents) }
 {
@@ -120,7 +141,7 @@ fn start_server<'a, R: Files + RandomSource + AllocGlobal>(
     make_room(rt.alloc(), &mut engine);
     Ok(Server {
         engine,
-        limits: serving.limits,
+        limits: limits_of(serving.limits),
     })
 }
 
@@ -134,13 +155,43 @@ fn start_server<'a, R: Files + RandomSource + AllocGlobal>(
 /// line on standard error. All arguments are split before a file is read, and the parents are
 /// judged before another file is read. With limits, requests for an application's usage are also
 /// answered.
-pub fn serve_files<R: Files + RandomSource + Input + Print + Eprint + AllocGlobal>(
+fn serve_files<R: Files + RandomSource + Input + Print + Eprint + AllocGlobal>(
     rt: &R,
     console: Console,
-    serving: &Serving<'_>,
+    serving: &ServeWords<'_>,
 ) -> ExitCode {
     match start_server(rt, serving) {
         Ok(mut server) => serve_lines(rt, console, &mut server, serving.is_extended),
         Err(error) => not_started_on(rt, console, error),
+    }
+}
+
+/// The command `serve`.
+pub struct Serving;
+
+impl Commands for Serving {
+    fn run<R>(&self, rt: &R, console: Console, asked: Asked<'_>) -> ExitCode
+    where
+        R: Files + RandomSource + Clock + AllocGlobal + Input + Print + Eprint + Env + Clone + Drop,
+    {
+        match asked {
+            Asked::Serve {
+                parents,
+                is_cldr,
+                bundles,
+                limits,
+                is_extended,
+            } => {
+                let parents = source_of(parents, is_cldr);
+                let words = ServeWords {
+                    parents,
+                    bundles,
+                    limits,
+                    is_extended,
+                };
+                serve_files(rt, console, &words)
+            }
+            _ => lacking(rt),
+        }
     }
 }

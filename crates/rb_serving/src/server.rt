@@ -7,8 +7,8 @@ ghost use Rattle.rb_requests.specs.Served.{at};
 ghost use Rattle.rb_requests.specs.Served.{reads_failed, writes_failed};
 ghost use Rattle.rb_requests.specs.ExtendedReply.{ExtendedWithin};
 ghost use Rattle.rb_requests.specs.Within.{LineReplyWithin, longest_read};
-ghost use Rattle.rb_tool.specs.inner.Limits.{most_lines};
-ghost use Rattle.rb_tool.specs.inner.Serving.{AfterFaultUnder, AnswersUnder, limits_of};
+ghost use Rattle.rb_serving.specs.inner.Limits.{most_lines};
+ghost use Rattle.rb_serving.specs.inner.Serving.{AfterFaultUnder, AnswersUnder, limits_of};
 
 use rb_requests::{
     Engine, Feed, Limits, ServeFault, Served, Sink, serve, serve_extended, serve_limited,
