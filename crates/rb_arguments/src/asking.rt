@@ -1,5 +1,4 @@
 ghost use Rattle.std.specs.Prelude.{◌≡◌, ◌++◌, [], IfOk, IfSome, OnOk, is_some, option_map, codes};
-ghost use Rattle.std.specs.Prelude.{true};
 ghost use Rattle.std.specs.List.{list_any};
 ghost use Rattle.std.specs.Option.{option_or};
 ghost use Rattle.std.specs.Str.{bytes_eq};
@@ -7,169 +6,50 @@ ghost use Rattle.clap.specs.Walk.{texts};
 ghost use Rattle.clap.specs.Words.{first_of, found_of, rows_of, subcommand_rows_of};
 ghost use Rattle.rb_arguments.specs.Rows.{IsFlagIn, IsNumberIn, alone, word_in, words_in};
 ghost use Rattle.rb_arguments.specs.Limits.{AreGiven};
-ghost use Rattle.rb_arguments.specs.Asking.{AsksFor, EntersFor, enters_command};
+ghost use Rattle.rb_arguments.specs.Asking.{AreParentsIn, AsksFor, EntersFor, IsCompilingIn};
+ghost use Rattle.rb_arguments.specs.Asking.{IsConfigIn, enters_command};
 ghost use Rattle.rb_arguments.specs.Asking.{file_names, gathered, is_command, other_names};
 
 use clap::ArgMatches;
+use rb_asked::{
+    AskedCheck, AskedCompile, AskedCompileAll, AskedCoverage, AskedDiff, AskedFormat, AskedGet,
+    AskedInherited, AskedJson, AskedLines, AskedLint, AskedLookup, AskedText, Compiling,
+    Configured, ParentsSource,
+};
 use std::alloc::{AllocError, Global};
 
 /// A command with its arguments.
-#[derive(Drop)]
+#[derive(Debug, Drop)]
 pub enum Asked<'a> {
-    /// `compile IN OUT`
-    Compile {
-        input: &'a str,
-        output: &'a str,
-        is_forced: bool,
-        is_quiet: bool,
-    },
-    /// `compile --to DIR TEXT..`
-    CompileAll {
-        folder: &'a str,
-        from: Option<&'a str>,
-        texts: Vec<&'a str>,
-        is_forced: bool,
-        is_quiet: bool,
-    },
-    /// `compile --json [--no-fallback] IN OUT`
-    CompileJson {
-        input: &'a str,
-        output: &'a str,
-        no_fallback: bool,
-        is_forced: bool,
-        is_quiet: bool,
-    },
-    /// `compile --json [--no-fallback] --to DIR JSON..`
-    CompileAllJson {
-        folder: &'a str,
-        from: Option<&'a str>,
-        texts: Vec<&'a str>,
-        no_fallback: bool,
-        is_forced: bool,
-        is_quiet: bool,
-    },
-    /// `check FILE..`
-    Check {
-        files: Vec<&'a str>,
-        is_json: bool,
-        is_quiet: bool,
-    },
-    /// `get FILE PATH`
-    Get {
-        file: &'a str,
-        path: &'a str,
-        is_raw: bool,
-    },
-    /// `json FILE [PATH]`
-    Json {
-        file: &'a str,
-        path: &'a str,
-        is_pretty: bool,
-    },
-    /// `json --inherit LOCALE [LOCALE=]FILE..`
+    Compile(AskedCompile<'a>),
+    CompileAll(AskedCompileAll<'a>),
+    Check(AskedCheck<'a>),
+    Get(AskedGet<'a>),
+    Json(AskedJson<'a>),
     Inherited(AskedInherited<'a>),
-    /// `text FILE`
-    Text {
-        file: &'a str,
-        name: Option<&'a str>,
-    },
-    /// `diff OLD NEW`
-    Diff {
-        old: &'a str,
-        new: &'a str,
-        is_json: bool,
-        is_stat: bool,
-        config: Option<&'a str>,
-        no_config: bool,
-    },
-    /// `lint TEXT..`
+    Text(AskedText<'a>),
+    Diff(AskedDiff<'a>),
     Lint(AskedLint<'a>),
-    /// `fmt TEXT..`
     Format(AskedFormat<'a>),
-    /// `coverage [LOCALE=]TEXT..`
     Coverage(AskedCoverage<'a>),
     /// `init [FOLDER]`
-    Init {
-        folder: Option<&'a str>,
-    },
+    Init { folder: Option<&'a str> },
     /// `explain [WORD]`
-    Explain {
-        word: Option<&'a str>,
-    },
-    /// `lines APP [LOCALE=]FILE..`
-    Lines {
-        op: Option<&'a str>,
-        is_json: bool,
-        app: &'a str,
-        files: Vec<&'a str>,
-    },
-    /// `look LOCALE PATH [LOCALE=]FILE..`
+    Explain { word: Option<&'a str> },
+    Lines(AskedLines<'a>),
     Look(AskedLookup<'a>),
-    /// `serve [LOCALE=FILE ..]`
-    Serve {
-        parents: Option<&'a str>,
-        is_cldr: bool,
-        bundles: Vec<&'a str>,
-        limits: AskedLimits,
-        is_extended: bool,
-    },
+    Serve(AskedServe<'a>),
 }
 
+/// `serve [LOCALE=FILE ..]`
 #[derive(Debug, Drop)]
-pub struct AskedInherited<'a> {
-    pub parents: Option<&'a str>,
-    pub is_cldr: bool,
-    pub locale: &'a str,
-    pub path: &'a str,
-    pub is_pretty: bool,
-    pub files: Vec<&'a str>,
-}
-
-#[derive(Debug, Drop)]
-pub struct AskedLint<'a> {
-    /// The root's text: that of `--against`, or that of `--root`.
-    pub root: Option<&'a str>,
-    pub name: Option<&'a str>,
-    pub allow: Vec<&'a str>,
-    pub deny: Vec<&'a str>,
-    pub format: Option<&'a str>,
-    pub color: Option<&'a str>,
-    pub is_strict: bool,
-    pub is_all: bool,
-    pub config: Option<&'a str>,
-    pub no_config: bool,
-    pub is_list: bool,
-    pub texts: Vec<&'a str>,
-}
-
-#[derive(Debug, Drop)]
-pub struct AskedFormat<'a> {
-    pub is_check: bool,
-    pub is_diff: bool,
-    pub is_quiet: bool,
-    pub config: Option<&'a str>,
-    pub no_config: bool,
-    pub texts: Vec<&'a str>,
-}
-
-#[derive(Debug, Drop)]
-pub struct AskedCoverage<'a> {
-    pub parents: Option<&'a str>,
-    pub is_cldr: bool,
-    pub format: Option<&'a str>,
-    pub config: Option<&'a str>,
-    pub no_config: bool,
-    pub texts: Vec<&'a str>,
-}
-
-#[derive(Debug, Drop)]
-pub struct AskedLookup<'a> {
-    pub parents: Option<&'a str>,
-    pub is_cldr: bool,
-    pub locale: &'a str,
-    pub path: &'a str,
-    pub is_traced: bool,
-    pub files: Vec<&'a str>,
+pub struct AskedServe<'a> {
+    pub parents: Option<ParentsSource<'a>>,
+    /// The bundles of ICUDATA, each `LOCALE=FILE`.
+    pub bundles: Vec<&'a str>,
+    pub limits: AskedLimits,
+    /// True if extended requests are answered, too.
+    pub is_extended: bool,
 }
 
 /// The limits of `serve`, by the options of the same names, and whether it keeps running after
@@ -271,86 +151,86 @@ fn files_of<'a>(alloc: Global, given: &ArgMatches<'a>) -> Result<Vec<&'a str>, A
     Ok(files)
 }
 
+/// Returns the place of explicit parents. clap refuses both options at once.
+fn parents_of<'a>(given: &ArgMatches<'a>) -> Option<ParentsSource<'a>>
+    ensures { AreParentsIn (rows_of (found_of given.now)) result }
+{
+    if flag_of(given, "cldr-parents") {
+        return Some(ParentsSource::Cldr);
+    }
+    match optional_of(given, "parents") {
+        Some(file) => Some(ParentsSource::File(file)),
+        None => None,
+    }
+}
+
+fn config_of<'a>(given: &ArgMatches<'a>) -> Configured<'a>
+    ensures { IsConfigIn (rows_of (found_of given.now)) result }
+{
+    Configured {
+        file: optional_of(given, "config"),
+        is_none: flag_of(given, "no-config"),
+    }
+}
+
 fn json_asked<'a>(alloc: Global, given: &ArgMatches<'a>) -> Result<Asked<'a>, AllocError>
     ensures { IfOk result (AsksFor (codes "json") (rows_of (found_of given.now))) }
 {
     let is_pretty = flag_of(given, "pretty");
     Ok(match optional_of(given, "inherit") {
         Some(locale) => Asked::Inherited(AskedInherited {
-            parents: optional_of(given, "parents"),
-            is_cldr: flag_of(given, "cldr-parents"),
+            parents: parents_of(given),
             locale,
             path: word_of(given, "path"),
             is_pretty,
             files: files_of(alloc, given)?,
         }),
-        None => Asked::Json {
+        None => Asked::Json(AskedJson {
             file: word_of(given, "FILE"),
             path: word_of(given, "PATH"),
             is_pretty,
-        },
+        }),
     })
 }
 
-fn compile_json_asked<'a>(alloc: Global, given: &ArgMatches<'a>) -> Result<Asked<'a>, AllocError>
-    requires { IsFlagIn (rows_of (found_of given.now)) (codes "json") true }
-    ensures { IfOk result (AsksFor (codes "compile") (rows_of (found_of given.now))) }
+fn compiling_of(given: &ArgMatches<'_>) -> Compiling
+    ensures { IsCompilingIn (rows_of (found_of given.now)) result }
 {
-    let is_quiet = flag_of(given, "quiet");
-    let no_fallback = flag_of(given, "no-fallback");
-    let is_forced = flag_of(given, "force");
-    Ok(match optional_of(given, "to") {
-        Some(folder) => Asked::CompileAllJson {
-            folder,
-            from: optional_of(given, "from"),
-            texts: texts_of(alloc, given)?,
-            no_fallback,
-            is_forced,
-            is_quiet,
-        },
-        None => Asked::CompileJson {
-            input: word_of(given, "IN"),
-            output: word_of(given, "OUT"),
-            no_fallback,
-            is_forced,
-            is_quiet,
-        },
-    })
+    Compiling {
+        is_json: flag_of(given, "json"),
+        no_fallback: flag_of(given, "no-fallback"),
+        is_forced: flag_of(given, "force"),
+        is_quiet: flag_of(given, "quiet"),
+    }
 }
 
 fn compile_asked<'a>(alloc: Global, given: &ArgMatches<'a>) -> Result<Asked<'a>, AllocError>
     ensures { IfOk result (AsksFor (codes "compile") (rows_of (found_of given.now))) }
 {
-    if flag_of(given, "json") {
-        return compile_json_asked(alloc, given);
-    }
-    let is_quiet = flag_of(given, "quiet");
-    let is_forced = flag_of(given, "force");
+    let how = compiling_of(given);
     Ok(match optional_of(given, "to") {
-        Some(folder) => Asked::CompileAll {
+        Some(folder) => Asked::CompileAll(AskedCompileAll {
             folder,
             from: optional_of(given, "from"),
             texts: texts_of(alloc, given)?,
-            is_forced,
-            is_quiet,
-        },
-        None => Asked::Compile {
+            how,
+        }),
+        None => Asked::Compile(AskedCompile {
             input: word_of(given, "IN"),
             output: word_of(given, "OUT"),
-            is_forced,
-            is_quiet,
-        },
+            how,
+        }),
     })
 }
 
 fn check_asked<'a>(alloc: Global, given: &ArgMatches<'a>) -> Result<Asked<'a>, AllocError>
     ensures { IfOk result (AsksFor (codes "check") (rows_of (found_of given.now))) }
 {
-    Ok(Asked::Check {
+    Ok(Asked::Check(AskedCheck {
         files: words_of(alloc, given, "FILE")?,
         is_json: flag_of(given, "json"),
         is_quiet: flag_of(given, "quiet"),
-    })
+    }))
 }
 
 /// Returns the root's text of `lint`: that of `--against`, or that of `--root`.
@@ -377,8 +257,7 @@ fn lint_asked<'a>(alloc: Global, given: &ArgMatches<'a>) -> Result<Asked<'a>, Al
         color: optional_of(given, "color"),
         is_strict: flag_of(given, "strict"),
         is_all: flag_of(given, "all"),
-        config: optional_of(given, "config"),
-        no_config: flag_of(given, "no-config"),
+        config: config_of(given),
         is_list: flag_of(given, "list"),
         texts: words_of(alloc, given, "TEXT")?,
     }))
@@ -391,8 +270,7 @@ fn format_asked<'a>(alloc: Global, given: &ArgMatches<'a>) -> Result<Asked<'a>, 
         is_check: flag_of(given, "check"),
         is_diff: flag_of(given, "diff"),
         is_quiet: flag_of(given, "quiet"),
-        config: optional_of(given, "config"),
-        no_config: flag_of(given, "no-config"),
+        config: config_of(given),
         texts: words_of(alloc, given, "TEXT")?,
     }))
 }
@@ -401,11 +279,9 @@ fn coverage_asked<'a>(alloc: Global, given: &ArgMatches<'a>) -> Result<Asked<'a>
     ensures { IfOk result (AsksFor (codes "coverage") (rows_of (found_of given.now))) }
 {
     Ok(Asked::Coverage(AskedCoverage {
-        parents: optional_of(given, "parents"),
-        is_cldr: flag_of(given, "cldr-parents"),
+        parents: parents_of(given),
         format: optional_of(given, "format"),
-        config: optional_of(given, "config"),
-        no_config: flag_of(given, "no-config"),
+        config: config_of(given),
         texts: words_of(alloc, given, "TEXT")?,
     }))
 }
@@ -414,8 +290,7 @@ fn look_asked<'a>(alloc: Global, given: &ArgMatches<'a>) -> Result<Asked<'a>, Al
     ensures { IfOk result (AsksFor (codes "look") (rows_of (found_of given.now))) }
 {
     Ok(Asked::Look(AskedLookup {
-        parents: optional_of(given, "parents"),
-        is_cldr: flag_of(given, "cldr-parents"),
+        parents: parents_of(given),
         locale: word_of(given, "LOCALE"),
         path: word_of(given, "PATH"),
         is_traced: flag_of(given, "trace"),
@@ -441,61 +316,54 @@ fn limits_asked(given: &ArgMatches<'_>) -> AskedLimits
 fn serve_asked<'a>(alloc: Global, given: &ArgMatches<'a>) -> Result<Asked<'a>, AllocError>
     ensures { IfOk result (AsksFor (codes "serve") (rows_of (found_of given.now))) }
 {
-    let bundles = words_of(alloc, given, "bundles")?;
-    let parents = optional_of(given, "parents");
-    let is_cldr = flag_of(given, "cldr-parents");
-    let limits = limits_asked(given);
-    let is_extended = flag_of(given, "extended");
-    Ok(Asked::Serve {
-        parents,
-        is_cldr,
-        bundles,
-        limits,
-        is_extended,
-    })
+    Ok(Asked::Serve(AskedServe {
+        parents: parents_of(given),
+        bundles: words_of(alloc, given, "bundles")?,
+        limits: limits_asked(given),
+        is_extended: flag_of(given, "extended"),
+    }))
 }
 
 fn get_asked<'a>(given: &ArgMatches<'a>) -> Asked<'a>
     ensures { AsksFor (codes "get") (rows_of (found_of given.now)) result }
 {
-    Asked::Get {
+    Asked::Get(AskedGet {
         file: word_of(given, "FILE"),
         path: word_of(given, "PATH"),
         is_raw: flag_of(given, "raw"),
-    }
+    })
 }
 
 fn text_asked<'a>(given: &ArgMatches<'a>) -> Asked<'a>
     ensures { AsksFor (codes "text") (rows_of (found_of given.now)) result }
 {
-    Asked::Text {
+    Asked::Text(AskedText {
         file: word_of(given, "FILE"),
         name: optional_of(given, "name"),
-    }
+    })
 }
 
 fn diff_asked<'a>(given: &ArgMatches<'a>) -> Asked<'a>
     ensures { AsksFor (codes "diff") (rows_of (found_of given.now)) result }
 {
-    Asked::Diff {
+    Asked::Diff(AskedDiff {
         old: word_of(given, "OLD"),
         new: word_of(given, "NEW"),
         is_json: flag_of(given, "json"),
         is_stat: flag_of(given, "stat"),
-        config: optional_of(given, "config"),
-        no_config: flag_of(given, "no-config"),
-    }
+        config: config_of(given),
+    })
 }
 
 fn lines_asked<'a>(alloc: Global, given: &ArgMatches<'a>) -> Result<Asked<'a>, AllocError>
     ensures { IfOk result (AsksFor (codes "lines") (rows_of (found_of given.now))) }
 {
-    Ok(Asked::Lines {
+    Ok(Asked::Lines(AskedLines {
         op: optional_of(given, "op"),
         is_json: flag_of(given, "json"),
         app: word_of(given, "APP"),
         files: words_of(alloc, given, "FILE")?,
-    })
+    }))
 }
 
 /// Returns what a command for single files asks for, or None if there is no such command.

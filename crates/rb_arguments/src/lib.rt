@@ -11,8 +11,5 @@ mod file_commands;
 mod serving;
 mod text_commands;
 
-pub use asking::{
-    Asked, AskedCoverage, AskedFormat, AskedInherited, AskedLimits, AskedLint, AskedLookup,
-    asked_by,
-};
+pub use asking::{Asked, AskedLimits, AskedServe, asked_by};
 pub use command_line::commands_for;

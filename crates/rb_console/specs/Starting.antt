@@ -5,8 +5,8 @@ use Rattle.rb_parser.specs.Source.{IsGoodSource}
 use Rattle.rb_parents.specs.Trail.{ParentsOf}
 use Rattle.rb_parents.specs.Explicit.{GivesParents}
 use Rattle.rb_console.specs.declared.cldr.TheConstants.{CLDR_PARENTS}
-use Rattle.rb_console.specs.declared.parents.ParentsSource.{ParentsSource}
-use Rattle.rb_console.specs.declared.parents.ParentsSource.TheVariants.{File, Cldr}
+use Rattle.rb_asked.specs.declared.shared.ParentsSource.{ParentsSource}
+use Rattle.rb_asked.specs.declared.shared.ParentsSource.TheVariants.{File, Cldr}
 
 -- the explicit parents of a bundle text
 pub record AreParentsIn (text : List ℕ) (parents : ParentsOf) : Type 0 where

@@ -32,6 +32,19 @@ impl Console {
         }
     }
 
+    /// Returns this console, where no line is printed on success if that is asked for.
+    pub fn quieted(self, is_quiet: bool) -> Console
+        ensures quiet { result.is_quiet ≡ is_quiet }
+        ensures terminal { result.is_terminal ≡ self.is_terminal }
+        ensures output { result.is_output_terminal ≡ self.is_output_terminal }
+    {
+        Console {
+            is_quiet,
+            is_terminal: self.is_terminal,
+            is_output_terminal: self.is_output_terminal,
+        }
+    }
+
     /// Returns a name or an argument as it is printed to standard error.
     pub fn on_stderr(self, text: &str) -> ShownName<'_>
         ensures escaped { result.is_escaped ≡ self.is_terminal }

@@ -31,7 +31,7 @@ pub use many::{each, failed};
 pub use output::{
     Decision, Output, Wanted, are_same_file, id_of, output_of, resolved, write_output,
 };
-pub use parents::{ParentsSource, bytes_of, parents_of};
+pub use parents::{bytes_of, parents_of};
 pub use printing::{Escapes, EscapingWriter, Printing, print_bytes};
 pub use reading::{accepted, read_input_at_most, read_text};
 pub use replacing::replace_text;

@@ -2,11 +2,12 @@
 ghost use Rattle.std.specs.Prelude.{IfOk, Some};
 ghost use Rattle.rb_parents.specs.Family.{parent_of};
 ghost use Rattle.rb_console.specs.Starting.{AreParentsFor, AreParentsIn};
-ghost use Rattle.rb_console.specs.declared.parents.ParentsSource.TheVariants as source;
+ghost use Rattle.rb_asked.specs.declared.shared.ParentsSource.TheVariants as source;
 
 use crate::cldr::CLDR_PARENTS;
 use crate::error::StartError;
 use crate::files::read_file;
+use rb_asked::ParentsSource;
 use rb_lexer::SourceKind;
 use rb_parents::{Parents, ParentsFault};
 use rb_parser::parse;
@@ -16,15 +17,6 @@ use std::rt::Files;
 
 /// The place of an error in CLDR's parents.
 const CLDR_OPTION: &str = "--cldr-parents";
-
-/// The place of explicit parents.
-#[derive(Clone, Copy, PartialEq, Eq)]
-pub enum ParentsSource<'a> {
-    /// The file of a bundle text.
-    File(&'a str),
-    /// CLDR's, which the program has with it.
-    Cldr,
-}
 
 /// Returns the error of a file that can't be read.
 fn reading_error(file: &str, kind: ErrorKind) -> StartError<'_> {

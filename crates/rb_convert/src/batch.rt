@@ -2,11 +2,12 @@
 ghost use Rattle.std.specs.Prelude.{◌≡◌, IfErr};
 ghost use Rattle.std.specs.Process.{exit_status};
 
-use crate::compiling::{chosen_output, compile_read};
-use crate::json_in::{JsonError, MOST_READ, chosen_json_output, compile_json_read, json_refused};
+use crate::compiling::{chosen_output, compile_to, language_of};
+use crate::making::{MakeError, not_made};
+use rb_asked::AskedCompileAll;
 use rb_console::{
-    CommandError, Console, Wanted, are_same_file, each, failed, id_of, printed, read_at_most,
-    read_file, refused_on, resolved, stem,
+    CommandError, Console, are_same_file, each, failed, id_of, in_folder, printed, read_at_most,
+    refused_on, resolved, stem,
 };
 use std::alloc::{AllocError, Global};
 use std::collections::{BTreeMap, BTreeSet};
@@ -16,19 +17,8 @@ use std::random::RandomSource;
 use std::rt::{Clock, Files};
 use std::{fs, io};
 
-/// The folder that texts are compiled to.
-#[derive(Clone, Copy)]
-pub struct Target<'a> {
-    /// The folder of the files.
-    pub folder: &'a str,
-    /// The folder that the texts are in, if theirs are kept below `folder`.
-    pub from: Option<&'a str>,
-    /// The files may be ones that are no bundles.
-    pub is_forced: bool,
-}
-
 /// Returns a text's name below the folder that it is in, without the last ending. It has no empty
-/// segment and no `..`, so its file is below the target's folder.
+/// segment and no `..`, so its file is below the folder of the files.
 fn name_below<'a>(from: &str, text: &'a str) -> Option<&'a str> {
     let rest = text.strip_prefix(from)?;
     let rest = if from.ends_with('/') {
@@ -53,32 +43,32 @@ fn stem_end(name: &str) -> usize {
     folder.saturating_add(stem(name).len())
 }
 
-impl<'a> Target<'a> {
-    /// Returns the name of a text's file in the folder, without its ending, or None if the text
-    /// isn't in the folder `from`.
-    fn name_of(self, text: &'a str) -> Option<&'a str> {
-        match self.from {
-            Some(from) => name_below(from, text),
-            None => Some(stem(text)),
-        }
+/// Returns the name of a text's file in the folder, without its ending, or None if the text isn't
+/// in the folder `from`.
+fn name_of<'a>(asked: &AskedCompileAll<'_>, text: &'a str) -> Option<&'a str> {
+    match asked.from {
+        Some(from) => name_below(from, text),
+        None => Some(stem(text)),
     }
+}
 
-    /// Returns the file to which a text is compiled.
-    fn output_of(self, alloc: Global, text: &'a str) -> Result<String, AllocError> {
-        let (folder, name) = (self.folder, self.name_of(text).unwrap_or(stem(text)));
-        if folder.ends_with('/') {
-            format!(in alloc; "{folder}{name}.res")
-        } else {
-            format!(in alloc; "{folder}/{name}.res")
-        }
-    }
+/// Returns the file to which a text is compiled.
+fn output_for(
+    alloc: Global,
+    asked: &AskedCompileAll<'_>,
+    text: &str,
+) -> Result<String, AllocError> {
+    let name = name_of(asked, text).unwrap_or(stem(text));
+    let mut output = in_folder(alloc, asked.folder, name)?;
+    output.push_str(".res")?;
+    Ok(output)
+}
 
-    /// Makes the folder of a file, and those above it, if texts keep their folders.
-    fn make_folder<R: Files>(self, rt: &R, output: &str) -> io::Result<()> {
-        match (self.from, output.rsplit_once('/')) {
-            (Some(_), Some((folder, _))) => fs::create_dir_all(rt, folder),
-            _ => Ok(()),
-        }
+/// Makes the folder of a file, and those above it, if texts keep their folders.
+fn make_folder<R: Files>(rt: &R, asked: &AskedCompileAll<'_>, output: &str) -> io::Result<()> {
+    match (asked.from, output.rsplit_once('/')) {
+        (Some(_), Some((folder, _))) => fs::create_dir_all(rt, folder),
+        _ => Ok(()),
     }
 }
 
@@ -95,14 +85,10 @@ enum BatchError<'a> {
 }
 
 /// Checks that no two texts have one file.
-fn check_names<'a>(
-    alloc: Global,
-    target: Target<'a>,
-    texts: &[&'a str],
-) -> Result<(), BatchError<'a>> {
+fn check_names<'a>(alloc: Global, asked: &AskedCompileAll<'a>) -> Result<(), BatchError<'a>> {
     let mut by_name = BTreeMap::new(alloc);
-    for text in texts {
-        let Some(name) = target.name_of(text) else {
+    for text in &asked.texts {
+        let Some(name) = name_of(asked, *text) else {
             return Err(BatchError::Elsewhere(text));
         };
         match by_name.insert(name, *text) {
@@ -141,16 +127,15 @@ impl<'a> Outputs<'a> {
 /// Checks that no two texts have names that lead to one file, links followed.
 fn check_files<'a, R: Files + AllocGlobal>(
     rt: &R,
-    target: Target<'a>,
-    texts: &[&'a str],
+    asked: &AskedCompileAll<'a>,
 ) -> Result<(), BatchError<'a>> {
     let alloc = rt.alloc();
     let mut outputs = Outputs {
         by_name: BTreeMap::new(alloc),
         by_id: BTreeMap::new(alloc),
     };
-    for text in texts {
-        let Ok(output) = target.output_of(alloc, text) else {
+    for text in &asked.texts {
+        let Ok(output) = output_for(alloc, asked, text) else {
             return Err(BatchError::Memory);
         };
         match outputs.add(rt, output.as_str(), text) {
@@ -187,23 +172,25 @@ impl Inputs {
     }
 }
 
-/// Compiles the bundle text `text` to the file `output`, and returns the file's length.
+/// Compiles a text to the file `output`, and returns the file's length.
 fn compile_file<'a, R: Files + RandomSource + AllocGlobal>(
     rt: &R,
     inputs: &Inputs,
-    target: Target<'_>,
+    asked: &AskedCompileAll<'_>,
     text: &'a str,
     output: &'a str,
-) -> Result<usize, CommandError<'a>> {
-    if let Err(error) = target.make_folder(rt, output) {
-        return Err(CommandError::Unwritten(output, error.kind()));
+) -> Result<usize, MakeError<'a>> {
+    if let Err(error) = make_folder(rt, asked, output) {
+        return Err(MakeError::Other(CommandError::Unwritten(output, error.kind())));
     }
-    let wanted = Wanted {
-        is_input: inputs.has(rt, output) || are_same_file(rt, text, output),
-        is_forced: target.is_forced,
+    let is_input = inputs.has(rt, output) || are_same_file(rt, text, output);
+    let chosen = match chosen_output(rt, asked.how, output, is_input) {
+        Ok(chosen) => chosen,
+        Err(error) => return Err(MakeError::Other(error)),
     };
-    let chosen = chosen_output(rt, output, wanted)?;
-    compile_read(rt, text, read_file(rt, text), output, &chosen)
+    let language = language_of(asked.how);
+    let read = read_at_most(rt, text, language.most_read());
+    compile_to(rt, language, (text, read), (output, &chosen))
 }
 
 /// Prints the length of a file that was written, and returns the status of its text: 1 if there is
@@ -212,14 +199,17 @@ fn written<R: Print + Eprint>(
     rt: &R,
     console: Console,
     output: &str,
-    count: Result<usize, CommandError<'_>>,
+    count: Result<usize, MakeError<'_>>,
 ) -> ExitCode
     ensures refused { IfErr count.entry (λ error. exit_status result ≡ 1) }
 {
     let count = match count {
         Ok(_) if console.is_quiet => return ExitCode::SUCCESS,
         Ok(count) => count,
-        Err(error) => return failed(rt, console, error),
+        Err(error) => {
+            let _ = not_made(rt, console, error);
+            return ExitCode::from(1);
+        }
     };
     let output = console.on_stdout(output);
     printed(rt, println!(rt; "{output}: wrote {count} bytes"))
@@ -230,14 +220,15 @@ fn compile_one<R: Files + RandomSource + AllocGlobal + Print + Eprint>(
     rt: &R,
     console: Console,
     inputs: &Inputs,
-    target: Target<'_>,
+    asked: &AskedCompileAll<'_>,
     text: &str,
 ) -> ExitCode {
-    let Ok(output) = target.output_of(rt.alloc(), text) else {
-        let error = CommandError::Unread(text, ":0", ErrorKind::OutOfMemory);
+    let Ok(output) = output_for(rt.alloc(), asked, text) else {
+        let place = language_of(asked.how).no_place();
+        let error = CommandError::Unread(text, place, ErrorKind::OutOfMemory);
         return failed(rt, console, error);
     };
-    let count = compile_file(rt, inputs, target, text, output.as_str());
+    let count = compile_file(rt, inputs, asked, text, output.as_str());
     written(rt, console, output.as_str(), count)
 }
 
@@ -245,7 +236,7 @@ fn compile_one<R: Files + RandomSource + AllocGlobal + Print + Eprint>(
 fn batch_refused<R: Eprint>(
     rt: &R,
     console: Console,
-    target: Target<'_>,
+    folder: &str,
     error: BatchError<'_>,
 ) -> ExitCode {
     match error {
@@ -267,7 +258,7 @@ fn batch_refused<R: Eprint>(
             let _ = eprintln!(rt; "resb: a text is not in SRC: {}", console.on_stderr(text));
             ExitCode::from(2)
         }
-        BatchError::Memory => refused_on(rt, console, target.folder, "Memory"),
+        BatchError::Memory => refused_on(rt, console, folder, "Memory"),
     }
 }
 
@@ -276,115 +267,47 @@ fn batch_refused<R: Eprint>(
 fn refuse_batch<R: Files + AllocGlobal + Eprint>(
     rt: &R,
     console: Console,
-    target: Target<'_>,
-    texts: &[&str],
+    asked: &AskedCompileAll<'_>,
 ) -> Result<(), ExitCode> {
-    if target.folder.is_empty() {
+    if asked.folder.is_empty() {
         let _ = eprintln!(rt; "resb: DIR is empty");
         return Err(ExitCode::from(2));
     }
-    let checked = match check_names(rt.alloc(), target, texts) {
-        Ok(()) => check_files(rt, target, texts),
+    let checked = match check_names(rt.alloc(), asked) {
+        Ok(()) => check_files(rt, asked),
         Err(error) => Err(error),
     };
     match checked {
         Ok(()) => Ok(()),
-        Err(error) => Err(batch_refused(rt, console, target, error)),
+        Err(error) => Err(batch_refused(rt, console, asked.folder, error)),
     }
 }
 
-/// Compiles each bundle text to the file in the target's folder that has its stem and ends in
-/// `.res`, and prints a line for each. With `from` the file's name is that of the text below that
+/// Compiles each text to the file in the folder that has its stem and ends in `.res`, as `compile`
+/// does, and prints a line for each. With `from` the file's name is that of the text below that
 /// folder, and folders that are missing are made. An error is a line like that of `compile`, and
-/// the other texts are compiled. If two texts have one file, a text isn't in `from`, or the folder's
-/// name is empty, nothing is compiled. A file that is one of the texts, or standard output, isn't
-/// written.
+/// the other texts are compiled. If two texts have one file, a text isn't in `from`, or the
+/// folder's name is empty, nothing is compiled. A file that is one of the texts, or standard output,
+/// isn't written.
 ///
 /// The status is 0; 1 if a text is refused or can't be read, or its file can't be written; 2 if
 /// nothing is compiled, and as soon as standard output can't be written.
 pub fn compile_all<R: Files + RandomSource + Clock + AllocGlobal + Print + Eprint>(
     rt: &R,
     console: Console,
-    target: Target<'_>,
-    texts: &[&str],
+    asked: &AskedCompileAll<'_>,
 ) -> ExitCode {
-    if let Err(status) = refuse_batch(rt, console, target, texts) {
+    let console = console.quieted(asked.how.is_quiet);
+    if let Err(status) = refuse_batch(rt, console, asked) {
         return status;
     }
-    let Ok(inputs) = Inputs::of(rt, texts) else {
-        return refused_on(rt, console, target.folder, "Memory");
+    let Ok(inputs) = Inputs::of(rt, &asked.texts) else {
+        return refused_on(rt, console, asked.folder, "Memory");
     };
     each(
         rt,
         console,
-        texts,
-        |text| compile_one(rt, console, &inputs, target, text),
-    )
-}
-
-/// Compiles the JSON text `json` to the file `output`, and returns the file's length.
-fn compile_json_file<'a, R: Files + RandomSource + AllocGlobal>(
-    rt: &R,
-    inputs: &Inputs,
-    target: Target<'_>,
-    json: &'a str,
-    output: &'a str,
-    no_fallback: bool,
-) -> Result<usize, JsonError<'a>> {
-    if let Err(error) = target.make_folder(rt, output) {
-        return Err(JsonError::Other(CommandError::Unwritten(output, error.kind())));
-    }
-    let wanted = Wanted {
-        is_input: inputs.has(rt, output) || are_same_file(rt, json, output),
-        is_forced: target.is_forced,
-    };
-    let chosen = match chosen_json_output(rt, output, wanted) {
-        Ok(chosen) => chosen,
-        Err(error) => return Err(JsonError::Other(error)),
-    };
-    let read = read_at_most(rt, json, MOST_READ);
-    compile_json_read(rt, json, read, output, &chosen, no_fallback)
-}
-
-/// Compiles one JSON text of many.
-fn compile_one_json<R: Files + RandomSource + AllocGlobal + Print + Eprint>(
-    rt: &R,
-    console: Console,
-    inputs: &Inputs,
-    target: Target<'_>,
-    json: &str,
-    no_fallback: bool,
-) -> ExitCode {
-    let Ok(output) = target.output_of(rt.alloc(), json) else {
-        let error = CommandError::Unread(json, ":0:0", ErrorKind::OutOfMemory);
-        return failed(rt, console, error);
-    };
-    let output = output.as_str();
-    match compile_json_file(rt, inputs, target, json, output, no_fallback) {
-        Ok(count) => written(rt, console, output, Ok(count)),
-        Err(JsonError::Refused(file, fault)) => json_refused(rt, console, file, &fault),
-        Err(JsonError::Other(error)) => failed(rt, console, error),
-    }
-}
-
-/// Compiles each JSON text as `compile_all` compiles bundle texts, and each as `compile_json_on`.
-pub fn compile_all_json<R: Files + RandomSource + Clock + AllocGlobal + Print + Eprint>(
-    rt: &R,
-    console: Console,
-    target: Target<'_>,
-    texts: &[&str],
-    no_fallback: bool,
-) -> ExitCode {
-    if let Err(status) = refuse_batch(rt, console, target, texts) {
-        return status;
-    }
-    let Ok(inputs) = Inputs::of(rt, texts) else {
-        return refused_on(rt, console, target.folder, "Memory");
-    };
-    each(
-        rt,
-        console,
-        texts,
-        |json| compile_one_json(rt, console, &inputs, target, json, no_fallback),
+        &asked.texts,
+        |text| compile_one(rt, console, &inputs, asked, text),
     )
 }

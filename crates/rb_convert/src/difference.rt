@@ -1,5 +1,6 @@
 //! The differences of two bundles as they are printed.
 use crate::compare::Report;
+use rb_asked::AskedDiff;
 use rb_console::Printing;
 use rb_json::{Layout, Outlet, put_leaf, spell_bytes, spell_text, spell_unsigned};
 use rb_tree::Node;
@@ -7,13 +8,24 @@ use std::io::Write;
 
 /// The form in which differences are printed.
 #[derive(Clone, Copy, PartialEq, Eq)]
-pub enum DiffForm {
+pub(crate) enum DiffForm {
     /// A line for each item that only one bundle has, and two for one that differs.
     Lines,
     /// An object for each item, in a line.
     Json,
     /// The number of items that differ.
     Counts,
+}
+
+impl DiffForm {
+    /// Returns the form that is asked for.
+    pub(crate) fn of(asked: &AskedDiff<'_>) -> DiffForm {
+        match (asked.is_stat, asked.is_json) {
+            (true, _) => DiffForm::Counts,
+            (false, true) => DiffForm::Json,
+            (false, false) => DiffForm::Lines,
+        }
+    }
 }
 
 /// The numbers of items that differ: those of both bundles, and those that only one has.

@@ -1,6 +1,7 @@
 //! `resb diff`.
 use crate::compare::{ItemPath, Side, compare, report_all};
 use crate::difference::{Counts, DiffForm, DiffPrinter};
+use rb_asked::AskedDiff;
 use rb_console::{
     CommandError, Console, Printing, ShownBytes, StartError, accepted, finish, in_folder,
     is_folder, is_text, printed, read_given, read_names,
@@ -18,15 +19,6 @@ use std::rt::Files;
 
 /// The status if something can't be compared.
 const TROUBLE: u8 = 2;
-
-/// The words of the command line of `resb diff`.
-#[derive(Clone, Copy)]
-pub struct DiffWords<'a> {
-    /// A bundle text, a `.res` file or a folder, and the one that it is compared with.
-    pub old: &'a str,
-    pub new: &'a str,
-    pub form: DiffForm,
-}
 
 /// The output of a command, and how the earlier comparisons ended.
 #[derive(Drop)]
@@ -181,12 +173,12 @@ fn compare_named<R: Files + AllocGlobal + Eprint, W: Write + Drop>(
     rt: &R,
     console: Console,
     differ: &mut Differ<W>,
-    words: DiffWords<'_>,
+    asked: &AskedDiff<'_>,
     name: &str,
 ) -> Result<(), AllocError> {
     let alloc = rt.alloc();
-    let old = in_folder(alloc, words.old, name)?;
-    let new = in_folder(alloc, words.new, name)?;
+    let old = in_folder(alloc, asked.old, name)?;
+    let new = in_folder(alloc, asked.new, name)?;
     differ.printer.name = String::from_str(alloc, name)?;
     differ.printer.shown = format!(in alloc; "{}", console.on_stdout(name))?;
     match (there(rt, old.as_str()), there(rt, new.as_str())) {
@@ -230,17 +222,17 @@ fn compare_folders<R: Files + AllocGlobal + Eprint, W: Write + Drop>(
     rt: &R,
     console: Console,
     differ: &mut Differ<W>,
-    words: DiffWords<'_>,
+    asked: &AskedDiff<'_>,
 ) {
     let mut names = BTreeSet::new(rt.alloc());
-    for folder in [words.old, words.new] {
+    for folder in [asked.old, asked.new] {
         if let Err(error) = add_names(rt, console, differ, &mut names, folder) {
             differ.fail(rt, console, CommandError::Unread(folder, "", error.kind()));
             return;
         }
     }
     for name in names.iter() {
-        if compare_named(rt, console, differ, words, name.as_str()).is_err() {
+        if compare_named(rt, console, differ, asked, name.as_str()).is_err() {
             differ.fail(rt, console, CommandError::NotStarted(StartError::Memory));
             return;
         }
@@ -259,7 +251,7 @@ fn compare_folders<R: Files + AllocGlobal + Eprint, W: Write + Drop>(
 pub fn diff<R: Files + AllocGlobal + Print + Eprint>(
     rt: &R,
     console: Console,
-    words: DiffWords<'_>,
+    asked: &AskedDiff<'_>,
 ) -> ExitCode {
     let Ok(writer) = BufWriter::new(rt.alloc(), io::writer(rt)) else {
         let _ = finish(rt, console, CommandError::NotStarted(StartError::Memory));
@@ -268,7 +260,7 @@ pub fn diff<R: Files + AllocGlobal + Print + Eprint>(
     let mut differ = Differ {
         printer: DiffPrinter {
             out: Printing::new(writer, console.escapes()),
-            form: words.form,
+            form: DiffForm::of(asked),
             name: String::new(rt.alloc()),
             shown: String::new(rt.alloc()),
             counts: Counts::NONE,
@@ -276,10 +268,10 @@ pub fn diff<R: Files + AllocGlobal + Print + Eprint>(
         has_differences: false,
         has_trouble: false,
     };
-    if is_folder(rt, words.old) && is_folder(rt, words.new) {
-        compare_folders(rt, console, &mut differ, words);
+    if is_folder(rt, asked.old) && is_folder(rt, asked.new) {
+        compare_folders(rt, console, &mut differ, asked);
     } else {
-        differ.compare_files(rt, console, Some(words.old), Some(words.new));
+        differ.compare_files(rt, console, Some(asked.old), Some(asked.new));
     }
     differ.end(rt)
 }

@@ -1,9 +1,10 @@
 //! `resb lines`: request lines that install files.
-use crate::json_in::{JsonError, MOST_READ, file_of_json, finish_json};
+use crate::making::{Language, MakeError, file_of, not_made};
 use json::Writer;
+use rb_asked::AskedLines;
 use rb_console::{
-    CommandError, Console, EscapingWriter, Form, Given, Refusal, StartError, all_given, finish,
-    is_text, made_of_each, not_started_on, printed, read_at_most, refused_on,
+    CommandError, Console, EscapingWriter, Form, Given, Refusal, StartError, all_given, is_text,
+    made_of_each, not_started_on, printed, read_at_most, refused_on,
 };
 use rb_format::is_short_enough;
 use rb_lexer::Tokens;
@@ -14,18 +15,12 @@ use std::io::{BufWriter, Write};
 use std::process::ExitCode;
 use std::rt::Files;
 
-/// The kind of request that a line makes.
-#[derive(Clone, Copy, PartialEq, Eq)]
-pub enum Change {
-    Install,
-    Replace,
-}
-
-/// Returns the member `op` of a line that asks for a change.
-fn op_of(change: Change) -> &'static str {
-    match change {
-        Change::Install => "install",
-        Change::Replace => "replace",
+/// Returns the member `op` of the lines, or None if `--op` is no change.
+fn op_of(op: Option<&str>) -> Option<&'static str> {
+    match op {
+        None | Some("install") => Some("install"),
+        Some("replace") => Some("replace"),
+        Some(_) => None,
     }
 }
 
@@ -48,35 +43,46 @@ fn refuse_content(alloc: Global, file: &str, bytes: &[u8]) -> Result<(), Refusal
     }
 }
 
-/// Reads the files.
-fn contents<'a, R: Files + AllocGlobal>(
-    rt: &R,
-    bundles: &[Given<'a>],
-) -> Result<Vec<Vec<u8>>, CommandError<'a>> {
-    let alloc = rt.alloc();
-    made_of_each(rt, bundles, |file, bytes| {
-        refuse_content(alloc, file, &bytes)?;
-        Ok(bytes)
-    })
-}
+/// The language of a JSON text, as lines without `no_fallback` have it.
+const JSON: Language = Language::Json { no_fallback: false };
 
 /// Compiles JSON texts, up to the first that is refused.
 fn json_files<'a, R: Files + AllocGlobal>(
     rt: &R,
     bundles: &[Given<'a>],
-) -> Result<Vec<Vec<u8>>, JsonError<'a>> {
+) -> Result<Vec<Vec<u8>>, MakeError<'a>> {
     let mut files = Vec::new(rt.alloc());
     for bundle in bundles {
-        let json = read_at_most(rt, bundle.file, MOST_READ);
-        let file = match file_of_json(rt.alloc(), bundle.file, json, false) {
+        let json = read_at_most(rt, bundle.file, JSON.most_read());
+        let file = match file_of(rt.alloc(), JSON, bundle.file, json) {
             Ok(file) => file,
             Err(error) => return Err(error),
         };
         if files.push(file).is_err() {
-            return Err(JsonError::Other(CommandError::NotStarted(StartError::Memory)));
+            return Err(MakeError::Other(CommandError::NotStarted(StartError::Memory)));
         }
     }
     Ok(files)
+}
+
+/// Reads the files, or compiles them if they are JSON texts.
+fn contents<'a, R: Files + AllocGlobal>(
+    rt: &R,
+    is_json: bool,
+    bundles: &[Given<'a>],
+) -> Result<Vec<Vec<u8>>, MakeError<'a>> {
+    if is_json {
+        return json_files(rt, bundles);
+    }
+    let alloc = rt.alloc();
+    let read = made_of_each(rt, bundles, |file, bytes| {
+        refuse_content(alloc, file, &bytes)?;
+        Ok(bytes)
+    });
+    match read {
+        Ok(contents) => Ok(contents),
+        Err(error) => Err(MakeError::Other(error)),
+    }
 }
 
 /// The member of a line that has a bundle: `text`, or `file` in hexadecimal.
@@ -102,8 +108,7 @@ fn put_content(
 /// Makes the line that installs or replaces a bundle.
 fn line_of(
     alloc: Global,
-    change: Change,
-    app: &str,
+    (op, app): (&str, &str),
     bundle: &Given<'_>,
     is_text: bool,
     bytes: &[u8],
@@ -111,7 +116,7 @@ fn line_of(
     let mut out = Writer::new(Vec::new(alloc));
     out.begin_object()?;
     out.key("op")?;
-    out.string(op_of(change))?;
+    out.string(op)?;
     out.key("app")?;
     out.string(app)?;
     out.key("locale")?;
@@ -127,18 +132,16 @@ fn line_of(
 fn write_lines<R: AllocGlobal + Print>(
     rt: &R,
     console: Console,
-    change: Change,
-    app: &str,
+    (op, asked): (&str, &AskedLines<'_>),
     bundles: &[Given<'_>],
-    is_json: bool,
     contents: &[Vec<u8>],
 ) -> io::Result<()> {
     let alloc = rt.alloc();
     let buffer = BufWriter::new(alloc, io::writer(rt))?;
     let mut out = EscapingWriter::new(buffer, console.escapes());
     for (bundle, bytes) in bundles.iter().zip(contents) {
-        let is_text = !is_json && is_text(bundle.file);
-        let line = line_of(alloc, change, app, bundle, is_text, bytes)?;
+        let is_text = !asked.is_json && is_text(bundle.file);
+        let line = line_of(alloc, (op, asked.app), bundle, is_text, bytes)?;
         out.write_all(&line)?;
     }
     out.flush()
@@ -148,13 +151,11 @@ fn write_lines<R: AllocGlobal + Print>(
 fn print_lines<R: AllocGlobal + Print + Eprint>(
     rt: &R,
     console: Console,
-    change: Change,
-    app: &str,
+    (op, asked): (&str, &AskedLines<'_>),
     bundles: &[Given<'_>],
-    is_json: bool,
     contents: &[Vec<u8>],
 ) -> ExitCode {
-    match write_lines(rt, console, change, app, bundles, is_json, contents) {
+    match write_lines(rt, console, (op, asked), bundles, contents) {
         Ok(()) => ExitCode::SUCCESS,
         Err(error) if error.kind() == io::ErrorKind::OutOfMemory => {
             not_started_on(rt, console, StartError::Memory)
@@ -163,52 +164,32 @@ fn print_lines<R: AllocGlobal + Print + Eprint>(
     }
 }
 
-/// Prints a request line for each file, which installs its bundle for `app`, or replaces one: by
-/// its text if the file's name ends in `.txt`, otherwise as a file. An argument is `LOCALE=FILE`,
-/// or `FILE`, whose stem is the locale.
+/// Prints a request line for each file, which installs its bundle for an application, or replaces
+/// one: by its text if the file's name ends in `.txt`, otherwise as a file. JSON texts
+/// (docs/JSON.md) are compiled. An argument is `LOCALE=FILE`, or `FILE`, whose stem is the locale.
 ///
 /// All files are read before anything is printed. The status is 0; 1 if `app` is no application's
-/// name, a text isn't UTF-8, a text or a file is too long, or out of memory, with the error's name;
-/// 2 for an argument without a locale's name, and if a file or standard output can't be read or
-/// written.
+/// name, a text isn't UTF-8, a text or a file is too long, a JSON text is refused, or memory runs
+/// out, with the error's name; 2 for another change than `install` and `replace`, an argument
+/// without a locale's name, and if a file or standard output can't be read or written.
 pub fn lines<R: Files + AllocGlobal + Print + Eprint>(
     rt: &R,
     console: Console,
-    change: Change,
-    app: &str,
-    arguments: &[&str],
+    asked: &AskedLines<'_>,
 ) -> ExitCode {
-    if let Err(fault) = App::read(app.as_bytes()) {
-        return refused_on(rt, console, app, fault.word());
+    let Some(op) = op_of(asked.op) else {
+        let _ = eprintln!(rt; "resb: --op is install or replace");
+        return ExitCode::from(2);
+    };
+    if let Err(fault) = App::read(asked.app.as_bytes()) {
+        return refused_on(rt, console, asked.app, fault.word());
     }
-    let bundles = match all_given(rt.alloc(), Form::ByStem, arguments) {
+    let bundles = match all_given(rt.alloc(), Form::ByStem, &asked.files) {
         Ok(bundles) => bundles,
         Err(error) => return not_started_on(rt, console, error),
     };
-    match contents(rt, &bundles) {
-        Ok(contents) => print_lines(rt, console, change, app, &bundles, false, &contents),
-        Err(error) => finish(rt, console, error),
-    }
-}
-
-/// Prints request lines as `lines` does, of files that are JSON texts (docs/JSON.md), each as the
-/// file that it compiles to. The status is also 1 if a JSON text is refused.
-pub fn json_lines<R: Files + AllocGlobal + Print + Eprint>(
-    rt: &R,
-    console: Console,
-    change: Change,
-    app: &str,
-    arguments: &[&str],
-) -> ExitCode {
-    if let Err(fault) = App::read(app.as_bytes()) {
-        return refused_on(rt, console, app, fault.word());
-    }
-    let bundles = match all_given(rt.alloc(), Form::ByStem, arguments) {
-        Ok(bundles) => bundles,
-        Err(error) => return not_started_on(rt, console, error),
-    };
-    match json_files(rt, &bundles) {
-        Ok(files) => print_lines(rt, console, change, app, &bundles, true, &files),
-        Err(error) => finish_json(rt, console, error),
+    match contents(rt, asked.is_json, &bundles) {
+        Ok(contents) => print_lines(rt, console, (op, asked), &bundles, &contents),
+        Err(error) => not_made(rt, console, error),
     }
 }

@@ -1,4 +1,5 @@
 //! `resb text`.
+use rb_asked::AskedText;
 use rb_console::{Console, accepted, finish, print_bytes, printed, refused_on};
 use rb_printer::{PrintError, print_bundle};
 use rb_tree::UnitList;
@@ -26,21 +27,21 @@ fn bundle_text(alloc: Global, name: &str, bundle: &Bundle) -> Result<Vec<u8>, Pr
     print_bundle(alloc, &UnitList::from_vec(units), bundle)
 }
 
-/// Prints the file `file` as a bundle text, whose name is `name`, or if none is given that of the
+/// Prints a file as a bundle text, whose name is the given one, or if none is given that of the
 /// file up to its first full stop. The status is 0; 1 if the file is refused or its text would be
 /// too large, with the error's name on standard error, and then nothing is printed; 2 if the file
 /// can't be read or standard output can't be written.
 pub fn text<R: Files + AllocGlobal + Print + Eprint>(
     rt: &R,
     console: Console,
-    file: &str,
-    name: Option<&str>,
+    asked: &AskedText<'_>,
 ) -> ExitCode {
+    let file = asked.file;
     let bundle = match accepted(rt, file) {
         Ok(bundle) => bundle,
         Err(error) => return finish(rt, console, error),
     };
-    match bundle_text(rt.alloc(), name.unwrap_or(name_of(file)), &bundle) {
+    match bundle_text(rt.alloc(), asked.name.unwrap_or(name_of(file)), &bundle) {
         Ok(text) => printed(rt, print_bytes(rt, console, &text)),
         Err(error) => refused_on(rt, console, file, error.word()),
     }

@@ -5,6 +5,7 @@ ghost use Rattle.rb_tree.specs.Walk.{walk};
 ghost use Rattle.rb_json.specs.Printed.{is_within};
 ghost use Rattle.rb_convert.specs.Whole.{Prints, light, reached, shown};
 
+use rb_asked::AskedJson;
 use rb_console::{Console, Printing, accepted, finish, printed, refused_on};
 use rb_fallback::{PATH_LIMIT, rest_behind};
 use rb_json::{Layout, Outlet, is_within, put_value};
@@ -111,18 +112,25 @@ pub fn put_value_at<O: Outlet, N: Node>(
     Ok(())
 }
 
-/// Prints the whole item of the file `name` at a path as one JSON value and a line feed, in a
-/// layout. Aliases are printed and not followed, and control characters are escaped. The status is
-/// 0; 1 if the file is refused or has no such item, or one that is too large, with the file or the
-/// path and the error's name on standard error; 2 if the file can't be read or standard output
-/// can't be written.
+fn layout_of(is_pretty: bool) -> Layout {
+    if is_pretty {
+        Layout::Pretty
+    } else {
+        Layout::Compact
+    }
+}
+
+/// Prints the whole item of a file at a path as one JSON value and a line feed, in a layout.
+/// Aliases are printed and not followed, and control characters are escaped. The status is 0; 1 if
+/// the file is refused or has no such item, or one that is too large, with the file or the path and
+/// the error's name on standard error; 2 if the file can't be read or standard output can't be
+/// written.
 pub fn json<R: Files + AllocGlobal + Print + Eprint>(
     rt: &R,
     console: Console,
-    name: &str,
-    path: &str,
-    layout: Layout,
+    asked: &AskedJson<'_>,
 ) -> ExitCode {
+    let (name, path) = (asked.file, asked.path);
     let bundle = match accepted(rt, name) {
         Ok(bundle) => bundle,
         Err(error) => return finish(rt, console, error),
@@ -131,7 +139,12 @@ pub fn json<R: Files + AllocGlobal + Print + Eprint>(
         return refused_on(rt, console, name, "Memory");
     };
     let mut out = Printing::new(writer, console.json_escapes());
-    match put_value_at(&mut out, root(&bundle), path.as_bytes(), layout) {
+    match put_value_at(
+        &mut out,
+        root(&bundle),
+        path.as_bytes(),
+        layout_of(asked.is_pretty),
+    ) {
         Ok(()) => printed(rt, out.end_line()),
         Err(ValueError::TooLarge) => refused_on(rt, console, name, "TooLarge"),
         Err(error) => refused_on(rt, console, path, error.word()),

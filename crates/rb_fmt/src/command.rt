@@ -1,12 +1,13 @@
 //! `resb fmt`.
 use crate::difference::difference;
+use rb_asked::AskedFormat;
 use rb_console::{
     CommandError, Console, ShownName, StartError, each, failed, not_started_on, print_bytes,
     printed, read_text, replace_text,
 };
 use rb_layout::{FormatFault, Style, format_in};
 use rb_lexer::{SourceFault, SourceKind};
-use rb_project::{Configured, Modules, Project, Section, Text, names_of, open_project, texts_of};
+use rb_project::{Modules, Project, Section, Text, names_of, open_project, texts_of};
 use std::alloc::{AllocError, Global};
 use std::io;
 use std::process::ExitCode;
@@ -15,7 +16,7 @@ use std::rt::{Clock, Files};
 
 /// The way to treat a text that formatting changes.
 #[derive(Clone, Copy, PartialEq, Eq)]
-pub enum FormatMode {
+enum FormatMode {
     /// It is replaced, or printed if it came from standard input.
     Write,
     /// Its name is printed.
@@ -24,13 +25,13 @@ pub enum FormatMode {
     Difference,
 }
 
-/// The words of the command line of `resb fmt`.
-#[derive(Clone, Copy)]
-pub struct FormatWords<'a> {
-    pub mode: FormatMode,
-    pub config: Configured<'a>,
-    /// Texts, and folders of modules.
-    pub names: &'a [&'a str],
+/// Returns the way that is asked for.
+fn mode_of(asked: &AskedFormat<'_>) -> FormatMode {
+    match (asked.is_diff, asked.is_check) {
+        (true, _) => FormatMode::Difference,
+        (false, true) => FormatMode::Check,
+        (false, false) => FormatMode::Write,
+    }
 }
 
 /// Returns the error of a command for that of formatting a text.
@@ -190,20 +191,21 @@ fn project_texts<R: Files + AllocGlobal + Eprint>(
 pub fn format_all<R: Files + RandomSource + Clock + Input + AllocGlobal + Print + Eprint>(
     rt: &R,
     console: Console,
-    words: &FormatWords<'_>,
+    asked: &AskedFormat<'_>,
 ) -> ExitCode {
-    let project = match open_project(rt, console, words.config, &[]) {
+    let console = console.quieted(asked.is_quiet);
+    let project = match open_project(rt, console, asked.config, &[]) {
         Ok(project) => project,
         Err(status) => return status,
     };
-    let texts = match project_texts(rt, console, &project, words.names) {
+    let texts = match project_texts(rt, console, &project, &asked.texts) {
         Ok(texts) => texts,
         Err(status) => return status,
     };
     let Ok(names) = names_of(rt.alloc(), &texts) else {
         return not_started_on(rt, console, StartError::Memory);
     };
-    let (mode, style) = (words.mode, style_of(project.settings.section("fmt")));
+    let (mode, style) = (mode_of(asked), style_of(project.settings.section("fmt")));
     each(
         rt,
         console,

@@ -6,4 +6,4 @@ mod command;
 mod difference;
 mod lines;
 
-pub use command::{FormatMode, FormatWords, format_all};
+pub use command::format_all;

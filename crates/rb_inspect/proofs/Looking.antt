@@ -11,7 +11,7 @@ use Rattle.rb_fallback.specs.declared.found.Found.{Found}
 use Rattle.rb_parents.specs.Trail.{ParentsOf}
 use Rattle.rb_inspect.specs.Looking.{IsFoundWith, is_found, looked_up}
 use Rattle.rb_console.specs.Starting.{AreParentsFor}
-use Rattle.rb_console.specs.declared.parents.ParentsSource.{ParentsSource}
+use Rattle.rb_asked.specs.declared.shared.ParentsSource.{ParentsSource}
 
 found_in : {N : Type 0} (tree : N → Resource) (r : Result (Found N) LookFault) → is_ok r ≡ is_found (look_response tree r)
 found_in tree (Ok found) = refl

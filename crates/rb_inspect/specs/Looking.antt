@@ -4,7 +4,7 @@ use Rattle.rb_engine.specs.Answer.{Response, Finds, answer_over}
 use Rattle.rb_engine.specs.Ask.{Looks}
 use Rattle.rb_engine.specs.Kept.{Kept, state_of}
 use Rattle.rb_console.specs.Starting.{HasParentsFor}
-use Rattle.rb_console.specs.declared.parents.ParentsSource.{ParentsSource}
+use Rattle.rb_asked.specs.declared.shared.ParentsSource.{ParentsSource}
 
 -- the application for which the bundles are installed
 abbrev pub look_app : List ℕ

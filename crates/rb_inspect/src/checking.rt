@@ -2,15 +2,14 @@
 ghost use Rattle.std.specs.Prelude.{◌≡◌, ◌≢◌, IfErr};
 ghost use Rattle.std.specs.Process.{exit_status};
 
+use rb_asked::AskedCheck;
 use rb_console::{CommandError, Console, JsonText, accepted, each, failed, finish, printed};
 use rb_validator::Bundle;
 use std::process::ExitCode;
 use std::rt::{Clock, Files};
 
-/// Checks the file `name`, and prints `ok` and the number of tables and arrays entered if it is
-/// accepted. The status is 0; 1 if the file is refused, with the error's name on standard error;
-/// 2 if it can't be read or standard output can't be written.
-pub fn check<R: Files + AllocGlobal + Print + Eprint>(
+/// Checks the only file.
+fn check_only<R: Files + AllocGlobal + Print + Eprint>(
     rt: &R,
     console: Console,
     name: &str,
@@ -44,21 +43,6 @@ fn checked<R: Print + Eprint>(
     }
 }
 
-/// Checks each file as `check` does; each line begins with the file's name. The status is 0; 1 if a
-/// file is refused or can't be read; 2 as soon as standard output can't be written.
-pub fn check_all<R: Files + Clock + AllocGlobal + Print + Eprint>(
-    rt: &R,
-    console: Console,
-    names: &[&str],
-) -> ExitCode {
-    each(
-        rt,
-        console,
-        names,
-        |name| checked(rt, console, name, accepted(rt, name)),
-    )
-}
-
 /// Prints an object for a file, and returns its status: 1 if the file isn't accepted, 2 if standard
 /// output can't be written.
 fn checked_json<R: Print + Eprint>(
@@ -89,18 +73,35 @@ fn checked_json<R: Print + Eprint>(
     }
 }
 
-/// Checks each file as `check_all` does, and prints an object for each on a line of standard
-/// output, with the error's name if the file is refused. That a file can't be read is said on
-/// standard error.
-pub fn check_json<R: Files + Clock + AllocGlobal + Print + Eprint>(
+/// Checks files, and prints `ok` and the number of tables and arrays entered for each that is
+/// accepted, or with JSON an object for each in a line, with the error's name if the file is
+/// refused. If there are several, each line begins with the file's name. That a file can't be read
+/// is said on standard error.
+///
+/// The status is 0; 1 if a file is refused, with the error's name on standard error, or one of
+/// several can't be read; 2 if the only file can't be read, and as soon as standard output can't be
+/// written.
+pub fn check<R: Files + Clock + AllocGlobal + Print + Eprint>(
     rt: &R,
     console: Console,
-    names: &[&str],
+    asked: &AskedCheck<'_>,
 ) -> ExitCode {
-    each(
-        rt,
-        console,
-        names,
-        |name| checked_json(rt, console, name, accepted(rt, name)),
-    )
+    let console = console.quieted(asked.is_quiet);
+    if asked.is_json {
+        return each(
+            rt,
+            console,
+            &asked.files,
+            |name| checked_json(rt, console, name, accepted(rt, name)),
+        );
+    }
+    match asked.files.as_slice() {
+        [name] => check_only(rt, console, name),
+        names => each(
+            rt,
+            console,
+            names,
+            |name| checked(rt, console, name, accepted(rt, name)),
+        ),
+    }
 }

@@ -1,5 +1,6 @@
 //! `resb get`.
 use crate::item::put_at;
+use rb_asked::AskedGet;
 use rb_console::{Console, Printing, accepted, finish, printed, refused_on};
 use rb_fallback::PATH_LIMIT;
 use rb_tree::{Ending, Kind, Node, path_ok, walk};
@@ -29,22 +30,6 @@ fn put_json<R: AllocGlobal + Print + Eprint>(
     }
 }
 
-/// Prints the item of the file `name` at a path as JSON, without fallback, or an alias on the way
-/// with the remaining path. On a terminal, control characters are escaped. The status is 0; 1 if the
-/// file is refused or has no such item, with the file or the path and the error's name on standard
-/// error; 2 if the file can't be read or standard output can't be written.
-pub fn get<R: Files + AllocGlobal + Print + Eprint>(
-    rt: &R,
-    console: Console,
-    name: &str,
-    path: &str,
-) -> ExitCode {
-    match accepted(rt, name) {
-        Ok(bundle) => put_json(rt, console, name, &bundle, path),
-        Err(error) => finish(rt, console, error),
-    }
-}
-
 /// Returns the String to which a path leads, if it leads to one.
 fn string_at<N: Node>(root: N, path: &[u8]) -> Option<N> {
     if !path_ok(path) || PATH_LIMIT < path.len() {
@@ -67,24 +52,37 @@ fn characters_of<N: Node>(alloc: Global, node: N) -> Result<String, AllocError> 
     String::from_utf16_lossy(alloc, &units)
 }
 
-/// Prints the item at a path as `get` does, but a String as its characters and a line feed. A
-/// surrogate without its other half is printed as U+FFFD; on a terminal, control characters are
-/// escaped as in names.
-pub fn get_raw<R: Files + AllocGlobal + Print + Eprint>(
+/// Prints a String as its characters and a line feed, or another item as JSON.
+fn put_raw<R: AllocGlobal + Print + Eprint>(
     rt: &R,
     console: Console,
-    name: &str,
-    path: &str,
+    bundle: &Bundle,
+    (name, path): (&str, &str),
 ) -> ExitCode {
-    let bundle = match accepted(rt, name) {
-        Ok(bundle) => bundle,
-        Err(error) => return finish(rt, console, error),
-    };
-    let Some(node) = string_at(root(&bundle), path.as_bytes()) else {
-        return put_json(rt, console, name, &bundle, path);
+    let Some(node) = string_at(root(bundle), path.as_bytes()) else {
+        return put_json(rt, console, name, bundle, path);
     };
     match characters_of(rt.alloc(), node) {
         Ok(text) => printed(rt, println!(rt; "{}", console.on_stdout(text.as_str()))),
         Err(_) => refused_on(rt, console, name, "Memory"),
+    }
+}
+
+/// Prints the item of a file at a path as JSON, without fallback, or an alias on the way with the
+/// remaining path. On a terminal, control characters are escaped. A raw String is printed as its
+/// characters and a line feed: a surrogate without its other half as U+FFFD, and on a terminal
+/// control characters escaped as in names.
+///
+/// The status is 0; 1 if the file is refused or has no such item, with the file or the path and the
+/// error's name on standard error; 2 if the file can't be read or standard output can't be written.
+pub fn get<R: Files + AllocGlobal + Print + Eprint>(
+    rt: &R,
+    console: Console,
+    asked: &AskedGet<'_>,
+) -> ExitCode {
+    match accepted(rt, asked.file) {
+        Ok(bundle) if asked.is_raw => put_raw(rt, console, &bundle, (asked.file, asked.path)),
+        Ok(bundle) => put_json(rt, console, asked.file, &bundle, asked.path),
+        Err(error) => finish(rt, console, error),
     }
 }

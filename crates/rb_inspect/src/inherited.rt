@@ -1,9 +1,9 @@
 //! `resb json --inherit`: an item of a locale, with everything that it inherits.
-
 use crate::lookup::file_of;
+use rb_asked::AskedInherited;
 use rb_console::{
-    CommandError, Console, Escapes, Form, Given, ParentsSource, Printing, StartError, all_given,
-    ended, finish, made_of_each, parents_of, printed,
+    CommandError, Console, Escapes, Form, Given, Printing, StartError, all_given, ended, finish,
+    made_of_each, parents_of, printed,
 };
 use rb_engine::App;
 use rb_inherit::{TreeError, TreeLimits, put_tree, tree_size};
@@ -23,23 +23,12 @@ use std::rt::Files;
 /// The application that the bundles of a tree are installed for.
 const APP: &str = "json";
 
-/// The arguments of a tree with inheritance.
-#[derive(Clone, Copy)]
-pub struct Inheritance<'a> {
-    /// The place of explicit parents, if they are given.
-    pub parents: Option<ParentsSource<'a>>,
-    pub locale: &'a str,
-    pub path: &'a str,
-}
-
-impl<'a> Inheritance<'a> {
-    /// Returns the argument that an error of the tree is reported with.
-    fn place(&self) -> &'a str {
-        if self.path.is_empty() {
-            self.locale
-        } else {
-            self.path
-        }
+/// Returns the argument that an error of the tree is reported with.
+fn place_of<'a>(asked: &AskedInherited<'a>) -> &'a str {
+    if asked.path.is_empty() {
+        asked.locale
+    } else {
+        asked.path
     }
 }
 
@@ -104,7 +93,7 @@ fn print_inherited<'a, R: AllocGlobal + Print + Eprint>(
     packages: &Packages,
     app: &App,
     parents: &Parents,
-    asked: Inheritance<'a>,
+    asked: &AskedInherited<'a>,
     escapes: Escapes,
 ) -> Result<ExitCode, CommandError<'a>> {
     let Ok(name) = Name::read(asked.locale.as_bytes()) else {
@@ -118,14 +107,14 @@ fn print_inherited<'a, R: AllocGlobal + Print + Eprint>(
     match put_inherited(&mut out, rt.alloc(), packages, app, parents, place) {
         Ok(()) => Ok(printed(rt, out.end_line())),
         Err(TreeError::Memory) => Err(CommandError::NotStarted(StartError::Memory)),
-        Err(error) => Err(CommandError::Refused(asked.place(), error.word())),
+        Err(error) => Err(CommandError::Refused(place_of(asked), error.word())),
     }
 }
 
 /// Prints the tree as `print_tree` does, over arguments that are split.
 fn print_over<'a, R: Files + RandomSource + AllocGlobal + Print + Eprint>(
     rt: &R,
-    asked: Inheritance<'a>,
+    asked: &AskedInherited<'a>,
     escapes: Escapes,
     bundles: &[Given<'a>],
 ) -> Result<ExitCode, CommandError<'a>> {
@@ -150,15 +139,18 @@ fn print_over<'a, R: Files + RandomSource + AllocGlobal + Print + Eprint>(
 /// files, as one JSON value and a line feed. The arguments name bundles as those of `look_up` do.
 ///
 /// The status is 0; 1 if a file is refused, or if there is no tree, with the file, or the path or
-/// else the locale, and the error's name on standard error; 2 for an argument without a locale's
-/// name, a file that can't be read, and if standard output can't be written.
+/// else the locale, and the error's name on standard error; 2 for `--pretty`, an argument without a
+/// locale's name, a file that can't be read, and if standard output can't be written.
 pub fn print_tree<R: Files + RandomSource + AllocGlobal + Print + Eprint>(
     rt: &R,
     console: Console,
-    asked: Inheritance<'_>,
-    arguments: &[&str],
+    asked: &AskedInherited<'_>,
 ) -> ExitCode {
-    let bundles = match all_given(rt.alloc(), Form::ByStem, arguments) {
+    if asked.is_pretty {
+        let _ = eprintln!(rt; "resb: --pretty is not for --inherit");
+        return ExitCode::from(2);
+    }
+    let bundles = match all_given(rt.alloc(), Form::ByStem, &asked.files) {
         Ok(bundles) => bundles,
         Err(error) => return finish(rt, console, CommandError::NotStarted(error)),
     };

@@ -12,9 +12,9 @@ mod trace;
 mod trace_steps;
 mod words;
 
-pub use checking::{check, check_all, check_json};
+pub use checking::check;
 pub use explain_words::explain;
-pub use getting::{get, get_raw};
-pub use inherited::{Inheritance, print_tree};
+pub use getting::get;
+pub use inherited::print_tree;
 pub use item::{ItemError, put_at};
-pub use lookup::{Lookup, look_up};
+pub use lookup::look_up;

@@ -6,9 +6,10 @@ ghost use Rattle.rb_replies.specs.Replied.{reply_line};
 ghost use Rattle.rb_inspect.specs.Looking.{IsFoundWith, is_found, look_status, looked_up};
 
 use crate::trace::{Trace, file_named};
+use rb_asked::AskedLookup;
 use rb_console::{
-    CommandError, Console, Form, Given, ParentsSource, Printing, Refusal, StartError, all_given,
-    ended, finish, is_text, made_of_each, not_started_on, parents_of, printed,
+    CommandError, Console, Form, Given, Printing, Refusal, StartError, all_given, ended, finish,
+    is_text, made_of_each, not_started_on, parents_of, printed,
 };
 use rb_engine::{App, Engine, Payload, Reply, Request, compile};
 use rb_explain::Of;
@@ -30,17 +31,6 @@ use std::rt::Files;
 
 /// The application that the bundles of a lookup are installed for.
 const APP: &str = "look";
-
-/// The arguments of a lookup.
-#[derive(Clone, Copy)]
-pub struct Lookup<'a> {
-    /// The place of explicit parents, if they are given.
-    pub parents: Option<ParentsSource<'a>>,
-    pub locale: &'a str,
-    pub path: &'a str,
-    /// The steps of the search are written to standard error.
-    pub is_traced: bool,
-}
 
 /// Returns the file of a bundle, compiled if it is a text.
 pub(crate) fn file_of(alloc: Global, name: &str, bytes: Vec<u8>) -> Result<Vec<u8>, Refusal> {
@@ -101,11 +91,11 @@ fn install_all<'a>(
 
 /// Writes the reply to a lookup over an engine, and returns whether something is found.
 #[tactic(auto, using(crate::proofs::Looking::found_by))]
-fn put_answer<O: Outlet>(out: &mut O, engine: &Engine, lookup: Lookup<'_>) -> bool
+fn put_answer<O: Outlet>(out: &mut O, engine: &Engine, lookup: &AskedLookup<'_>) -> bool
     ensures reply { O.takes out.old out.new (reply_line (Some
-        (looked_up engine.now lookup.entry.locale.now lookup.entry.path.now))) }
+        (looked_up engine.now lookup.now.locale.now lookup.now.path.now))) }
     ensures found { result
-        ≡ is_found (looked_up engine.now lookup.entry.locale.now lookup.entry.path.now) }
+        ≡ is_found (looked_up engine.now lookup.now.locale.now lookup.now.path.now) }
 {
     let (locale, path) = (lookup.locale.as_bytes(), lookup.path.as_bytes());
     let found = engine.look(APP.as_bytes(), locale, path);
@@ -129,10 +119,10 @@ fn answer<R: AllocGlobal + Print + Eprint>(
     rt: &R,
     console: Console,
     engine: &Engine,
-    lookup: Lookup<'_>,
+    lookup: &AskedLookup<'_>,
 ) -> ExitCode
     ensures found { exit_status result ≡ 0
-        → is_found (looked_up engine.now lookup.entry.locale.now lookup.entry.path.now) ≡ true }
+        → is_found (looked_up engine.now lookup.now.locale.now lookup.now.path.now) ≡ true }
 {
     let Ok(writer) = BufWriter::new(rt.alloc(), io::writer(rt)) else {
         return not_started_on(rt, console, StartError::Memory);
@@ -221,7 +211,7 @@ fn say_search<'a, R: Eprint>(
 fn say_trace<R: RandomSource + AllocGlobal + Eprint>(
     rt: &R,
     console: Console,
-    lookup: Lookup<'_>,
+    lookup: &AskedLookup<'_>,
     parents: &Parents,
     bundles: &[Given<'_>],
     files: &[Vec<u8>],
@@ -244,11 +234,11 @@ fn say_trace<R: RandomSource + AllocGlobal + Eprint>(
 fn look_over<'a, R: Files + RandomSource + AllocGlobal + Print + Eprint>(
     rt: &R,
     console: Console,
-    lookup: Lookup<'a>,
+    lookup: &AskedLookup<'a>,
     bundles: &[Given<'a>],
 ) -> Result<ExitCode, CommandError<'a>>
     ensures found { IfOk result (λ status. exit_status status ≡ 0
-        → IsFoundWith lookup.entry.parents lookup.entry.locale.now lookup.entry.path.now) }
+        → IsFoundWith lookup.now.parents lookup.now.locale.now lookup.now.path.now) }
 {
     let alloc = rt.alloc();
     let parents = match parents_of(rt, lookup.parents) {
@@ -282,13 +272,12 @@ fn look_over<'a, R: Files + RandomSource + AllocGlobal + Print + Eprint>(
 pub fn look_up<R: Files + RandomSource + AllocGlobal + Print + Eprint>(
     rt: &R,
     console: Console,
-    lookup: Lookup<'_>,
-    arguments: &[&str],
+    lookup: &AskedLookup<'_>,
 ) -> ExitCode
     ensures found { exit_status result ≡ 0
-        → IsFoundWith lookup.entry.parents lookup.entry.locale.now lookup.entry.path.now }
+        → IsFoundWith lookup.now.parents lookup.now.locale.now lookup.now.path.now }
 {
-    let bundles = match all_given(rt.alloc(), Form::ByStem, arguments) {
+    let bundles = match all_given(rt.alloc(), Form::ByStem, &lookup.files) {
         Ok(bundles) => bundles,
         Err(error) => return finish(rt, console, CommandError::NotStarted(error)),
     };

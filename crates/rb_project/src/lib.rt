@@ -18,7 +18,7 @@ mod walk;
 pub use first_settings::init;
 pub use modules::{ModuleTexts, Modules};
 pub use pattern::matches;
-pub use project::{Configured, Project, open_project};
+pub use project::{Project, open_project};
 pub use settings::Section;
 pub use sides::sides_of;
 pub use texts::{Text, names_of, root_of, texts_of};

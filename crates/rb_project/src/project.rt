@@ -2,6 +2,7 @@
 use crate::fault::SettingsFault;
 use crate::names::whole_name;
 use crate::settings::Settings;
+use rb_asked::Configured;
 use rb_console::{Console, StartError, cannot_read_on, not_started_on, read_file};
 use std::alloc::{AllocError, Global};
 use std::process::ExitCode;
@@ -12,15 +13,6 @@ pub(crate) const NAME: &str = "resb.toml";
 
 /// The most folders in which a settings file is searched for.
 const LEVELS: usize = 64;
-
-/// The words of a command line that choose a settings file.
-#[derive(Clone, Copy)]
-pub struct Configured<'a> {
-    /// The file, if one is named.
-    pub file: Option<&'a str>,
-    /// No file is read.
-    pub is_none: bool,
-}
 
 /// The settings of a project, and where they are.
 #[derive(Drop)]

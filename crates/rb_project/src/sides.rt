@@ -1,6 +1,7 @@
 //! The two sides of a comparison, each of which may be a module.
 use crate::modules::Modules;
-use crate::project::{Configured, Project, open_project};
+use crate::project::{Project, open_project};
+use rb_asked::Configured;
 use rb_console::{Console, StartError, not_started_on};
 use std::alloc::{AllocError, Global};
 use std::process::ExitCode;

@@ -1,30 +1,20 @@
 //! `resb coverage`.
 use crate::coverage_output::{CoverageFormat, Printed, name_at, put_head};
 use crate::data::read_data;
+use rb_asked::AskedCoverage;
 use rb_console::{
-    CommandError, Console, Form, Given, ParentsSource, StartError, all_given, finish, folder_of,
-    not_started_on, printed, read_given, refused_on,
+    CommandError, Console, Form, Given, StartError, all_given, finish, folder_of, not_started_on,
+    printed, read_given, refused_on,
 };
 use rb_coverage::{Counts, Coverage, CoverageFault, Found, ProjectData};
 use rb_locales::Name;
 use rb_parser::{Source, parse};
-use rb_project::{Configured, Modules, Project, Section, Text, names_of, open_project, texts_of};
+use rb_project::{Modules, Project, Section, Text, names_of, open_project, texts_of};
 use rb_tree::Tree;
 use std::alloc::{AllocError, Global};
 use std::io;
 use std::process::ExitCode;
 use std::rt::Files;
-
-/// The words of the command line of `resb coverage`.
-#[derive(Clone, Copy)]
-pub struct CoverageWords<'a> {
-    /// The place of explicit parents, if they are given.
-    pub parents: Option<ParentsSource<'a>>,
-    pub format: Option<&'a str>,
-    /// Each as `LOCALE=FILE`, or `FILE`, whose stem is the locale, or a folder of modules.
-    pub files: &'a [&'a str],
-    pub config: Configured<'a>,
-}
 
 /// The bundles of one folder.
 #[derive(Clone, Copy)]
@@ -338,7 +328,7 @@ fn cover_bundles<R: Files + AllocGlobal + Print + Eprint>(
     rt: &R,
     console: Console,
     format: CoverageFormat,
-    words: &CoverageWords<'_>,
+    asked: &AskedCoverage<'_>,
     project: &Project,
     bundles: &[Given<'_>],
 ) -> ExitCode {
@@ -351,7 +341,7 @@ fn cover_bundles<R: Files + AllocGlobal + Print + Eprint>(
         rt,
         console,
         project,
-        words.parents,
+        asked.parents,
         parents_section(project),
     ) {
         Ok(data) => cover_modules(rt, console, (format, least), &data, bundles),
@@ -364,13 +354,13 @@ fn cover_project<R: Files + AllocGlobal + Print + Eprint>(
     rt: &R,
     console: Console,
     format: CoverageFormat,
-    words: &CoverageWords<'_>,
+    asked: &AskedCoverage<'_>,
     project: &Project,
     texts: &[Text],
 ) -> Result<ExitCode, AllocError> {
     let names = names_of(rt.alloc(), texts)?;
     match ordered_bundles(rt.alloc(), &names) {
-        Ok(bundles) => Ok(cover_bundles(rt, console, format, words, project, &bundles)),
+        Ok(bundles) => Ok(cover_bundles(rt, console, format, asked, project, &bundles)),
         Err(error) => Ok(not_started_on(rt, console, error)),
     }
 }
@@ -380,12 +370,12 @@ fn cover_texts<R: Files + AllocGlobal + Print + Eprint>(
     rt: &R,
     console: Console,
     format: CoverageFormat,
-    words: &CoverageWords<'_>,
+    asked: &AskedCoverage<'_>,
     project: &Project,
 ) -> Result<ExitCode, AllocError> {
     let modules = Modules::of(rt.alloc(), project)?;
-    match texts_of(rt, console, &modules, words.files) {
-        Ok(texts) => cover_project(rt, console, format, words, project, &texts),
+    match texts_of(rt, console, &modules, &asked.texts) {
+        Ok(texts) => cover_project(rt, console, format, asked, project, &texts),
         Err(status) => Ok(status),
     }
 }
@@ -403,17 +393,17 @@ fn cover_texts<R: Files + AllocGlobal + Print + Eprint>(
 pub fn cover_all<R: Files + AllocGlobal + Print + Eprint>(
     rt: &R,
     console: Console,
-    words: &CoverageWords<'_>,
+    asked: &AskedCoverage<'_>,
 ) -> ExitCode {
-    let Some(format) = CoverageFormat::named(words.format) else {
+    let Some(format) = CoverageFormat::named(asked.format) else {
         let _ = eprintln!(rt; "resb: --format is table, list, json or csv");
         return ExitCode::from(2);
     };
-    let project = match open_project(rt, console, words.config, &[]) {
+    let project = match open_project(rt, console, asked.config, &[]) {
         Ok(project) => project,
         Err(status) => return status,
     };
-    match cover_texts(rt, console, format, words, &project) {
+    match cover_texts(rt, console, format, asked, &project) {
         Ok(status) => status,
         Err(_) => not_started_on(rt, console, StartError::Memory),
     }

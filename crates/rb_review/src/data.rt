@@ -1,8 +1,9 @@
 //! Reads what the settings share among all modules: explicit parents, and the bundles of ICUDATA.
 use crate::coverage::{Module, ordered_bundles, read_module, second_file};
+use rb_asked::ParentsSource;
 use rb_console::{
-    Console, Given, ParentsSource, StartError, cannot_read_on, finish, in_folder, is_folder,
-    is_text, not_started_on, parents_of, read_names, refused_on, stem,
+    Console, Given, StartError, cannot_read_on, finish, in_folder, is_folder, is_text,
+    not_started_on, parents_of, read_names, refused_on, stem,
 };
 use rb_coverage::ProjectData;
 use rb_locales::Name;

@@ -14,6 +14,5 @@ mod same_texts;
 mod snippet;
 mod string_limits;
 
-pub use coverage::{CoverageWords, cover_all};
-pub use lint_words::LintWords;
-pub use linting::{lint_all, list_rules};
+pub use coverage::cover_all;
+pub use linting::lint_all;

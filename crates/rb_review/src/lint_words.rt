@@ -1,33 +1,10 @@
 //! The words of `resb lint`'s command line.
 use crate::left_out::with_texts;
+use rb_asked::AskedLint;
 use rb_console::Console;
 use rb_lint::{Levels, Rule, RuleSet};
-use rb_project::{Configured, Project};
+use rb_project::Project;
 use std::alloc::{AllocError, Global};
-
-/// The arguments of `resb lint`.
-#[derive(Clone, Copy)]
-pub struct LintWords<'a> {
-    /// The root's text, to compare with.
-    pub root: Option<&'a str>,
-    /// The name of standard input's text.
-    pub name: Option<&'a str>,
-    /// The names of warnings that are left out, and of those that are errors.
-    pub allow: &'a [&'a str],
-    pub deny: &'a [&'a str],
-    pub format: Option<&'a str>,
-    /// When the output has colours: `auto`, `always` or `never`.
-    pub color: Option<&'a str>,
-    /// The environment asks for no colours.
-    pub is_colorless: bool,
-    /// Warnings count for the status.
-    pub is_strict: bool,
-    /// No warning is left out.
-    pub is_all: bool,
-    /// Texts, and folders of modules.
-    pub texts: &'a [&'a str],
-    pub config: Configured<'a>,
-}
 
 /// The forms of the output.
 #[derive(Clone, Copy, PartialEq, Eq)]
@@ -61,9 +38,10 @@ impl Format {
 }
 
 /// Returns whether the output has colours, or None if the word is neither `auto`, `always` nor `never`.
-pub(crate) fn has_colors(words: &LintWords<'_>, console: Console) -> Option<bool> {
-    match words.color {
-        None | Some("auto") => Some(console.is_output_terminal && !words.is_colorless),
+/// On a terminal it may have them.
+pub(crate) fn has_colors(word: Option<&str>, console: Console, may_have: bool) -> Option<bool> {
+    match word {
+        None | Some("auto") => Some(console.is_output_terminal && may_have),
         Some("always") => Some(true),
         Some("never") => Some(false),
         Some(_) => None,
@@ -88,11 +66,11 @@ fn rules_of<R: Eprint>(rt: &R, console: Console, names: &[&str]) -> Option<RuleS
 pub(crate) fn levels_of<R: Eprint>(
     rt: &R,
     console: Console,
-    words: &LintWords<'_>,
+    asked: &AskedLint<'_>,
 ) -> Option<Levels> {
     Some(Levels {
-        allowed: rules_of(rt, console, words.allow)?,
-        denied: rules_of(rt, console, words.deny)?,
+        allowed: rules_of(rt, console, &asked.allow)?,
+        denied: rules_of(rt, console, &asked.deny)?,
         wanted: RuleSet::none(),
     })
 }

@@ -3,10 +3,11 @@ use crate::baseline::Baseline;
 use crate::data::{TextLinks, read_data};
 use crate::left_out::{LeftOut, path_at};
 use crate::lint_output::LintOutput;
-use crate::lint_words::{Format, LintWords, has_colors, levels_of, rule_names, with_settings};
+use crate::lint_words::{Format, has_colors, levels_of, rule_names, with_settings};
 use crate::same_texts::SameTexts;
 use crate::snippet::Lines;
 use crate::string_limits::StringLimits;
+use rb_asked::AskedLint;
 use rb_console::{
     Console, StartError, cannot_read_on, not_started_on, printed, read_file, read_text, refused_on,
     stem,
@@ -84,7 +85,7 @@ enum Beside {
 #[derive(Clone, Copy)]
 struct Common<'a> {
     levels: Levels,
-    words: &'a LintWords<'a>,
+    asked: &'a AskedLint<'a>,
     modules: &'a Modules<'a>,
     data: &'a ProjectData,
 }
@@ -92,7 +93,7 @@ struct Common<'a> {
 impl<'a> Common<'a> {
     /// Returns how many warnings of a text are printed.
     fn limit(self) -> usize {
-        if self.words.is_all {
+        if self.asked.is_all {
             usize::MAX
         } else {
             WARNING_LIMIT
@@ -101,7 +102,7 @@ impl<'a> Common<'a> {
 
     /// Checks whether warnings count for the status.
     fn is_strict(self) -> bool {
-        self.words.is_strict || self.modules.project.settings.section("lint").flag("strict")
+        self.asked.is_strict || self.modules.project.settings.section("lint").flag("strict")
     }
 }
 
@@ -350,7 +351,7 @@ impl<'a> Linter<'a> {
             return ExitCode::SUCCESS;
         };
         let file = text.name.as_str();
-        let name = match self.common.words.name {
+        let name = match self.common.asked.name {
             Some(name) if file == "-" => name,
             _ => file,
         };
@@ -505,7 +506,7 @@ fn lint_beside<R: Files + Input + AllocGlobal + Print + Eprint>(
     common: Common<'_>,
     named: Option<RootText>,
 ) -> Result<ExitCode, ExitCode> {
-    let texts = texts_of(rt, output.console, common.modules, common.words.texts)?;
+    let texts = texts_of(rt, output.console, common.modules, &common.asked.texts)?;
     let mut linter = Linter {
         common,
         output,
@@ -524,15 +525,15 @@ fn lint_modules<R: Files + Input + AllocGlobal + Print + Eprint>(
     rt: &R,
     output: LintOutput,
     levels: Levels,
-    words: &LintWords<'_>,
+    asked: &AskedLint<'_>,
     modules: &Modules<'_>,
 ) -> Result<ExitCode, ExitCode> {
     let section = modules.project.settings.section("data");
     let data = read_data(rt, output.console, modules.project, None, section)?;
-    let named = read_named(rt, output.console, words.root)?;
+    let named = read_named(rt, output.console, asked.root)?;
     let common = Common {
         levels,
-        words,
+        asked,
         modules,
         data: &data,
     };
@@ -544,12 +545,12 @@ fn lint_with<R: Files + Input + AllocGlobal + Print + Eprint>(
     rt: &R,
     output: LintOutput,
     levels: Levels,
-    words: &LintWords<'_>,
+    asked: &AskedLint<'_>,
     project: &Project,
 ) -> Result<ExitCode, AllocError> {
     let levels = with_settings(rt.alloc(), levels, project)?;
     let modules = Modules::of(rt.alloc(), project)?;
-    Ok(match lint_modules(rt, output, levels, words, &modules) {
+    Ok(match lint_modules(rt, output, levels, asked, &modules) {
         Ok(status) | Err(status) => status,
     })
 }
@@ -559,51 +560,18 @@ fn lint_settings<R: Files + Input + AllocGlobal + Print + Eprint>(
     rt: &R,
     output: LintOutput,
     levels: Levels,
-    words: &LintWords<'_>,
+    asked: &AskedLint<'_>,
 ) -> ExitCode {
     let Ok(rules) = rule_names(rt.alloc()) else {
         return not_started_on(rt, output.console, StartError::Memory);
     };
-    let project = match open_project(rt, output.console, words.config, &rules) {
+    let project = match open_project(rt, output.console, asked.config, &rules) {
         Ok(project) => project,
         Err(status) => return status,
     };
-    match lint_with(rt, output, levels, words, &project) {
+    match lint_with(rt, output, levels, asked, &project) {
         Ok(status) => status,
         Err(_) => not_started_on(rt, output.console, StartError::Memory),
-    }
-}
-
-/// Prints what is doubtful in bundle texts, and the error of each text that isn't compiled, in the
-/// order of each text, as `TEXT:LINE:COLUMN: warning: ..`, or in another format: on a terminal with
-/// the line of the text and a caret below the place, in colours. If a root's text
-/// is given, prints also how each text that is compiled differs from it. The status is 0; 1 if a
-/// text has an error or can't be read, with `is_strict` also if there is a warning, and if the
-/// root's text is refused or can't be read, before anything is printed; 2 if a word is no name of a
-/// warning or no format, the settings are refused, a folder has no text of a module, and as soon as
-/// standard output can't be written.
-///
-/// The settings of the project say what is left out, which warnings are errors, and which root's
-/// text a text is compared with if none is given. A folder stands for the texts of its modules.
-pub fn lint_all<R: Files + Input + AllocGlobal + Print + Eprint>(
-    rt: &R,
-    console: Console,
-    words: &LintWords<'_>,
-) -> ExitCode {
-    let Some(format) = Format::named(words.format, console) else {
-        let _ = eprintln!(rt; "resb: --format is text, full, json, sarif or github");
-        return ExitCode::from(2);
-    };
-    let Some(has_colors) = has_colors(words, console) else {
-        let _ = eprintln!(rt; "resb: --color is auto, always or never");
-        return ExitCode::from(2);
-    };
-    match levels_of(rt, console, words) {
-        Some(levels) => {
-            let output = LintOutput::new(format, console, has_colors);
-            lint_settings(rt, output, levels, words)
-        }
-        None => ExitCode::from(2),
     }
 }
 
@@ -616,7 +584,40 @@ fn list<R: Print>(rt: &R) -> io::Result<()> {
     Ok(())
 }
 
-/// Prints the names of all warnings. The status is 0, or 2 if standard output can't be written.
-pub fn list_rules<R: Print + Eprint>(rt: &R) -> ExitCode {
-    printed(rt, list(rt))
+/// Prints what is doubtful in bundle texts, and the error of each text that isn't compiled, in the
+/// order of each text, as `TEXT:LINE:COLUMN: warning: ..`, or in another format: on a terminal with
+/// the line of the text and a caret below the place, in colours. If a root's text
+/// is given, prints also how each text that is compiled differs from it. The status is 0; 1 if a
+/// text has an error or can't be read, with `is_strict` also if there is a warning, and if the
+/// root's text is refused or can't be read, before anything is printed; 2 if a word is no name of a
+/// warning or no format, the settings are refused, a folder has no text of a module, and as soon as
+/// standard output can't be written.
+///
+/// The settings of the project say what is left out, which warnings are errors, and which root's
+/// text a text is compared with if none is given. A folder stands for the texts of its modules. If
+/// the output `is_colorless` it has colours only where they are asked for. With `is_list` the names
+/// of all warnings are printed instead.
+pub fn lint_all<R: Files + Input + AllocGlobal + Print + Eprint>(
+    rt: &R,
+    (console, is_colorless): (Console, bool),
+    asked: &AskedLint<'_>,
+) -> ExitCode {
+    if asked.is_list {
+        return printed(rt, list(rt));
+    }
+    let Some(format) = Format::named(asked.format, console) else {
+        let _ = eprintln!(rt; "resb: --format is text, full, json, sarif or github");
+        return ExitCode::from(2);
+    };
+    let Some(has_colors) = has_colors(asked.color, console, !is_colorless) else {
+        let _ = eprintln!(rt; "resb: --color is auto, always or never");
+        return ExitCode::from(2);
+    };
+    match levels_of(rt, console, asked) {
+        Some(levels) => {
+            let output = LintOutput::new(format, console, has_colors);
+            lint_settings(rt, output, levels, asked)
+        }
+        None => ExitCode::from(2),
+    }
 }

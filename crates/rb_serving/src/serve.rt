@@ -7,11 +7,11 @@ ghost use Rattle.rb_serving.specs.inner.Serving.{AreLimits};
 use crate::batching_writer::{BatchingWriter, LookaheadFeed};
 use crate::server::Server;
 use crate::start::start_engine;
-use rb_arguments::{Asked, AskedLimits};
-use rb_console::{Console, EscapingWriter, ParentsSource, StartError, not_started_on};
+use rb_arguments::{Asked, AskedLimits, AskedServe};
+use rb_console::{Console, EscapingWriter, StartError, not_started_on};
 use rb_engine::Engine;
 use rb_requests::{Limits, ServeFault, WriteSink};
-use rb_running::{Commands, lacking, source_of};
+use rb_running::{Commands, lacking};
 use std::alloc::Global;
 use std::cell::Cell;
 use std::io;
@@ -88,18 +88,6 @@ const KEPT_ITEMS: usize = 4_096;
 /// The number of hints that a server keeps, in 3 MB.
 const KEPT_HINTS: usize = 262_144;
 
-/// The arguments of `resb serve`.
-#[derive(Drop)]
-struct ServeWords<'a> {
-    /// The place of explicit parents, if they are given.
-    pub parents: Option<ParentsSource<'a>>,
-    /// The bundles of ICUDATA, each `LOCALE=FILE`.
-    pub bundles: Vec<&'a str>,
-    pub limits: AskedLimits,
-    /// True if extended requests are answered, too.
-    pub is_extended: bool,
-}
-
 /// Returns the limits that the options give, or `None` if there are none.
 fn limits_of(asked: AskedLimits) -> Option<Limits>
     ensures { AreLimits asked result }
@@ -131,7 +119,7 @@ fn make_room(alloc: Global, engine: &mut Engine)
 /// Starts the server.
 fn start_server<'a, R: Files + RandomSource + AllocGlobal>(
     rt: &R,
-    serving: &ServeWords<'a>,
+    serving: &AskedServe<'a>,
 ) -> Result<Server, StartError<'a>>
     ensures limits { IfOk result (λ server. AreLimits serving.now.limits server.limits) }
     ensures parents { IfOk result
@@ -158,7 +146,7 @@ fn start_server<'a, R: Files + RandomSource + AllocGlobal>(
 fn serve_files<R: Files + RandomSource + Input + Print + Eprint + AllocGlobal>(
     rt: &R,
     console: Console,
-    serving: &ServeWords<'_>,
+    serving: &AskedServe<'_>,
 ) -> ExitCode {
     match start_server(rt, serving) {
         Ok(mut server) => serve_lines(rt, console, &mut server, serving.is_extended),
@@ -175,22 +163,7 @@ impl Commands for Serving {
         R: Files + RandomSource + Clock + AllocGlobal + Input + Print + Eprint + Env + Clone + Drop,
     {
         match asked {
-            Asked::Serve {
-                parents,
-                is_cldr,
-                bundles,
-                limits,
-                is_extended,
-            } => {
-                let parents = source_of(parents, is_cldr);
-                let words = ServeWords {
-                    parents,
-                    bundles,
-                    limits,
-                    is_extended,
-                };
-                serve_files(rt, console, &words)
-            }
+            Asked::Serve(asked) => serve_files(rt, console, &asked),
             _ => lacking(rt),
         }
     }

@@ -5,9 +5,8 @@ ghost use Rattle.rb_engine.specs.Kept.{state_of};
 ghost use Rattle.rb_engine.specs.Start.{IsIndexed};
 ghost use Rattle.rb_console.specs.Starting.{HasParentsFor};
 
-use rb_console::{
-    Form, Given, ParentsSource, StartError, all_given, bytes_of, is_text, parents_of,
-};
+use rb_asked::ParentsSource;
+use rb_console::{Form, Given, StartError, all_given, bytes_of, is_text, parents_of};
 use rb_engine::{Engine, Payload, StartFault};
 use rb_locales::Name;
 use rb_tree::ByteList;

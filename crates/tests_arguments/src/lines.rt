@@ -1,6 +1,7 @@
 //! Tests command lines: which are taken, what they ask for, and which are refused.
 use clap::{ArgMatches, Error};
 use rb_arguments::{Asked, AskedLimits, asked_by, commands_for};
+use rb_asked::ParentsSource;
 use std::alloc::{AllocError, Global};
 use std::test::Fail;
 
@@ -119,160 +120,41 @@ fn reads_command_lines(rt: HostRuntime) {
 
 /// Command lines, with what they ask for.
 const ASKED: &str =
-    r#"resb|compile|-|a.res => Compile { input: "-", output: "a.res", is_forced: false, is_quiet: false }
-resb|compile|--force|a|b => Compile { input: "a", output: "b", is_forced: true, is_quiet: false }
-resb|compile|-q|--to|x|a|b|c|d => CompileAll { folder: "x", from: None, texts: ["a", "b", "c", "d"], is_forced: false, is_quiet: true }
-resb|compile|--to|x|a => CompileAll { folder: "x", from: None, texts: ["a"], is_forced: false, is_quiet: false }
-resb|compile|--from|s|--to|x|s/a => CompileAll { folder: "x", from: Some("s"), texts: ["s/a"], is_forced: false, is_quiet: false }
-resb|compile|--json|a|b => CompileJson { input: "a", output: "b", no_fallback: false, is_forced: false, is_quiet: false }
-resb|compile|--no-fallback|--to|x|--json|a|b => CompileAllJson { folder: "x", from: None, texts: ["a", "b"], no_fallback: true, is_forced: false, is_quiet: false }
-resb|check|-q|a|b => Check { files: ["a", "b"], is_json: false, is_quiet: true }
-resb|check|a|--json => Check { files: ["a"], is_json: true, is_quiet: false }
-resb|get|a|b/c => Get { file: "a", path: "b/c", is_raw: false }
-resb|get|a|--raw|b => Get { file: "a", path: "b", is_raw: true }
-resb|diff|--stat|a|b => Diff { old: "a", new: "b", is_json: false, is_stat: true, config: None, no_config: false }
-resb|diff|a|b|--json|--no-config => Diff { old: "a", new: "b", is_json: true, is_stat: false, config: None, no_config: true }
-resb|diff|--config|c|a|b => Diff { old: "a", new: "b", is_json: false, is_stat: false, config: Some("c"), no_config: false }
-resb|json|a|--pretty => Json { file: "a", path: "", is_pretty: true }
-resb|json|a|b => Json { file: "a", path: "b", is_pretty: false }
-resb|json|--inherit|de|a => Inherited(AskedInherited { parents: None, is_cldr: false, locale: "de", path: "", is_pretty: false, files: ["a"] })
-resb|json|--inherit|de|--parents|p|--path|x/y|a|b|c|d => Inherited(AskedInherited { parents: Some("p"), is_cldr: false, locale: "de", path: "x/y", is_pretty: false, files: ["a", "b", "c", "d"] })
-resb|json|--inherit|de|--cldr-parents|a => Inherited(AskedInherited { parents: None, is_cldr: true, locale: "de", path: "", is_pretty: false, files: ["a"] })
-resb|text|a|--name|de => Text { file: "a", name: Some("de") }
-resb|lint|--root|r|a|b => Lint(AskedLint { root: Some("r"), name: None, allow: [], deny: [], format: None, color: None, is_strict: false, is_all: false, config: None, no_config: false, is_list: false, texts: ["a", "b"] })
-resb|lint|--allow|x|a|--deny|y|--allow|z|--against|r|--root|s|--strict|--all|--format|json|--name|n => Lint(AskedLint { root: Some("r"), name: Some("n"), allow: ["x", "z"], deny: ["y"], format: Some("json"), color: None, is_strict: true, is_all: true, config: None, no_config: false, is_list: false, texts: ["a"] })
-resb|lint|--color|never|a => Lint(AskedLint { root: None, name: None, allow: [], deny: [], format: None, color: Some("never"), is_strict: false, is_all: false, config: None, no_config: false, is_list: false, texts: ["a"] })
-resb|lint|--list => Lint(AskedLint { root: None, name: None, allow: [], deny: [], format: None, color: None, is_strict: false, is_all: false, config: None, no_config: false, is_list: true, texts: [] })
-resb|fmt|--check|-q|a|b => Format(AskedFormat { is_check: true, is_diff: false, is_quiet: true, config: None, no_config: false, texts: ["a", "b"] })
-resb|fmt|--config|c|a => Format(AskedFormat { is_check: false, is_diff: false, is_quiet: false, config: Some("c"), no_config: false, texts: ["a"] })
-resb|lint|--no-config|a => Lint(AskedLint { root: None, name: None, allow: [], deny: [], format: None, color: None, is_strict: false, is_all: false, config: None, no_config: true, is_list: false, texts: ["a"] })
+    r#"resb|compile|-|a.res => Compile(AskedCompile { input: "-", output: "a.res", how: Compiling { is_json: false, no_fallback: false, is_forced: false, is_quiet: false } })
+resb|compile|--force|a|b => Compile(AskedCompile { input: "a", output: "b", how: Compiling { is_json: false, no_fallback: false, is_forced: true, is_quiet: false } })
+resb|compile|-q|--to|x|a|b|c|d => CompileAll(AskedCompileAll { folder: "x", from: None, texts: ["a", "b", "c", "d"], how: Compiling { is_json: false, no_fallback: false, is_forced: false, is_quiet: true } })
+resb|compile|--to|x|a => CompileAll(AskedCompileAll { folder: "x", from: None, texts: ["a"], how: Compiling { is_json: false, no_fallback: false, is_forced: false, is_quiet: false } })
+resb|compile|--from|s|--to|x|s/a => CompileAll(AskedCompileAll { folder: "x", from: Some("s"), texts: ["s/a"], how: Compiling { is_json: false, no_fallback: false, is_forced: false, is_quiet: false } })
+resb|compile|--json|a|b => Compile(AskedCompile { input: "a", output: "b", how: Compiling { is_json: true, no_fallback: false, is_forced: false, is_quiet: false } })
+resb|compile|--no-fallback|--to|x|--json|a|b => CompileAll(AskedCompileAll { folder: "x", from: None, texts: ["a", "b"], how: Compiling { is_json: true, no_fallback: true, is_forced: false, is_quiet: false } })
+resb|check|-q|a|b => Check(AskedCheck { files: ["a", "b"], is_json: false, is_quiet: true })
+resb|check|a|--json => Check(AskedCheck { files: ["a"], is_json: true, is_quiet: false })
+resb|get|a|b/c => Get(AskedGet { file: "a", path: "b/c", is_raw: false })
+resb|get|a|--raw|b => Get(AskedGet { file: "a", path: "b", is_raw: true })
+resb|diff|--stat|a|b => Diff(AskedDiff { old: "a", new: "b", is_json: false, is_stat: true, config: Configured { file: None, is_none: false } })
+resb|diff|a|b|--json|--no-config => Diff(AskedDiff { old: "a", new: "b", is_json: true, is_stat: false, config: Configured { file: None, is_none: true } })
+resb|diff|--config|c|a|b => Diff(AskedDiff { old: "a", new: "b", is_json: false, is_stat: false, config: Configured { file: Some("c"), is_none: false } })
+resb|json|a|--pretty => Json(AskedJson { file: "a", path: "", is_pretty: true })
+resb|json|a|b => Json(AskedJson { file: "a", path: "b", is_pretty: false })
+resb|json|--inherit|de|a => Inherited(AskedInherited { parents: None, locale: "de", path: "", is_pretty: false, files: ["a"] })
+resb|json|--inherit|de|--parents|p|--path|x/y|a|b|c|d => Inherited(AskedInherited { parents: Some(File("p")), locale: "de", path: "x/y", is_pretty: false, files: ["a", "b", "c", "d"] })
+resb|json|--inherit|de|--cldr-parents|a => Inherited(AskedInherited { parents: Some(Cldr), locale: "de", path: "", is_pretty: false, files: ["a"] })
+resb|text|a|--name|de => Text(AskedText { file: "a", name: Some("de") })
+resb|lint|--root|r|a|b => Lint(AskedLint { root: Some("r"), name: None, allow: [], deny: [], format: None, color: None, is_strict: false, is_all: false, config: Configured { file: None, is_none: false }, is_list: false, texts: ["a", "b"] })
+resb|lint|--allow|x|a|--deny|y|--allow|z|--against|r|--root|s|--strict|--all|--format|json|--name|n => Lint(AskedLint { root: Some("r"), name: Some("n"), allow: ["x", "z"], deny: ["y"], format: Some("json"), color: None, is_strict: true, is_all: true, config: Configured { file: None, is_none: false }, is_list: false, texts: ["a"] })
+resb|lint|--color|never|a => Lint(AskedLint { root: None, name: None, allow: [], deny: [], format: None, color: Some("never"), is_strict: false, is_all: false, config: Configured { file: None, is_none: false }, is_list: false, texts: ["a"] })
+resb|lint|--list => Lint(AskedLint { root: None, name: None, allow: [], deny: [], format: None, color: None, is_strict: false, is_all: false, config: Configured { file: None, is_none: false }, is_list: true, texts: [] })
+resb|fmt|--check|-q|a|b => Format(AskedFormat { is_check: true, is_diff: false, is_quiet: true, config: Configured { file: None, is_none: false }, texts: ["a", "b"] })
+resb|fmt|--config|c|a => Format(AskedFormat { is_check: false, is_diff: false, is_quiet: false, config: Configured { file: Some("c"), is_none: false }, texts: ["a"] })
+resb|lint|--no-config|a => Lint(AskedLint { root: None, name: None, allow: [], deny: [], format: None, color: None, is_strict: false, is_all: false, config: Configured { file: None, is_none: true }, is_list: false, texts: ["a"] })
 resb|init|a => Init { folder: Some("a") }
 resb|init => Init { folder: None }
-resb|coverage|--format|csv|a|--parents|p|de=b => Coverage(AskedCoverage { parents: Some("p"), is_cldr: false, format: Some("csv"), config: None, no_config: false, texts: ["a", "de=b"] })
+resb|coverage|--format|csv|a|--parents|p|de=b => Coverage(AskedCoverage { parents: Some(File("p")), format: Some("csv"), config: Configured { file: None, is_none: false }, texts: ["a", "de=b"] })
 resb|explain => Explain { word: None }
 resb|explain|BadInt => Explain { word: Some("BadInt") }
-resb|lines|shop|--op|replace|a|b => Lines { op: Some("replace"), is_json: false, app: "shop", files: ["a", "b"] }
-resb|lines|--json|shop|a => Lines { op: None, is_json: true, app: "shop", files: ["a"] }
-resb|look|--trace|--parents|p|de|x/y|a => Look(AskedLookup { parents: Some("p"), is_cldr: false, locale: "de", path: "x/y", is_traced: true, files: ["a"] })"#;
-
-/// Returns what another command asks for, as a text.
-fn other_text(alloc: Global, asked: &Asked<'_>) -> Result<String, Fail> {
-    Ok(match asked {
-        Asked::Init { folder } => format!(in alloc; "Init {{ folder: {folder:?} }}")?,
-        Asked::Explain { word } => format!(in alloc; "Explain {{ word: {word:?} }}")?,
-        Asked::Lines {
-            op,
-            is_json,
-            app,
-            files,
-        } => format!(in alloc;
-            "Lines {{ op: {op:?}, is_json: {is_json:?}, app: {app:?}, files: {files:?} }}"
-        )?,
-        Asked::Serve {
-            parents,
-            is_cldr,
-            bundles,
-            limits,
-            is_extended,
-        } => format!(in alloc;
-            "Serve {{ parents: {parents:?}, is_cldr: {is_cldr:?}, bundles: {bundles:?}, \
-limits: {limits:?}, is_extended: {is_extended:?} }}"
-        )?,
-        Asked::Inherited(asked) => format!(in alloc; "Inherited({asked:?})")?,
-        Asked::Lint(asked) => format!(in alloc; "Lint({asked:?})")?,
-        Asked::Format(asked) => format!(in alloc; "Format({asked:?})")?,
-        Asked::Coverage(asked) => format!(in alloc; "Coverage({asked:?})")?,
-        Asked::Look(asked) => format!(in alloc; "Look({asked:?})")?,
-        _ => String::new(alloc),
-    })
-}
-
-/// Returns what a command other than `compile` asks for, as a text.
-fn file_text(alloc: Global, asked: &Asked<'_>) -> Result<String, Fail> {
-    Ok(match asked {
-        Asked::Check {
-            files,
-            is_json,
-            is_quiet,
-        } => format!(in alloc;
-            "Check {{ files: {files:?}, is_json: {is_json:?}, is_quiet: {is_quiet:?} }}"
-        )?,
-        Asked::Get { file, path, is_raw } => format!(in alloc;
-            "Get {{ file: {file:?}, path: {path:?}, is_raw: {is_raw:?} }}"
-        )?,
-        Asked::Json {
-            file,
-            path,
-            is_pretty,
-        } => format!(in alloc;
-            "Json {{ file: {file:?}, path: {path:?}, is_pretty: {is_pretty:?} }}"
-        )?,
-        Asked::Text { file, name } => format!(in alloc;
-            "Text {{ file: {file:?}, name: {name:?} }}"
-        )?,
-        Asked::Diff {
-            old,
-            new,
-            is_json,
-            is_stat,
-            config,
-            no_config,
-        } => format!(in alloc;
-            "Diff {{ old: {old:?}, new: {new:?}, is_json: {is_json:?}, \
-is_stat: {is_stat:?}, config: {config:?}, no_config: {no_config:?} }}"
-        )?,
-        _ => other_text(alloc, asked)?,
-    })
-}
-
-/// Returns what a command asks for, as a text.
-fn text_of(alloc: Global, asked: &Asked<'_>) -> Result<String, Fail> {
-    Ok(match asked {
-        Asked::Compile {
-            input,
-            output,
-            is_forced,
-            is_quiet,
-        } => format!(in alloc;
-            "Compile {{ input: {input:?}, output: {output:?}, is_forced: {is_forced:?}, \
-is_quiet: {is_quiet:?} }}"
-        )?,
-        Asked::CompileAll {
-            folder,
-            from,
-            texts,
-            is_forced,
-            is_quiet,
-        } => format!(in alloc;
-            "CompileAll {{ folder: {folder:?}, from: {from:?}, texts: {texts:?}, \
-is_forced: {is_forced:?}, is_quiet: {is_quiet:?} }}"
-        )?,
-        Asked::CompileJson {
-            input,
-            output,
-            no_fallback,
-            is_forced,
-            is_quiet,
-        } => format!(in alloc;
-            "CompileJson {{ input: {input:?}, output: {output:?}, \
-no_fallback: {no_fallback:?}, is_forced: {is_forced:?}, \
-is_quiet: {is_quiet:?} }}"
-        )?,
-        Asked::CompileAllJson {
-            folder,
-            from,
-            texts,
-            no_fallback,
-            is_forced,
-            is_quiet,
-        } => format!(in alloc;
-            "CompileAllJson {{ folder: {folder:?}, from: {from:?}, texts: {texts:?}, \
-no_fallback: {no_fallback:?}, is_forced: {is_forced:?}, \
-is_quiet: {is_quiet:?} }}"
-        )?,
-        _ => file_text(alloc, asked)?,
-    })
-}
+resb|lines|shop|--op|replace|a|b => Lines(AskedLines { op: Some("replace"), is_json: false, app: "shop", files: ["a", "b"] })
+resb|lines|--json|shop|a => Lines(AskedLines { op: None, is_json: true, app: "shop", files: ["a"] })
+resb|look|--trace|--parents|p|de|x/y|a => Look(AskedLookup { parents: Some(File("p")), locale: "de", path: "x/y", is_traced: true, files: ["a"] })"#;
 
 /// Returns what a command line asks for, as a text; empty if it asks for nothing.
 fn asked_text(alloc: Global, words: &[&str]) -> Result<String, Fail> {
@@ -280,7 +162,7 @@ fn asked_text(alloc: Global, words: &[&str]) -> Result<String, Fail> {
         return Ok(String::new(alloc));
     };
     match asked_by(alloc, &matches)? {
-        Some(asked) => text_of(alloc, &asked),
+        Some(asked) => Ok(format!(in alloc; "{asked:?}")?),
         None => Ok(String::new(alloc)),
     }
 }
@@ -327,28 +209,19 @@ const ALL_LIMITS: AskedLimits = AskedLimits {
 fn serves(
     alloc: Global,
     line: &str,
-    wanted: (Option<&str>, bool, &[&str]),
+    wanted: (Option<ParentsSource<'_>>, &[&str]),
     limits_wanted: AskedLimits,
     is_extended_wanted: bool,
 ) -> Result<bool, Fail> {
     let words = words_of(alloc, line)?;
     let matches = commands_for(alloc, None)?.try_get_matches_from(words.as_slice())?;
     match asked_by(alloc, &matches)? {
-        Some(
-            Asked::Serve {
-                parents,
-                is_cldr,
-                bundles,
-                limits,
-                is_extended,
-            },
-        ) => {
+        Some(Asked::Serve(asked)) => {
             Ok(
-                parents == wanted.0
-                    && is_cldr == wanted.1
-                    && bundles.as_slice() == wanted.2
-                    && limits == limits_wanted
-                    && is_extended == is_extended_wanted,
+                asked.parents == wanted.0
+                    && asked.bundles.as_slice() == wanted.1
+                    && asked.limits == limits_wanted
+                    && asked.is_extended == is_extended_wanted,
             )
         }
         _ => Ok(false),
@@ -361,7 +234,7 @@ const LIMITED: &str =
 #[test]
 fn says_what_is_served(rt: HostRuntime) -> Result<(), Fail> {
     let alloc = rt.alloc();
-    assert!(rt; serves(alloc, "resb|serve", (None, false, &[]), NO_LIMITS, false)?);
+    assert!(rt; serves(alloc, "resb|serve", (None, &[]), NO_LIMITS, false)?);
     let twelve = AskedLimits {
         apps: Some(12),
         ..NO_LIMITS
@@ -371,7 +244,7 @@ fn says_what_is_served(rt: HostRuntime) -> Result<(), Fail> {
         serves(
             alloc,
             line,
-            (Some("p"), false, &["de=a", "fr=b"]),
+            (Some(ParentsSource::File("p")), &["de=a", "fr=b"]),
             twelve,
             true
         )?
@@ -380,12 +253,12 @@ fn says_what_is_served(rt: HostRuntime) -> Result<(), Fail> {
         serves(
             alloc,
             "resb|serve|--cldr-parents|a",
-            (None, true, &["a"]),
+            (Some(ParentsSource::Cldr), &["a"]),
             NO_LIMITS,
             false
         )?
     );
-    assert!(rt; serves(alloc, LIMITED, (None, false, &[]), ALL_LIMITS, false)?);
+    assert!(rt; serves(alloc, LIMITED, (None, &[]), ALL_LIMITS, false)?);
     Ok(())
 }
 
@@ -415,7 +288,7 @@ resb|check|--pretty|a.res";
 fn answer(alloc: Global, taken: Result<ArgMatches<'_>, Error>) -> Result<String, Fail> {
     match taken {
         Ok(matches) => match asked_by(alloc, &matches)? {
-            Some(asked) => text_of(alloc, &asked),
+            Some(asked) => Ok(format!(in alloc; "{asked:?}")?),
             None => Ok(String::new(alloc)),
         },
         Err(error) => Ok(format!(in alloc; "{}: {error}", error.exit_code())?),

@@ -4,9 +4,10 @@ mod desk;
 mod faults;
 
 use desk::Desk;
+use rb_asked::{AskedCheck, AskedCompile, Compiling};
 use rb_console::{Console, StartError, not_started_on, stem};
 use rb_convert::{compile, name_of};
-use rb_inspect::check_all;
+use rb_inspect::check;
 use std::alloc::Global;
 use std::process::ExitCode;
 
@@ -53,9 +54,24 @@ fn desk_of(alloc: Global, files: &[(&str, &[u8])]) -> Desk {
     desk
 }
 
+/// Returns what `compile in.txt OUT` asks for.
+fn compiling(output: &str) -> AskedCompile<'_> {
+    AskedCompile {
+        input: "in.txt",
+        output,
+        how: Compiling {
+            is_json: false,
+            no_fallback: false,
+            is_forced: false,
+            is_quiet: false,
+        },
+    }
+}
+
 /// Checks that a text can't be written to a file of a small disk.
 fn is_unwritten(desk: &Desk, file: &str, errors: &str) -> bool {
-    ended(desk, compile(desk, "in.txt", file), 2, "", errors)
+    let status = compile(desk, Console::plain(), &compiling(file));
+    ended(desk, status, 2, "", errors)
 }
 
 fn keeps_older_files(desk: &Desk) -> bool {
@@ -121,8 +137,15 @@ fn tells_a_terminal(desk: &Desk) -> bool {
     let output = "good.res: ok, 1 visits\n";
     let errors =
         "\r1 of 2\u{1b}[K\r\u{1b}[Kbad.res: TooDeep (resb explain TooDeep)\n\r2 of 2\u{1b}[K\r\u{1b}[K";
-    let all = check_all(desk, TERMINAL, &["good.res", "bad.res"]);
-    ended(desk, all, 1, output, errors)
+    let Ok(files) = ["good.res", "bad.res"].as_slice().to_vec(desk.alloc()) else {
+        return false;
+    };
+    let asked = AskedCheck {
+        files,
+        is_json: false,
+        is_quiet: false,
+    };
+    ended(desk, check(desk, TERMINAL, &asked), 1, output, errors)
 }
 
 #[test]

@@ -4,7 +4,7 @@ use std::cell::{Cell, RefCell};
 use std::fmt::Display;
 use std::fs::{Metadata, OpenFile, OpenOptions, Permissions};
 use std::io;
-use std::io::{ErrorKind, Read, Seek, SeekFrom, Write};
+use std::io::{BufRead, ErrorKind, Lines, Read, Seek, SeekFrom, Write};
 use std::random::RandomSource;
 use std::rc::Rc;
 use std::rt::{Clock, Files};
@@ -224,6 +224,22 @@ impl Eprint for Desk {
 
     fn eprintln<D: Display + Drop>(&self, value: D) -> io::Result<()> {
         self.say(&self.errors, value, "\n")
+    }
+}
+
+impl Input for Desk {
+    type Reader = &'static [u8];
+
+    fn read_line<A: Allocator + Clone>(&self, buf: &mut String<A>) -> io::Result<usize> {
+        self.reader().read_line(buf)
+    }
+
+    fn lines<A: Allocator>(&self, alloc: A) -> Lines<&'static [u8], A> {
+        self.reader().lines(alloc)
+    }
+
+    fn reader(&self) -> &'static [u8] {
+        &[]
     }
 }
 

@@ -1,13 +1,14 @@
 //! Files that are written while one call of the runtime fails, and links in place of files.
 use super::desk::{Desk, Paper};
 use super::{EMPTY, ONE_STRING};
+use rb_console::Console;
 use rb_convert::compile;
 use std::alloc::{Allocator, Global};
 use std::cell::Cell;
 use std::fmt::Display;
 use std::fs::{Metadata, OpenFile, OpenOptions, Permissions};
 use std::io;
-use std::io::{ErrorKind, Read, Seek, SeekFrom, Write};
+use std::io::{ErrorKind, Lines, Read, Seek, SeekFrom, Write};
 use std::path::PathBuf;
 use std::process::ExitCode;
 use std::random::RandomSource;
@@ -145,6 +146,22 @@ impl<'a> Eprint for Faulty<'a> {
     }
 }
 
+impl<'a> Input for Faulty<'a> {
+    type Reader = &'static [u8];
+
+    fn read_line<A: Allocator + Clone>(&self, buf: &mut String<A>) -> io::Result<usize> {
+        self.desk.read_line(buf)
+    }
+
+    fn lines<A: Allocator>(&self, alloc: A) -> Lines<&'static [u8], A> {
+        self.desk.lines(alloc)
+    }
+
+    fn reader(&self) -> &'static [u8] {
+        self.desk.reader()
+    }
+}
+
 impl<'a> RandomSource for Faulty<'a> {
     fn fill_bytes(&self, buf: &mut [u8]) -> io::Result<()> {
         self.desk.fill_bytes(buf)
@@ -235,7 +252,7 @@ fn compiled(alloc: Global, call: u64, output: &str) -> (Desk, bool) {
         desk: &desk,
         left: &left,
     };
-    let status = compile(&faulty, "in.txt", output);
+    let status = compile(&faulty, Console::plain(), &super::compiling(output));
     (desk, status == ExitCode::SUCCESS)
 }
 
