@@ -122,7 +122,7 @@ func (r *Runner) Patched(ctx context.Context, b manifest.Bundle, body, patch []b
 	}
 	old, err := r.JSON(engine.File, file)
 	if err == nil {
-		err = hold(int64(len(file) + 4*len(old) + 2*len(patch)))
+		err = hold(int64(3*len(file) + 4*len(old) + 2*len(patch)))
 	}
 	if err != nil {
 		return nil, false, err
@@ -134,17 +134,17 @@ func (r *Runner) Patched(ctx context.Context, b manifest.Bundle, body, patch []b
 	}
 	defer after.Discard()
 	new, err := after.JSON()
-	if err == nil && b.Kind == engine.File {
+	switch same = bytes.Equal(bytes.TrimSpace(old), new); {
+	case err != nil || same:
+	case b.Kind == engine.File:
 		made, err = after.File()
-	} else if err == nil {
-		var text string
-		text, err = after.Text(b.Locale)
-		made = []byte(text)
+	default:
+		made, err = textAfter(b.Locale, body, old, new, after)
 	}
 	if err == nil {
 		err = hold(int64(len(made) + len(new)))
 	}
-	return made, bytes.Equal(bytes.TrimSpace(old), new), engine.FaultOf(err)
+	return made, same, engine.FaultOf(err)
 }
 
 // prepared returns the bundle that a patch made. Only the program sets the flag.

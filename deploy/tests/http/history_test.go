@@ -144,6 +144,9 @@ func TestPatches(t *testing.T) {
 	}
 }
 
+// TestPatchesKeepComments of a text, its layout and its order, unless items are removed.
+func TestPatchesKeepComments(t *testing.T) { beside(t).script("PatchesKeepComments") }
+
 // TestPatchesThatAreRefused change nothing.
 func TestPatchesThatAreRefused(t *testing.T) {
 	s := beside(t, "-text-bytes", "2000")
