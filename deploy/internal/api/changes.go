@@ -28,7 +28,7 @@ type payload struct {
 
 // payloadOf finds the form of the body: the suffix of the name says it, or else the type.
 func payloadOf(c *call, name string) payload {
-	if locale, form, ok := wire.FormOf(name); ok && form.Kind != "" {
+	if locale, form, ok := wire.FormOf(name); ok {
 		return payload{locale: locale, kind: form.Kind}
 	}
 	p := payload{locale: name}
@@ -40,6 +40,8 @@ func payloadOf(c *call, name string) payload {
 		p.kind = engine.Text
 	case kind == wire.File:
 		p.kind = engine.File
+	case kind == wire.JSON:
+		p.kind = convert.JSON
 	}
 	return p
 }
@@ -115,7 +117,7 @@ func readPut(c *call, given *payload, edit *replica.Edit) (err error) {
 	}
 	now := c.Backend.Now(c.App)
 	b := now.Find(edit.Locale)
-	if edit.If != nil && c.Options.Alone && !edit.If(b) && (b == nil || b.Bytes != c.R.ContentLength) {
+	if edit.If != nil && c.Options.Alone && !edit.If(b) && (b == nil || given.kind != convert.JSON && b.Bytes != c.R.ContentLength) {
 		c.Tell(now.Revision)
 		return wire.Unmet
 	}
@@ -147,9 +149,23 @@ func condition(c *call, edit *replica.Edit) func(*manifest.Bundle) bool {
 	return func(now *manifest.Bundle) bool { return given.Hold(now, edit.Digest) }
 }
 
-// prepare reads and checks the bundle of an edit, once it is the turn of the application.
+// prepare reads and checks the bundle of an edit, once it is the turn of the application. JSON is stored as a text.
 func prepare(c *call, edit *replica.Edit, given payload) error {
-	return c.Long(c.Context(), int64(len(given.body)), func() error { return prepareNow(edit, given.kind, given.body) })
+	return c.Long(c.Context(), int64(len(given.body)), func() (err error) {
+		if given.kind == convert.JSON {
+			if given.body, err = convert.TextOf(edit.Locale, given.body); err != nil {
+				return err
+			}
+			if int64(len(given.body)) > c.Options.TextBytes {
+				return wire.TooLarge
+			}
+			if err = c.Hold(int64(len(given.body))); err != nil {
+				return err
+			}
+			given.kind = engine.Text
+		}
+		return prepareNow(edit, given.kind, given.body)
+	})
 }
 
 func prepareNow(edit *replica.Edit, kind string, body []byte) (err error) {
@@ -207,10 +223,11 @@ func done(c *call, edit *replica.Edit, isNew bool, warning string) error {
 
 // remove answers DELETE of a bundle.
 func remove(c *call) (err error) {
-	c.Asked(c.Parts[0], nil)
+	given, _, _ := wire.FormOf(c.Parts[0])
+	c.Asked(given, nil)
 	edit := replica.Edit{}
 	edit.If = condition(c, &edit)
-	if edit.Locale, err = localeIn(c.Parts[0]); err != nil {
+	if edit.Locale, err = localeIn(given); err != nil {
 		return err
 	}
 	_, _, err = change(c, replica.Request{Op: "remove", Make: func(_ context.Context, now *replica.View) ([]replica.Edit, error) {
@@ -252,7 +269,7 @@ func explained(c *call, err error, given payload) error {
 	if !errors.As(err, &fault) {
 		return err
 	}
-	p := wire.ProblemWith(map[string]string{engine.Text: "BadText", engine.File: "BadFile", convert.JSON: "BadPatch"}[given.kind])
+	p := wire.ProblemWith(map[string]string{engine.Text: "BadText", engine.File: "BadFile", convert.JSON: "BadText"}[given.kind])
 	p.Fault, p.Line = fault.Code, int(fault.Line)
 	ctx, cancel := context.WithTimeout(c.R.Context(), explanations)
 	defer cancel()

@@ -4,7 +4,6 @@ import (
 	"context"
 	"errors"
 	"mime"
-	"strings"
 	"time"
 
 	"luvdregan.example/resb/deploy/internal/convert"
@@ -16,7 +15,7 @@ import (
 
 // patch changes items of a bundle by a merge patch of its JSON. The bundle keeps the form in which it was submitted.
 func patch(c *call) error {
-	given := strings.TrimSuffix(c.Parts[0], ".json")
+	given, _, _ := wire.FormOf(c.Parts[0])
 	c.Asked(given, nil)
 	kind, _, err := mime.ParseMediaType(c.R.Header.Get("Content-Type"))
 	if err != nil || kind != wire.Patch || isEncoded(c) {
@@ -58,7 +57,7 @@ func makePatch(c *call, locale string, patch []byte) error {
 		case from == nil && holds != nil:
 			return nil, &manifest.Refusal{Code: manifest.Unmet, Locale: locale}
 		case from == nil:
-			return nil, &manifest.Refusal{Code: manifest.Absent, Locale: locale}
+			return nil, wire.Absent.With("there is no bundle to change; PUT or POST installs one")
 		}
 		err := c.Work(ctx, func() error { return merge(c, &edit, *from, patch) })
 		return []replica.Edit{edit}, err // which is refused if it doesn't make what is there
@@ -117,6 +116,6 @@ func placed(c *call, err error) error {
 	}
 	var p wire.Problem
 	errors.As(explained(c, &engine.Fault{Code: fault.Code, Line: uint64(fault.Line)}, payload{kind: convert.JSON}), &p)
-	p.Column, p.Path = fault.Column, &fault.Path
+	p.Code, p.Column, p.Path = "BadPatch", fault.Column, &fault.Path
 	return p
 }

@@ -25,7 +25,6 @@ var (
 	asJSON    = []string{wire.JSON}
 	asLines   = []string{wire.Lines}
 	asPatch   = []string{wire.Patch}
-	asBundle  = []string{wire.Text, wire.File}
 	inAnyForm = []string{wire.Text, wire.File, wire.JSON}
 )
 
@@ -65,7 +64,7 @@ var addresses = []front.Address{
 	}},
 	{Pattern: "/_check/{locale}", Operations: []front.Operation{
 		{Method: "POST", ID: "check", Summary: "Returns the error and the warnings of a bundle, and stores nothing.", Right: auth.Read,
-			Kind: front.KindCheck, Do: check, Takes: asBundle, Gives: asJSON, Statuses: []int{200, 408, 413, 415}},
+			Kind: front.KindCheck, Do: check, Takes: inAnyForm, Gives: asJSON, Statuses: []int{200, 408, 413, 415}},
 	}},
 	{Pattern: "/_history", Operations: []front.Operation{
 		{Method: "GET", ID: "history", Summary: "Returns the last changes, the newest first.", Right: auth.Edit, AnyLocale: true, Kind: front.KindHistory,
@@ -91,9 +90,9 @@ var addresses = []front.Address{
 		{Method: "GET", ID: "lookRoot", Forms: "get", Summary: "Returns the bundle's table, or with ?path an item; with .txt, .res or .json the bundle; with ?tree all that it inherits.",
 			Right: auth.Read, Kind: front.KindLook, Do: readBundle, Gives: inAnyForm, Statuses: []int{200, 304, 404, 412, 413}, Query: []string{"tree", "path item"}},
 		{Method: "PUT", ID: "put", Summary: "Installs or replaces the bundle.", Right: auth.Edit, Kind: front.KindChange, Action: "put",
-			Do: put, Takes: asBundle, Gives: asJSON, Statuses: []int{200, 201, 408, 409, 412, 413, 415, 507}, Query: []string{"strict"}},
+			Do: put, Takes: inAnyForm, Gives: asJSON, Statuses: []int{200, 201, 408, 409, 412, 413, 415, 507}, Query: []string{"strict"}},
 		{Method: "POST", ID: "install", Summary: "Installs the bundle if there is none.", Right: auth.Edit, Kind: front.KindChange, Action: "install",
-			Do: put, Takes: asBundle, Gives: asJSON, Statuses: []int{201, 408, 409, 412, 413, 415, 507}, Query: []string{"strict"}},
+			Do: put, Takes: inAnyForm, Gives: asJSON, Statuses: []int{201, 408, 409, 412, 413, 415, 507}, Query: []string{"strict"}},
 		{Method: "PATCH", ID: "patch", Summary: "Changes items of the bundle by a JSON merge patch (RFC 7396).", Right: auth.Edit, Kind: front.KindChange,
 			Action: "patch", Do: patch, Takes: asPatch, Gives: asJSON, Statuses: []int{200, 404, 408, 412, 413, 415, 507}},
 		{Method: "DELETE", ID: "remove", Summary: "Removes the bundle.", Right: auth.Edit, Kind: front.KindChange, Action: "remove",

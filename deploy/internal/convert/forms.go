@@ -1,6 +1,9 @@
 package convert
 
-import "luvdregan.example/resb/deploy/internal/engine"
+import (
+	"luvdregan.example/resb/deploy/internal/engine"
+	resb "luvdregan.example/resb/library/go"
+)
 
 // File returns a bundle as a `.res` file.
 func (r *Runner) File(kind string, body []byte) ([]byte, error) {
@@ -19,6 +22,17 @@ func (r *Runner) Text(locale, kind string, body []byte) ([]byte, error) {
 		text, err := b.Text(locale)
 		return []byte(text), err
 	})
+}
+
+// TextOf returns JSON in the form of docs/JSON.md as a text, named after its locale.
+func TextOf(locale string, body []byte) ([]byte, error) {
+	b, err := resb.PrepareJSON(body)
+	if err != nil {
+		return nil, engine.FaultOf(err)
+	}
+	defer b.Discard()
+	text, err := b.Text(locale)
+	return []byte(text), engine.FaultOf(err)
 }
 
 // JSON returns a bundle as a line of JSON.

@@ -16,6 +16,7 @@ import (
 	"strings"
 	"unicode/utf8"
 
+	"luvdregan.example/resb/deploy/internal/convert"
 	"luvdregan.example/resb/deploy/internal/engine"
 	"luvdregan.example/resb/deploy/internal/names"
 )
@@ -71,7 +72,7 @@ func (r *reader) add(e Entry) error {
 		return &Bad{e.Name, fmt.Sprintf("there are more than %d entries", Most)}
 	case e.Kind == engine.Text && !utf8.Valid(e.Body):
 		return &Bad{e.Name, "the text isn't UTF-8"}
-	case e.Kind == engine.Text && int64(len(e.Body)) > r.Text, e.Kind == engine.File && int64(len(e.Body)) > r.File:
+	case e.Kind != engine.File && int64(len(e.Body)) > r.Text, e.Kind == engine.File && int64(len(e.Body)) > r.File:
 		return &Bad{e.Name, "it is too long"}
 	}
 	if ok {
@@ -159,7 +160,7 @@ func (r *reader) zip(body []byte) error {
 	return nil
 }
 
-// lines reads objects with `locale`, and `text`, `file` in hexadecimal, or `remove`; and perhaps `if`.
+// lines reads objects with `locale`, and `text`, `file` in hexadecimal, `json`, or `remove`; and perhaps `if`.
 func (r *reader) lines(body []byte) error {
 	lines := bufio.NewReader(bytes.NewReader(body))
 	for n := 1; ; n++ {
@@ -189,6 +190,10 @@ func (r *reader) line(name string, text []byte) error {
 		given++
 		e.Kind, e.Body = engine.Text, []byte(*one.Text)
 	}
+	if one.JSON != nil {
+		given++
+		e.Kind, e.Body = convert.JSON, one.JSON
+	}
 	if one.Remove {
 		given++
 	}
@@ -201,7 +206,7 @@ func (r *reader) line(name string, text []byte) error {
 		e.Kind, e.Body = engine.File, body
 	}
 	if one.Locale == nil || given != 1 {
-		return &Bad{name, "it needs locale, and one of text, file and remove"}
+		return &Bad{name, "it needs locale, and one of text, file, json and remove"}
 	}
 	e.Locale = strings.ToValidUTF8(*one.Locale, "\uFFFD")
 	if e.If, err = conditionOf(one.If); err != nil {
@@ -214,7 +219,7 @@ func (r *reader) line(name string, text []byte) error {
 type line struct {
 	Locale, Text, File *string
 	Remove             bool
-	If                 json.RawMessage
+	JSON, If           json.RawMessage
 }
 
 // conditionOf reads the member `if`: the tag that the bundle must have, or null if there must be none.
@@ -238,7 +243,7 @@ func lineOf(text []byte) (one line, err error) {
 	if token, err := from.Token(); err != nil || token != json.Delim('{') {
 		return one, errors.New("it is no object of JSON")
 	}
-	members := map[string]any{"locale": &one.Locale, "text": &one.Text, "file": &one.File, "remove": &one.Remove, "if": &one.If}
+	members := map[string]any{"locale": &one.Locale, "text": &one.Text, "file": &one.File, "json": &one.JSON, "remove": &one.Remove, "if": &one.If}
 	for from.More() {
 		token, err := from.Token()
 		name, _ := token.(string)

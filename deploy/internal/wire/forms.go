@@ -3,6 +3,7 @@ package wire
 import (
 	"strings"
 
+	"luvdregan.example/resb/deploy/internal/convert"
 	"luvdregan.example/resb/deploy/internal/engine"
 )
 
@@ -15,7 +16,7 @@ const (
 	Patch = "application/merge-patch+json"
 )
 
-// A Form is one in which a bundle is returned. Kind is that of the submitted bodies that have it, or "".
+// A Form is one in which a bundle is submitted and returned. Kind is that of its bodies.
 type Form struct {
 	Suffix, Type, Kind string
 	Header             []string // Content-Type
@@ -25,7 +26,7 @@ type Form struct {
 var Forms = []Form{
 	{"txt", Text, engine.Text, []string{Text + "; charset=utf-8"}},
 	{"res", File, engine.File, []string{File}},
-	{"json", JSON, "", []string{JSON}},
+	{"json", JSON, convert.JSON, []string{JSON}},
 }
 
 // FormOf returns the form that the suffix of a name says, and the name without it.

@@ -144,6 +144,11 @@ func TestPatches(t *testing.T) {
 	}
 }
 
+// TestJSON has bundles as JSON, and addresses with the name of a form.
+func TestJSON(t *testing.T) {
+	beside(t, "-text-bytes", "2000").script("JSON", "blanks", "{"+strings.Repeat(" ", 2000)+"}")
+}
+
 // TestPatchesKeepComments of a text, its layout and its order, unless items are removed.
 func TestPatchesKeepComments(t *testing.T) { beside(t).script("PatchesKeepComments") }
 
