@@ -28,6 +28,18 @@ export const showItems = (into, title, items, before, after) => {
     make("details", {}, make("summary", { textContent: "Show the lines" }), lines));
 };
 
+/**
+ * Makes a table of items that two people changed, each as {path, texts}: its texts when it was opened, of another, and of the reader. A path that is
+ * null isn't shown.
+ */
+export const threeOf = (items, locale) => {
+  const titles = [...(items[0]?.path === null ? [] : ["Item"]), "When you opened it", "Theirs", "Mine"];
+  return tableOf("The texts", titles, items.slice(0, MOST_ROWS).map(({ path, texts }) => {
+    const head = path === null ? [] : [make("th", { scope: "row", className: "place", dir: "auto" }, ...visible(path))];
+    return rowOf(titles, ...head, ...texts.map((text) => putValue(make("td"), text ?? "— (nothing)", locale)));
+  }));
+};
+
 const put = (into, title, ...elements) => {
   const heading = make("h3", { tabIndex: -1, textContent: title });
   into.replaceChildren(heading, ...elements);

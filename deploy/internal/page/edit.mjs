@@ -1,9 +1,10 @@
 // The view in which a bundle's text is edited, checked, compared and installed.
 import { at, counted, make, say } from "./show.mjs";
 import { confirmed, settle } from "./ask.mjs";
-import { select, setText, showFindings } from "./editor.mjs";
-import { placeOf } from "./places.mjs";
-import { showDifference } from "./difference.mjs";
+import { meaningOf, select, setText, showFindings } from "./editor.mjs";
+import { ledBack, placeOf, valuesIn } from "./places.mjs";
+import { showDifference, threeOf } from "./difference.mjs";
+import * as drafts from "./drafts.mjs";
 
 const PAUSE = 400; // milliseconds without typing until a text is checked
 const MOST_BYTES = 8 << 20;
@@ -24,6 +25,9 @@ export const openNow = () => gateway && { app: gateway.app, locale };
 /** Returns false if there are changes that their author wants to keep. */
 export const mayLeave = async () => !dirty || confirmed(`Your text${locale && " of " + locale} isn't installed. Discard it?`, "Discard it");
 
+// Stores the text if it isn't installed, with what was installed when it was opened. Returns false if a closed tab would lose it.
+const keep = () => (gateway === null ? !dirty : drafts.keep(drafts.nameOf(gateway.app, locale), dirty ? { text: textNow(), opened } : null));
+
 // Says what the text is, and what is installed where.
 const name = (what) => {
   at("opened").textContent = gateway === null ? what : `${gateway.app}: ${what}`;
@@ -39,18 +43,36 @@ export const open = async (of, wanted) => {
   try {
     const found = await of.text(wanted);
     if (mine !== opens) return false;
+    leave();
     gateway = of;
     locale = wanted;
+    const draft = drafts.stored(drafts.nameOf(of.app, wanted));
     show(found);
+    if (draft !== null && draft.text !== found.text) takeBack(draft);
   } finally {
     if (mine === opens) text.readOnly = false;
   }
   return true;
 };
 
+// Takes the text that was there when the tab was closed.
+const takeBack = (draft) => {
+  take(draft.text);
+  opened = draft.opened;
+  name(`${locale}, with your changes from before, which aren't installed.`);
+  keep();
+};
+
+// Gives the open text up.
+const leave = () => {
+  dirty = false;
+  keep();
+};
+
 /** Closes what is open, with its text. */
 export const close = () => {
   opens++;
+  leave();
   gateway = null;
   locale = "";
   text.readOnly = false;
@@ -77,7 +99,7 @@ const show = (found) => {
   opened = found;
   at("edit-diff").replaceChildren();
   take(found.text ?? "");
-  dirty = false;
+  leave();
   if (gateway === null) name(NOTHING);
   else nameInstalled();
 };
@@ -92,13 +114,17 @@ const take = (value) => {
   if (ends === "\n" && crs + lone > 0) say(at("message"), "warn", "The lines of this text end in different ways. All end in a line feed now.");
 };
 
-/** Checks the text after a pause. */
+/** Stores and checks the text after a pause. */
 const soon = () => {
   clearTimeout(waiting);
   checking?.abort();
-  waiting = setTimeout(check, PAUSE);
+  waiting = setTimeout(() => {
+    if (gateway !== null && !keep()) say(at("message"), "warn", "This browser doesn't store this text: install it before you close the tab.");
+    check();
+  }, PAUSE);
 };
 
+// Checks the text, shows what is found, and returns its errors.
 const check = async () => {
   const verdict = at("verdict");
   if (gateway === null) return say(verdict, "", "Open a bundle to have its text checked.");
@@ -109,12 +135,13 @@ const check = async () => {
   checking = new AbortController();
   verdict.textContent = "Checking …";
   try {
-    const found = await gateway.check(locale, textNow(), checking.signal);
-    showFindings(found);
-    const { errors, warnings } = found;
+    const checked = text.value, { errors: given, warnings } = await gateway.check(locale, textNow(), checking.signal);
+    const errors = given.map((error) => ledBack(error, warnings, checked));
+    showFindings({ errors, warnings });
     if (errors.length > 0) say(verdict, "bad", `This text can't be installed: ${counted(errors.length, "error")}, ${counted(warnings.length, "warning")}.`);
     else if (warnings.length > 0) say(verdict, "warn", `This text can be installed: ${counted(warnings.length, "warning")}.`);
     else say(verdict, "good", "No errors and no warnings.");
+    return errors;
   } catch (error) {
     if (error.name !== "AbortError") say(verdict, "bad", "Not checked: " + error.message);
   }
@@ -135,12 +162,15 @@ const install = async () => {
     if (mine === opens) {
       opened = { text: sent, tag };
       dirty = textNow() !== sent; // something was typed meanwhile
+      keep();
       at("edit-diff").replaceChildren();
       if (dirty) name(withChanges());
       else nameInstalled();
     }
     say(at("message"), warning ? "warn" : "good", `${sentAs} is installed.${warning ? " " + warning : ""}`);
   } catch (error) {
+    const [first] = error.status === 400 && mine === opens ? (await check()) ?? [] : [];
+    if (first !== undefined && first.line !== error.line) throw new Error(`Not installed. Line ${first.line}: ${meaningOf(first)}`);
     if (error.status !== 412 || mine !== opens) throw error;
     await explainConflict();
   }
@@ -152,14 +182,17 @@ const withChanges = () => `${locale}, with changes that aren't installed.`;
 const explainConflict = async () => {
   const mine = opens, now = await gateway.text(locale);
   if (mine !== opens) return;
-  const about = make("div", { className: "diff" });
-  if (showDifference(about, "From theirs to your text", now.text ?? "", textNow()) === 0) { // its answer was lost, or another sent the same text
+  const lines = make("div", { className: "diff" }), three = [opened.text, now.text, textNow()].map((one) => valuesIn(one ?? ""));
+  if (showDifference(lines, "From theirs to your text", now.text ?? "", textNow()) === 0) { // its answer was lost, or another sent the same text
     opened = now;
-    dirty = false;
+    leave();
     nameInstalled();
     return say(at("message"), "good", `This text is installed as ${locale} already.`);
   }
-  const answer = await settle(gateway, locale, null, about);
+  const items = [...new Set(three.flatMap((values) => [...values.keys()]))].map((key) => ({
+    path: key.slice(0, -1).replaceAll("\0", "/"), texts: three.map((values) => values.get(key)),
+  })).filter(({ texts: [was, theirs, mine] }) => was !== theirs || was !== mine);
+  const answer = await settle(gateway, locale, null, ...(items.length > 0 ? [threeOf(items, locale)] : []), lines);
   if (mine !== opens || answer !== "yes") say(at("message"), "warn", `${locale} isn't installed: another's change stays.`);
   if (mine !== opens || answer === "no") return;
   if (answer === "other") return show(now);
@@ -219,8 +252,9 @@ addEventListener("drop", (event) => {
   event.preventDefault();
   openFile(event.dataTransfer.files[0]);
 });
+addEventListener("pagehide", keep);
 addEventListener("beforeunload", (event) => {
-  if (!dirty) return;
+  if (keep()) return;
   event.preventDefault();
   event.returnValue = true; // for Chrome before 119
 });

@@ -39,6 +39,7 @@ export class Refused extends Error {
     super(`${reply.code ?? reply.error}${of}${at}${meaning ? ": " + meaning : ""}`);
     this.status = status;
     this.code = reply.error;
+    this.line = reply.line;
   }
 }
 

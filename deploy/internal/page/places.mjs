@@ -84,6 +84,42 @@ export const itemsIn = (text) => {
   return reader.items;
 };
 
+/** Returns the values of a text by their paths, as they are written. */
+export const valuesIn = (text) => {
+  const items = [...itemsIn(text)].filter(([path], i, all) => path !== "" && !all[i + 1]?.[0].startsWith(path)); // items follow what they are in
+  return new Map(items.map(([path, { from, to }]) => [path, text.slice(from, to)]));
+};
+
+// Returns true for a token that the end of the text cuts off.
+const isCut = (token) => {
+  if (token.startsWith("/*")) return token.length < 4 || !token.endsWith("*/");
+  let quote = token.length - 1;
+  while (token[quote - 1] === "\\") quote--;
+  return token[0] === '"' && (quote === 0 || !token.endsWith('"') || (token.length - quote) % 2 === 0);
+};
+
+// Returns where the quote, the comment or else the innermost brace begins that isn't closed at the end of a text, or -1.
+const openIn = (text) => {
+  for (const { 0: token, index } of text.matchAll(TOKENS)) {
+    if (index + token.length === text.length && isCut(token)) return index;
+  }
+  return [...itemsIn(text).values()].filter(({ to }) => to === Infinity).at(-1)?.at ?? -1;
+};
+
+// The errors that are noticed behind their cause, with the warnings about that.
+const BRACES = ["missing-close-brace", "missing-open-brace"];
+const CAUSES = { OpenQuote: ["open-quote"], OpenComment: [], Unexpected: BRACES, TrailingText: BRACES };
+
+/** Returns an error of a text, or one at the line where the quote, comment or brace was opened first that isn't closed. */
+export const ledBack = (error, warnings, text) => {
+  const rules = CAUSES[error.code] ?? [], warning = warnings.find(({ rule }) => rules.includes(rule));
+  const open = openIn(text), before = text.slice(0, open).split("\n");
+  let { line, column } = error;
+  if (warning !== undefined) [line, column] = [Number(/opens in line (\d+)/.exec(warning.message)?.[1] ?? warning.line), warning.column];
+  else if (open >= 0 && error.code in CAUSES && text.split("\n").length === line) [line, column] = [before.length, before.at(-1).length + 1];
+  return line < error.line ? { ...error, line, column, message: [error.message, `noticed in line ${error.line}`].filter(Boolean).join("; ") } : error;
+};
+
 const quoted = (key) => (/^[\w-]+$/.test(key) ? key : `"${key.replace(/["\\]/g, "\\$&")}"`);
 
 /**

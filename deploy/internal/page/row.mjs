@@ -3,6 +3,7 @@ import { make, putValue, rowOf, visible } from "./show.mjs";
 import { argumentsOf, categoriesOf, directionOf, languageOf, otherArguments } from "./language.mjs";
 import { stateOf } from "./tree.mjs";
 import { meaningOf } from "./editor.mjs";
+import * as drafts from "./drafts.mjs";
 
 const PAUSE = 400; // milliseconds without typing until a text is checked
 const MOST_IN_FIELD = 20000;
@@ -25,12 +26,8 @@ export class Row {
   constructor(view, item, n) {
     Object.assign(this, item, { view, n });
     this.keys = item.key.slice(0, -1).split("\0");
-    this.name = JSON.stringify(["resb", view.gateway.app, view.target, item.key]);
-    try {
-      this.draft = JSON.parse(localStorage.getItem(this.name));
-    } catch {
-      this.draft = null; // the browser stores nothing
-    }
+    this.name = drafts.nameOf(view.gateway.app, view.target, item.key);
+    this.draft = drafts.stored(this.name);
     this.isField = item.from?.isText !== false && item.to?.isText !== false && !NOT_IN_FIELD.test(this.stored) && this.stored.length <= MOST_IN_FIELD;
   }
 
@@ -63,12 +60,7 @@ export class Row {
   /** Sets the draft. */
   keep(draft) {
     this.draft = draft;
-    try {
-      localStorage.removeItem(this.name);
-      if (draft !== null) localStorage.setItem(this.name, JSON.stringify(draft));
-    } catch {
-      if (draft !== null) this.failure = "This browser doesn't store unsaved texts: save before you close the tab.";
-    }
+    if (!drafts.keep(this.name, draft)) this.failure = "This browser doesn't store unsaved texts: save before you close the tab.";
   }
 
   /** Draws the row. Some functions are called with it when a translator saves, discards or edits, or presses a key. */

@@ -1,9 +1,10 @@
 // The view in which the texts of a bundle are translated.
-import { at, counted, make, putValue, rowOf, say, tableOf } from "./show.mjs";
+import { at, counted, make, say, tableOf } from "./show.mjs";
 import { itemsOf, sideBySide, withText } from "./tree.mjs";
 import { itemsIn } from "./places.mjs";
 import { Row, checkNow, checkSoon } from "./row.mjs";
 import { confirmed, settle } from "./ask.mjs";
+import { threeOf } from "./difference.mjs";
 
 const PAGE = 100; // rows that are shown at a time
 
@@ -114,7 +115,7 @@ const save = async (row) => {
   if (draft === null) return true;
   const { text, was } = draft;
   if (theirs !== was && theirs !== text) {
-    const answer = await settle(of.gateway, of.target, row.path, threeOf(of.target, was, theirs, text));
+    const answer = await settle(of.gateway, of.target, row.path, threeOf([{ path: null, texts: [was, theirs, text] }], of.target));
     if (answer !== "no") row.keep(answer === "yes" ? { text, was: theirs } : null);
     return answer !== "no" && save(row);
   }
@@ -140,11 +141,6 @@ const readAgain = async (of) => {
     row.to = items.get(row.key) ?? null;
     row.update();
   }
-};
-
-const threeOf = (locale, ...texts) => {
-  const titles = ["When you opened it", "Theirs", "Mine"];
-  return tableOf("The texts", titles, [rowOf(titles, ...texts.map((text) => putValue(make("td"), text ?? "— (nothing)", locale)))]);
 };
 
 const ACTIONS = {

@@ -35,6 +35,18 @@ func TestBrowserEdit(t *testing.T) {
 	b.play(s, "Edit")
 }
 
+// TestBrowserCauses leads from an error at the end of a text to the quote, brace or comment that isn't closed.
+func TestBrowserCauses(t *testing.T) {
+	b, s := visit(t)
+	b.play(s, "Causes")
+}
+
+// TestBrowserDrafts closes a tab with a text that isn't installed, which is there again later, beside what another one has changed.
+func TestBrowserDrafts(t *testing.T) {
+	b, s := visit(t, "de", "de{\n  a{\"A\"}\n  b{\"B\"}\n}\n")
+	b.play(s, "Drafts")
+}
+
 // TestBrowserFocus goes through each view by Tab and back: all that can be used is reached, has a name, and nothing holds the focus.
 func TestBrowserFocus(t *testing.T) {
 	b, _ := visit(t, "de", `de{a{"A"}}`)

@@ -1,7 +1,7 @@
 // modules_test.mjs: tries the modules of the page that need no browser, against slower definitions of what they do.
 import { Gateway } from "../gateway.mjs";
 import { compareLines, linesOf } from "../lines.mjs";
-import { itemsIn, pathOf, placeOf } from "../places.mjs";
+import { itemsIn, ledBack, pathOf, placeOf, valuesIn } from "../places.mjs";
 import { itemsOf, sideBySide, stateOf, withText } from "../tree.mjs";
 import { argumentsOf, categoriesOf, directionOf, otherArguments } from "../language.mjs";
 
@@ -90,6 +90,17 @@ for (const [before, path, after] of [
   check(made === after && from === to && (insert === "" || made.slice(from - 1, to + 1) === '""'), [made, from, to]);
 }
 for (let cut = 0; cut < text.length; cut++) check(placeOf(text.slice(0, cut), ["nested", "1", "1"]).to <= cut + 20, cut); // while it is typed
+// all values as they are written, by their paths
+check(JSON.stringify([...valuesIn('de{a{"x\\"y"} l{"p", 5} e{} t{u{"v"} w:int{5}} n{{"p"},{"q","r"}} z')].map(([key, value]) => key.slice(0, -1).replaceAll("\0", "/") + "=" + value))
+  === JSON.stringify(['a=x\\"y', "l/0=p", "l/1=5", "e=", "t/u=v", "t/w=5", "n/0=p", "n/1/0=q", "n/1/1=r"]), "values");
+// an error leads back to what isn't closed: by a warning about that, or else at the end of the text
+const led = (code, line, text, rule, at, message = "") => ledBack({ code, line, message: "m" }, rule ? [{ rule, line: at, column: 3, message }] : [], text).line;
+for (const [want, ...given] of [
+  [2, "OpenQuote", 4, "de{\na{\"x}\nb{\"\"}\n", "open-quote", 2], [3, "OpenQuote", 4, "de{\na{\"x}\nb{\"\"}\n", "mixed-quotes", 2], [2, "OpenComment", 3, "de{\n/*/\n"],
+  [2, "Unexpected", 4, "de{\na{\nb{\"x\"}\n", "missing-close-brace", 3, "the brace that opens in line 2 isn't closed"], [2, "Unexpected", 4, "de{\na{\nb{\"x\"}\n"],
+  [3, "Unexpected", 3, "de{\na{\n:\nb{\"x\"}\n"], [3, "TrailingText", 3, "de{\n}\nb{}"], [3, "BadKey", 3, "de{\na{\n\u00e4{}", "missing-close-brace", 2], [2, "OpenQuote", 3, "de{\na{\"\\\\\\\"\n"],
+]) check(led(...given) === want, given);
+check(ledBack({ code: "OpenQuote", line: 3 }, [], 'de{\na{"x\n').message === "noticed in line 3", "an error without a reason");
 const search = process.cpuUsage().user;
 placeOf("de{" + "a{/*".repeat(22500), ["a"]); // 90 KB of unclosed comments
 placeOf("de{" + "a{".repeat(45000), ["a"]); // and of braces
