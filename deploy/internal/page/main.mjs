@@ -2,9 +2,10 @@
 import { at, counted, make, say } from "./show.mjs";
 import { Gateway, forgetTokens } from "./gateway.mjs";
 import * as edit from "./edit.mjs";
-import { translate } from "./translate.mjs";
+import { goTo, translate } from "./translate.mjs";
 import { history } from "./history.mjs";
 import { list, look, up } from "./look.mjs";
+import { search } from "./search.mjs";
 
 const VIEWS = ["edit", "translate", "history", "look"];
 const FIELDS = ["app", "token", "locale"];
@@ -25,18 +26,23 @@ const gatewayNow = (needsLocale) => {
   return new Gateway(at("app").value.trim(), at("token").value.trim());
 };
 
-// Does something with the gateway, and shows why it failed.
-const acting = (what, needsLocale = false) => async (event) => {
-  event.preventDefault();
-  const gateway = gatewayNow(needsLocale);
-  if (gateway === null) return;
-  say(at("message"), "", "");
+// Does something, and shows why it failed.
+const shown = (what) => async (...given) => {
   try {
-    await what(gateway);
+    await what(...given);
   } catch (error) {
     say(at("message"), "bad", error.message);
   }
 };
+
+// Does something with the gateway.
+const acting = (what, needsLocale = false) => shown(async (event) => {
+  event.preventDefault();
+  const gateway = gatewayNow(needsLocale);
+  if (gateway === null) return;
+  say(at("message"), "", "");
+  await what(gateway);
+});
 
 const openBundle = async (gateway) => {
   const name = locale();
@@ -46,9 +52,12 @@ const openBundle = async (gateway) => {
   if (!(await edit.mayLeave())) return nameOpen();
   if (!(await edit.open(gateway, name))) return;
   at("target").value = name;
-  at("source").value ||= ["en", "root", ...names].find((other) => names.includes(other) && other !== name) ?? "root";
+  at("source").value ||= sourceOf(name, names);
   say(at("message"), "good", `${gateway.app} has ${counted(names.length, "bundle")}.`);
 };
+
+// Returns the locale from which another one is translated.
+const sourceOf = (name, names) => ["en", "root", ...names].find((other) => names.includes(other) && other !== name) ?? "root";
 
 // Names the text that stays open.
 const nameOpen = () => {
@@ -57,17 +66,27 @@ const nameOpen = () => {
 };
 
 // Opens the editor at an item that is chosen in the translation view.
-const editItem = (gateway) => async (name, keys) => {
-  try {
-    const go = await edit.toItem(gateway, name, keys);
-    if (go === null) return;
-    at("locale").value = name;
-    window.history.pushState(null, "", "#edit");
-    showView(false);
-    go();
-  } catch (error) {
-    say(at("message"), "bad", error.message);
-  }
+const editItem = (gateway) => shown(async (name, keys) => {
+  const go = await edit.toItem(gateway, name, keys);
+  if (go === null) return;
+  at("locale").value = name;
+  goToView("edit");
+  go();
+});
+
+// Opens an item that was found: in its row, or if translations are made from its bundle in the text.
+const openFound = (gateway) => shown(async (name, key) => {
+  at("source").value ||= sourceOf("", await gateway.names());
+  if (at("source").value.trim() === name) return editItem(gateway)(name, key.slice(0, -1).split("\0"));
+  at("target").value = name;
+  goToView("translate");
+  await translate(gateway, editItem(gateway));
+  goTo(key);
+});
+
+const goToView = (name) => {
+  window.history.pushState(null, "", "#" + name);
+  showView(false);
 };
 
 const forget = async () => {
@@ -101,6 +120,7 @@ at("every").addEventListener("change", () => at("past").requestSubmit());
 at("item").addEventListener("submit", acting((gateway) => look(gateway, locale()), true));
 at("up").addEventListener("click", acting((gateway) => up(gateway, locale()), true));
 at("list").addEventListener("click", acting(list));
+at("everywhere").addEventListener("submit", acting((gateway) => search(gateway, at("words").value, openFound(gateway))));
 recall();
 showView(false);
 document.documentElement.dataset.ready = "yes";

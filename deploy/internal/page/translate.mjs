@@ -83,6 +83,16 @@ const go = (row) => {
   row.tr.querySelector("textarea, .buttons > :not([hidden])").focus();
 };
 
+/** Puts the cursor into the row of an item. */
+export const goTo = (key) => {
+  const row = view?.rows.find((one) => one.key === key);
+  if (row === undefined) return;
+  at("filter").value = "all";
+  at("search").value = "";
+  draw();
+  go(row);
+};
+
 const step = (row, by) => {
   const next = list[list.indexOf(row) + by];
   if (next !== undefined) go(next);

@@ -47,6 +47,44 @@ func TestBrowserDrafts(t *testing.T) {
 	b.play(s, "Drafts")
 }
 
+// TestBrowserSearch searches all bundles, and opens what it finds.
+func TestBrowserSearch(t *testing.T) {
+	b, s := visit(t, "en", `en{menu{open{"Open file"}}}`, "de", `de{menu{open{"Datei öffnen"}}}`, "fr", `fr{datei{"Fichier"}}`)
+	b.play(s, "Search")
+}
+
+// TestBrowserLongSearch searches 4,096 bundles: the page can be used meanwhile, and the search ends after 200 hits. How long a frame takes at most is
+// only judged with JUDGE_TIMES: other work on the machine spoils it.
+func TestBrowserLongSearch(t *testing.T) {
+	b, s := visit(t)
+	var all []namedText
+	for i := 0; i < 4096; i++ {
+		locale := fmt.Sprintf("de_X%d", i)
+		all = append(all, namedText{locale + ".txt", fmt.Sprintf("%s{key%d{%q}}", locale, i, strings.Repeat("many ", i%20))})
+	}
+	s.release(asLines, linesOf(t, all...))
+	b.sign(shopWrites, "")
+	b.until("message", "4096 bundles")
+	b.run(`location.hash = 'look'; words.value = 'many'; everywhere.requestSubmit(); ''`)
+	b.until("found", "200 hits in 211 of 4096 bundles. There may be more")
+	b.run(`words.value = 'key4095'; everywhere.requestSubmit(); ''`)
+	isUsable := "frames > 20"
+	if os.Getenv("JUDGE_TIMES") != "" {
+		isUsable += " && longest < 250"
+	}
+	b.is(`(async () => {
+		let frames = 0, longest = 0, last = performance.now();
+		for (; !searched.hidden; frames++) {
+			await new Promise(requestAnimationFrame);
+			longest = Math.max(longest, performance.now() - last);
+			last = performance.now();
+		}
+		return `+isUsable+`;
+	})()`, "true")
+	b.until("found", "1 hit in 4096 of 4096 bundles.")
+	b.fine()
+}
+
 // TestBrowserFocus goes through each view by Tab and back: all that can be used is reached, has a name, and nothing holds the focus.
 func TestBrowserFocus(t *testing.T) {
 	b, _ := visit(t, "de", `de{a{"A"}}`)
@@ -101,6 +139,8 @@ func TestBrowserRules(t *testing.T) {
 	b.until("rows", "2")
 	b.click("button[aria-label='Compare version 2 of de']")
 	b.until("history-diff", "A")
+	b.run(`location.hash = 'look'; words.value = 'a'; everywhere.requestSubmit(); ''`)
+	b.until("found", "3 hits in 2 of 2 bundles.")
 	for _, colours := range []string{"light", "dark"} {
 		b.call("Emulation.setEmulatedMedia", map[string]any{"features": []any{map[string]any{"name": "prefers-color-scheme", "value": colours}}})
 		for _, width := range []int{1280, 390} {
