@@ -150,20 +150,22 @@ func (t *Ticket) End(sent int64, now time.Time) {
 // IsBegun returns true if the ticket is that of a request.
 func (t *Ticket) IsBegun() bool { return t.of != nil }
 
-// sure is the part of all bytes that everybody may have while there are some.
-const sure = 64
+// The last part of all bytes is for accounts that have few of them, so that many large requests leave space for small ones.
+const (
+	last = 64
+	few  = 8192
+)
 
 // Hold counts bytes of memory.
 func (t *Ticket) Hold(bytes int64) error {
 	l := t.of
 	l.mu.Lock()
 	defer l.mu.Unlock()
-	if l.all.bytes+bytes > l.options.Bytes {
-		return ErrTooMany
-	}
+	most, all := l.options.Bytes, l.all.bytes+bytes
 	for _, a := range t.accounts {
 		has := a.bytes + bytes
-		if has > l.options.Bytes/sure && has > HalfOfFree(l.options.Bytes, l.all.bytes, a.bytes) {
+		isMuch := all > most-most/last || has > HalfOfFree(most, l.all.bytes, a.bytes)
+		if all > most || isMuch && has > most/few {
 			return ErrTooMany
 		}
 	}

@@ -54,6 +54,25 @@ func TestManyHolders(t *testing.T) {
 	begin(t, l, "bank", "other", nil)
 }
 
+// TestManyBodies has eight holders send bytes until each is refused: a hundred others may still send small bodies, and no more than all bytes.
+func TestManyBodies(t *testing.T) {
+	l := New(Options{Each: 9, All: 999, Bytes: 512 << 20, Works: 1})
+	for i := 0; i < 8; i++ {
+		holder := fmt.Sprint("holder", i)
+		one := begin(t, l, holder, holder, nil)
+		for bytes := int64(64 << 20); bytes > 0; bytes /= 2 {
+			for one.Hold(bytes) == nil {
+			}
+		}
+	}
+	for i := 0; i < 100; i++ {
+		name := fmt.Sprint("other", i)
+		harness.Equal(t, begin(t, l, name, name, nil).Hold(64<<10), nil, name)
+	}
+	_, bytes := l.Now()
+	harness.ErrorIf(t, bytes < 500<<20 || bytes > 512<<20, "%d bytes", bytes)
+}
+
 func TestRates(t *testing.T) {
 	l := New(Options{Each: 9, All: 9, Bytes: 9, Rate: 2, DayBytes: 100, Works: 1})
 	now := time.Unix(secondsADay*20000+10, 0)
