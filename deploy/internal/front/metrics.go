@@ -41,6 +41,36 @@ func (r *requests) Collect(to chan<- prometheus.Metric) {
 	}
 }
 
+// byApp has the metrics of each application that has bundles. The limit on those bounds them.
+type byApp struct {
+	*replica.Replica
+	limits *limits.Limits
+}
+
+var (
+	appRequests = prometheus.NewDesc("resb_app_requests_total", "Admitted requests of applications with bundles.", []string{"app"}, nil)
+	appFiles    = prometheus.NewDesc("resb_app_bundles_bytes", "Bytes of an application's compiled bundles.", []string{"app"}, nil)
+	appStored   = prometheus.NewDesc("resb_app_stored_bytes", "Bytes of what was submitted for an application's bundles.", []string{"app"}, nil)
+)
+
+// Describe describes the metrics.
+func (b byApp) Describe(to chan<- *prometheus.Desc) {
+	to <- appRequests
+	to <- appFiles
+	to <- appStored
+}
+
+// Collect gives their values.
+func (b byApp) Collect(to chan<- prometheus.Metric) {
+	b.Each(func(name string, v *replica.View) {
+		if len(v.Bundles) > 0 {
+			to <- prometheus.MustNewConstMetric(appRequests, prometheus.CounterValue, float64(b.limits.Begun(name)), name)
+			to <- prometheus.MustNewConstMetric(appFiles, prometheus.GaugeValue, float64(v.Compiled), name)
+			to <- prometheus.MustNewConstMetric(appStored, prometheus.GaugeValue, float64(v.Bytes), name)
+		}
+	})
+}
+
 // Metrics count requests by kind and status, and their times.
 type Metrics struct {
 	registry    *prometheus.Registry
@@ -69,7 +99,7 @@ func newMetrics(backend *replica.Replica, of *limits.Limits, tokens *auth.Tokens
 	for _, name := range kindNames {
 		m.times = append(m.times, times.WithLabelValues(name))
 	}
-	m.registry.MustRegister(&m.requests, times, m.refused, m.panics)
+	m.registry.MustRegister(&m.requests, byApp{backend, of}, times, m.refused, m.panics)
 	sum := func(of func(replica.Sum) float64) func() float64 { return func() float64 { return of(backend.Sum()) } }
 	stats := func(of func(store.Stats) float64) func() float64 { return func() float64 { return of(m.now(backend)) } }
 	for _, g := range []struct {

@@ -55,7 +55,8 @@ type usage struct {
 // An account is what an application or a holder has on its way, and what it has used.
 type account struct {
 	usage
-	work chan struct{} // taken during its long work
+	work  chan struct{} // taken during its long work
+	begun int64         // requests that were admitted
 
 	used  float64 // requests that still count; they fall by the rate
 	at    time.Time
@@ -99,7 +100,18 @@ func (l *Limits) Begin(t *Ticket, app, holder string, now time.Time) error {
 		return err
 	}
 	t.add(1, 0)
+	t.accounts[0].begun++
 	return nil
+}
+
+// Begun returns how many requests of an application were admitted since it has an account.
+func (l *Limits) Begun(app string) int64 {
+	l.mu.Lock()
+	defer l.mu.Unlock()
+	if a := l.apps[app]; a != nil {
+		return a.begun
+	}
+	return 0
 }
 
 // account returns the account of a name, which stays for its next request.

@@ -148,13 +148,11 @@ func (r *Replica) fits(q *Request, now *View, next *manifest.Manifest) error {
 		return nil
 	}
 	var all, mine Sum
-	r.apps.Range(func(name, of any) bool {
-		v := of.(*app).now.Load()
+	r.Each(func(name string, v *View) {
 		all.add(v)
-		if q.Mine(name.(string)) {
+		if q.Mine(name) {
 			mine.add(v)
 		}
-		return true
 	})
 	switch {
 	case isNew && mine.Apps > 0 && int64(mine.Apps) >= limits.HalfOfFree(int64(r.options.Apps), int64(all.Apps), int64(mine.Apps)),
@@ -269,11 +267,16 @@ type Sum struct {
 
 // Sum returns what the replica has of all applications.
 func (r *Replica) Sum() (s Sum) {
-	r.apps.Range(func(_, of any) bool {
-		s.add(of.(*app).now.Load())
+	r.Each(func(_ string, v *View) { s.add(v) })
+	return s
+}
+
+// Each calls a function with each application.
+func (r *Replica) Each(do func(name string, v *View)) {
+	r.apps.Range(func(name, of any) bool {
+		do(name.(string), of.(*app).now.Load())
 		return true
 	})
-	return s
 }
 
 // add adds an application.

@@ -1,6 +1,7 @@
 package http
 
 import (
+	"encoding/json"
 	"fmt"
 	"os"
 	"os/exec"
@@ -184,10 +185,15 @@ func TestMetrics(t *testing.T) {
 	for i := 0; i < 5; i++ {
 		s.is("de/a", "A")
 	}
-	s.run([]step{{"r GET /v1/shop/de/b", "", "", 404, "", ""}, {"- GET /v1/shop/de/b", "", "", 401, "", ""}}...)
+	s.run([]step{{"r GET /v1/shop/de/b", "", "", 404, "", ""}, {"- GET /v1/shop/de/b", "", "", 401, "", ""},
+		{"b GET /v1/bank/de/b", "", "", 404, "", ""}}...)
 	values := s.measured()
-	for at, want := range map[string]float64{`resb_requests_total{kind="look",status="200"}`: 5, `resb_requests_total{kind="look",status="404"}`: 1,
-		`resb_requests_total{kind="other",status="401"}`: 1, `resb_requests_total{kind="change",status="201"}`: 1, `resb_request_seconds_count{kind="look"}`: 6,
+	for at := range values {
+		errorIf(t, strings.Contains(at, "bank"), "an application without bundles: %s", at)
+	}
+	for at, want := range map[string]float64{`resb_requests_total{kind="look",status="200"}`: 5, `resb_requests_total{kind="look",status="404"}`: 2,
+		`resb_app_requests_total{app="shop"}`: 7, `resb_app_stored_bytes{app="shop"}`: 10, `resb_app_bundles_bytes{app="shop"}`: values["resb_bundles_bytes"],
+		`resb_requests_total{kind="other",status="401"}`: 1, `resb_requests_total{kind="change",status="201"}`: 1, `resb_request_seconds_count{kind="look"}`: 7,
 		`resb_left_out`: 0, `resb_writes`: 1, `resb_ready`: 1, `resb_bundles`: 1, `resb_apps`: 1} {
 		errorIf(t, values[at] != want, "%s is %v", at, values[at])
 	}
@@ -197,7 +203,7 @@ func TestMetrics(t *testing.T) {
 		errorIf(t, !there || at < last, "the bucket of %s has %v after %v", bound, at, last)
 		last = at
 	}
-	if last != 6 || values[`resb_memory_bytes`] < 1000 || values[`resb_database_bytes`] < 20 || values["resb_free_bytes"] < 1000 ||
+	if last != 7 || values[`resb_memory_bytes`] < 1000 || values[`resb_database_bytes`] < 20 || values["resb_free_bytes"] < 1000 ||
 		values["resb_backup_timestamp_seconds"] != 0 || values["resb_behind_seconds"] > 60 {
 		t.Errorf("%v", values)
 	}
@@ -206,7 +212,7 @@ func TestMetrics(t *testing.T) {
 	s.awaitMetric("resb_backup_timestamp_seconds", func(n float64) bool { return n > before })
 }
 
-// TestAlertRules has a metric of the gateway for each name in the rules for Prometheus, and promtool try each rule.
+// TestAlertRules has a metric of the gateway for each name in the rules for Prometheus and in the dashboard, and promtool try each expression.
 func TestAlertRules(t *testing.T) {
 	s := beside(t)
 	s.put("de", `de{a{"A"}}`)
@@ -215,7 +221,7 @@ func TestAlertRules(t *testing.T) {
 	must(t, err)
 	tried, err := os.ReadFile("testdata/alerts.yml")
 	must(t, err)
-	names := regexp.MustCompile(`resb_\w+`).FindAllString(string(rules), -1)
+	names := regexp.MustCompile(`resb_\w+`).FindAllString(string(rules)+triedDashboard(t), -1)
 	for _, name := range names {
 		there := false
 		for metric := range values {
@@ -235,10 +241,32 @@ func TestAlertRules(t *testing.T) {
 	if err != nil {
 		t.Skip("skipped: promtool (Debian's prometheus) isn't there")
 	}
-	text, err := exec.Command(promtool, "test", "rules", "testdata/alerts.yml").CombinedOutput()
+	text, err := exec.Command(promtool, "test", "rules", "testdata/alerts.yml", "testdata/dashboard.yml").CombinedOutput()
 	errorIf(t, err != nil, "%v: %s", err, text)
 	check := exec.Command(promtool, "check", "metrics")
 	check.Stdin = strings.NewReader(metrics.Body)
 	text, err = check.CombinedOutput()
 	errorIf(t, err != nil, "%v: %s", err, text)
+}
+
+// triedDashboard returns the expressions of the dashboard, each of which promtool has to try.
+func triedDashboard(t *testing.T) string {
+	t.Helper()
+	content, err := os.ReadFile(harness.Top("deploy/grafana.json"))
+	must(t, err)
+	tried, err := os.ReadFile("testdata/dashboard.yml")
+	must(t, err)
+	var board struct {
+		Panels []struct{ Targets []struct{ Expr string } }
+	}
+	must(t, json.Unmarshal(content, &board))
+	var all []string
+	for _, panel := range board.Panels {
+		for _, target := range panel.Targets {
+			errorIf(t, !strings.Contains(string(tried), "expr: '"+target.Expr+"'\n"), "%s isn't tried", target.Expr)
+			all = append(all, target.Expr)
+		}
+	}
+	errorIf(t, len(board.Panels) < 10 || len(all) != strings.Count(string(tried), "expr: "), "%d panels, %d expressions", len(board.Panels), len(all))
+	return strings.Join(all, "\n")
 }
