@@ -7,6 +7,7 @@ import (
 	"os"
 	"path/filepath"
 	"regexp"
+	"runtime"
 	"strings"
 	"syscall"
 	"testing"
@@ -79,7 +80,8 @@ func TestNamesOfApplications(t *testing.T) {
 	}
 }
 
-// TestManyTokens finds more tokens than are remembered, again and again, and none of them once they are revoked.
+// TestManyTokens finds more tokens than are remembered, again and again, and none of them once they are revoked. As long as the file stays as it is,
+// a look at it doesn't read it.
 func TestManyTokens(t *testing.T) {
 	var lines, all []string
 	for i := 0; i < 3*mostRecent; i++ {
@@ -98,6 +100,16 @@ func TestManyTokens(t *testing.T) {
 	write(t, path, lines[1:]...)
 	tokens.Reload(true)
 	harness.ErrorIf(t, may(tokens, all[0], "shop.0") != 0 || may(tokens, all[1], "shop.1") != Read, "after the revocation")
+	old := time.Now().Add(-time.Hour)
+	harness.Must(t, os.Chtimes(path, old, old))
+	tokens.Reload(false)
+	var before, after runtime.MemStats
+	runtime.ReadMemStats(&before)
+	for i := 0; i < 100; i++ {
+		tokens.Reload(false)
+	}
+	runtime.ReadMemStats(&after)
+	harness.ErrorIf(t, after.TotalAlloc-before.TotalAlloc > 1<<20, "100 looks at a file of %d tokens take %d bytes", len(all), after.TotalAlloc-before.TotalAlloc)
 }
 
 // TestRights has each right by itself, for an application or one locale of it.
