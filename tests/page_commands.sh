@@ -95,7 +95,8 @@ set -eu
 [ ! -e /run/journal ] || exit 0
 unit() { sed -n "s/^$1=//p" "/etc/systemd/system/$unit.service"; }
 unit=$3
-install -d -o "$(unit User)" -g "$(unit Group)" -m "$(unit StateDirectoryMode)" "/var/lib/$(unit StateDirectory)"
+install -d -m "$(unit StateDirectoryMode)" "/var/lib/$(unit StateDirectory)"
+chown -R "$(unit User):$(unit Group)" "/var/lib/$(unit StateDirectory)"
 started "$(unit User)" -- $(unit ExecStart)
 END
     cat >podman <<'END'
@@ -128,7 +129,6 @@ END
 ends() { kill "\$(pgrep -u resb-gateway resb-gateway)"; while pgrep -u resb-gateway resb-gateway; do sleep 0.1; done; }
 $(block deploy/OPERATIONS.md Start 2)
 $(block deploy/OPERATIONS.md Start)
-$(inline docs/INSTALL.md 'systemctl enable')
 $(inline deploy/OPERATIONS.md 'resb-gateway -healthcheck' | sed 's/ADDRESS/127.0.0.1:6422/')
 curl -sf -H 'Authorization: Bearer $token' -X PUT --data-binary 'de{a{"A"}}' http://127.0.0.1:6422/v1/shop/de.txt
 $(block deploy/OPERATIONS.md 'Backup, restore, upgrade' | sed -n '1s#FILE#/root/copied#p')
@@ -251,6 +251,7 @@ if [ -x "$gateway" ]; then
     # its etcd isn't there
     runs 'deploy/README: the options of a gateway' "{ $(block deploy/README.md 'On real machines' |
         sed 's#/etc/resb/#etc/#g; s#10\.0\.0\.[1-3]:#127.0.0.1:#g') -check-config || [ \$? = 2 ]; } 2>&1 | grep '^resb-gateway: -etcd: '"
+    resb-gateway init -state state
     sed "s#/etc/resb/tokens#etc/tokens#; s#\"/usr/bin/resb\"#\"$program\"#; s#/var/lib/resb-gateway#state#" "$top/deploy/gateway.example.json" >gateway.json
     runs 'deploy/OPERATIONS: the example of settings' 'resb-gateway -config gateway.json -check-config'
     runs 'deploy/OPERATIONS: the options of a gateway' "$(inline deploy/OPERATIONS.md 'resb-gateway options')"

@@ -13,12 +13,14 @@ import (
 // healthTime is how long a health check waits for the answer.
 const healthTime = 5 * time.Second
 
+const healthUsage = "usage: resb-gateway -healthcheck ADDRESS, such as 127.0.0.1:6422 or https://127.0.0.1:6422/healthz\n"
+
 // healthCommand asks a running gateway whether it is ready, and returns the status: `gateway -healthcheck ADDRESS`. An address without
 // a path is asked for /readyz. It may begin with https://, and without a scheme it is asked over TLS if the gateway there needs that; the
 // certificate isn't checked, since the gateway's name needn't be that of the address.
 func healthCommand(arguments []string, said io.Writer) int {
 	if len(arguments) != 1 || arguments[0] == "" {
-		fmt.Fprintln(said, "usage: resb-gateway -healthcheck ADDRESS, such as 127.0.0.1:6422 or https://127.0.0.1:6422/healthz")
+		fmt.Fprint(said, healthUsage)
 		return 2
 	}
 	address := strings.TrimSuffix(arguments[0], "/")

@@ -40,7 +40,7 @@ const (
 )
 
 // usage is what -help prints before the options.
-var usage = "usage: resb-gateway OPTIONS\n" + strings.ReplaceAll(operatorUsage+tokenUsage, "usage:", "      ") + "\nOptions:\n"
+var usage = "usage: resb-gateway OPTIONS\n" + strings.ReplaceAll(operatorUsage+healthUsage+settings.Usage+tokenUsage, "usage:", "      ") + "\nOptions:\n"
 
 // conversions bound what other forms of bundles cost.
 var conversions = convert.Bounds{Time: 20 * time.Second, Memory: 1 << 30, Output: 128 << 20}
@@ -53,7 +53,7 @@ func main() {
 		os.Exit(tokenCommand(os.Args[2:], os.Stdout, os.Stderr))
 	case "options":
 		os.Exit(settings.Describe(os.Args[2:], os.Stdout))
-	case "backup", "restore", "copy", "export", "list":
+	case "init", "backup", "restore", "copy", "export", "list":
 		os.Exit(operatorCommand(command, os.Args[2:], os.Stdout, os.Stderr))
 	}
 	s, err := settings.Read(os.Args[1:], usage, os.Stderr)

@@ -17,7 +17,8 @@ import (
 	"luvdregan.example/resb/deploy/internal/store/sqlite"
 )
 
-const operatorUsage = `usage: resb-gateway backup -state FOLDER FILE
+const operatorUsage = `usage: resb-gateway init -state FOLDER
+       resb-gateway backup -state FOLDER FILE
        resb-gateway restore -state FOLDER FILE
        resb-gateway copy -state FOLDER -etcd ADDRESSES [-etcd-login FILE ..] to|from
        resb-gateway list -state FOLDER | -etcd ADDRESSES [-etcd-login FILE ..]
@@ -45,6 +46,11 @@ func operatorCommand(name string, arguments []string, out, said io.Writer) int {
 	}
 	var err error
 	switch file := f.Arg(0); name {
+	case "init":
+		var made *sqlite.Store
+		if made, err = sqlite.Open(sqlite.Options{Folder: s.State, Create: true}); err == nil {
+			err = made.Close()
+		}
 	case "backup":
 		err = report(out, file)(sqlite.Backup(s.State, file))
 	case "restore":

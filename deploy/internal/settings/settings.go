@@ -162,6 +162,9 @@ func (s *Settings) Flags() *flag.FlagSet {
 	return f
 }
 
+// Usage is that of Describe.
+const Usage = "usage: resb-gateway options [-json]\n"
+
 // Describe writes all options as a table in Markdown, or with -json as a file for -config, and returns the status.
 func Describe(arguments []string, out io.Writer) int {
 	s, rows := Settings{}, []string{}

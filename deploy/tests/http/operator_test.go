@@ -494,6 +494,33 @@ func TestBackups(t *testing.T) {
 	command(t, 2, "resb-gateway backup: -state is missing\nusage:", "backup", file)
 }
 
+// TestALostFolder has the settings of the example, which take no folder without a store, be it new or emptied, until `init` makes one.
+func TestALostFolder(t *testing.T) {
+	t.Parallel()
+	dir, program := t.TempDir(), fileOf(t, version)
+	must(t, os.Chmod(program, 0o700))
+	given := []string{"-config", harness.Top("deploy/gateway.example.json"), "-state", dir, "-tokens", fileOf(t, harness.Tokens), "-program", program,
+		"-listen", "127.0.0.1:0", "-inside", "127.0.0.1:0", "-log=text"}
+	lost := func() {
+		t.Helper()
+		for _, more := range []string{"-check-config", "-log=text"} {
+			status, said := starts(t, append(given, more)...)
+			errorIf(t, status < 1 || !strings.Contains(said, "there is no store in this folder"), "%s: status %d: %s", more, status, said)
+		}
+	}
+	lost()
+	for i := 0; i < 2; i++ { // the second one leaves it as it is
+		command(t, 0, "", "init", "-state", dir)
+		command(t, 0, "can be used", append(given, "-check-config")...)
+	}
+	for path := range contentOf(t, dir) {
+		must(t, os.Remove(path))
+	}
+	lost()
+	command(t, 2, "resb-gateway init: -state is missing\nusage:", "init")
+	command(t, 2, "resb-gateway init: there are 1 arguments in place of 0\nusage:", "init", "-state", dir, "more")
+}
+
 // TestExport writes each bundle as a text, in the form in which it was submitted or converted, which resb-put would send, and replaces nothing.
 func TestExport(t *testing.T) {
 	s := beside(t)
