@@ -132,6 +132,19 @@ diff -r --no-dereference "$made/gateway/usr" "$made/archive/usr"
 # shellcheck disable=SC2016
 same=$(cd "$made/gateway" && find . ! -type d -exec sh -c '[ ! -e "$1/$2" ] || echo "$2"' - "$made/root" {} \;)
 [ -z "$same" ] || fail "both packages have $same"
+if command -v mandoc >/dev/null && command -v col >/dev/null && command -v python3 >/dev/null; then
+    gunzip -c "$made/gateway/usr/share/man/man8/resb-gateway.8.gz" >"$made/page"
+    mandoc -T lint -W warning "$made/page" || fail 'the manual page of resb-gateway has mistakes'
+    mandoc -T ascii "$made/page" | col -bx >"$made/shown"
+    for option in $("$made/gateway/usr/bin/resb-gateway" -help 2>&1 | sed -n 's/^  \(-[a-z-]*\).*/\1/p'); do
+        grep -qE -e "^     $option( |$)" "$made/shown" || fail "the manual page of resb-gateway lacks $option"
+        grep -qF -e " $option" "$made/gateway/usr/share/bash-completion/completions/resb-gateway" || fail "the completion of resb-gateway lacks $option"
+    done
+fi
+bash -c '. "$1" && complete -p resb-gateway' - "$made/gateway/usr/share/bash-completion/completions/resb-gateway" >/dev/null
+for unit in resb-gateway.service resb-gateway-backup.service resb-gateway-backup.timer; do
+    [ -f "$made/gateway/usr/lib/systemd/system/$unit" ] || fail "there is no $unit"
+done
 echo 'ok: the files of resb-gateway'
 
 # Makes the package of version 1.1.0, by the commit before the first that has changes below "Unreleased", or else from the new one.
