@@ -146,7 +146,6 @@ run_unit() {
     local root=$1 unit=$1/usr/lib/systemd/system/resb-gateway.service user
     [ -f "$unit" ] || return 0
     user=$(sed -n 's/^User=//p' "$unit")
-    quietly in_root "$root" / "install -d -o $user -g $user -m 700 /var/lib/$(sed -n 's/^StateDirectory=//p' "$unit")"
     quietly in_root "$root" / 'resb-gateway init -state /var/lib/resb-gateway'
     as_user() { ${run-} chroot --userspec="$user:$user" "$root" /usr/bin/env -i PATH=/usr/bin:/bin sh -c "$1"; }
     quietly as_user "$(sed -n 's/^ExecStart=//p' "$unit") -check-config"

@@ -95,8 +95,7 @@ set -eu
 [ ! -e /run/journal ] || exit 0
 unit() { sed -n "s/^$1=//p" "/etc/systemd/system/$unit.service"; }
 unit=$3
-install -d -m "$(unit StateDirectoryMode)" "/var/lib/$(unit StateDirectory)"
-chown -R "$(unit User):$(unit Group)" "/var/lib/$(unit StateDirectory)"
+install -d -o "$(unit User)" -g "$(unit Group)" -m "$(unit StateDirectoryMode)" "/var/lib/$(unit StateDirectory)"
 started "$(unit User)" -- $(unit ExecStart)
 END
     cat >podman <<'END'
