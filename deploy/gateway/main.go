@@ -42,9 +42,6 @@ const (
 // usage is what -help prints before the options.
 var usage = "usage: resb-gateway OPTIONS\n" + strings.ReplaceAll(operatorUsage+healthUsage+settings.Usage+tokenUsage, "usage:", "      ") + "\nOptions:\n"
 
-// conversions bound what other forms of bundles cost.
-var conversions = convert.Bounds{Time: 20 * time.Second, Memory: 1 << 30, Output: 128 << 20}
-
 func main() {
 	switch command := append(os.Args, "")[1]; command {
 	case "healthcheck", "-healthcheck", "--healthcheck":
@@ -168,7 +165,7 @@ func newGateway(leaving context.Context, s settings.Settings, p settings.Parts) 
 	options.Access, options.Audit = serve.JournalOf(g.access), serve.JournalOf(g.audit)
 	options.Version, options.Commit, options.Leaving = version, commit, leaving
 	g.Handler = api.New(&front.Handler{Backend: replica.Open(of, p.Engine, s.Replica), Engine: p.Engine, Tokens: p.Tokens,
-		Convert: convert.New(s.Program, conversions), Options: options})
+		Convert: &convert.Runner{Program: s.Program}, Options: options})
 	g.Metrics.Counter("log_lines_dropped_total", "Lines of logs that were left out, as nobody took them.", serve.Dropped)
 	g.Metrics.Gauge("certificate_expiry_timestamp_seconds", "When the certificate expires, in seconds since 1970, or 0 without one.", p.Pair.Expires)
 	g.Metrics.Gauge("certificate_bad", "1 if the files of the certificate can't be read again.", p.Pair.Bad)

@@ -11,6 +11,7 @@ import (
 	"time"
 
 	"luvdregan.example/resb/deploy/internal/convert"
+	"luvdregan.example/resb/deploy/internal/engine"
 	"luvdregan.example/resb/deploy/internal/manifest"
 	"luvdregan.example/resb/deploy/internal/settings"
 	"luvdregan.example/resb/deploy/internal/store"
@@ -156,14 +157,14 @@ func listStore(s settings.Settings, out io.Writer) error {
 
 // exportStore writes the bundles as files APP/LOCALE.txt below a folder, and replaces none. One that has no text is written as LOCALE.res.
 func exportStore(s settings.Settings, to string, out io.Writer) error {
-	runner, bundles := convert.New(s.Program, conversions), 0
+	bundles := 0
 	err := eachBundle(s, func(of store.Store, app string, b manifest.Bundle) error {
 		body, err := of.Body(context.Background(), app, b)
 		if err != nil {
 			return err
 		}
 		end := ".txt"
-		if text, err := runner.Text(b.Locale, b.Kind, body); err == nil {
+		if text, err := convert.To(engine.Text, b.Locale, b.Kind, body); err == nil {
 			body = text
 		} else {
 			end = ".res"

@@ -4,6 +4,7 @@ import (
 	"net/http"
 	"time"
 
+	"luvdregan.example/resb/deploy/internal/convert"
 	"luvdregan.example/resb/deploy/internal/front"
 	"luvdregan.example/resb/deploy/internal/lookup"
 	"luvdregan.example/resb/deploy/internal/manifest"
@@ -88,15 +89,7 @@ func converted(c *call, b manifest.Bundle, form wire.Form) (made []byte, err err
 	if err != nil || form.Kind == b.Kind {
 		return body, err
 	}
-	switch form.Suffix {
-	case "txt":
-		made, err = c.Convert.Text(b.Locale, b.Kind, body)
-	case "res":
-		made, err = c.Convert.File(b.Kind, body)
-	default:
-		made, err = c.Convert.JSON(b.Kind, body)
-	}
-	if err == nil {
+	if made, err = convert.To(form.Kind, b.Locale, b.Kind, body); err == nil {
 		err = c.Hold(int64(len(made)))
 	}
 	return made, err

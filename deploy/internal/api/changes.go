@@ -153,7 +153,7 @@ func condition(c *call, edit *replica.Edit) func(*manifest.Bundle) bool {
 func prepare(c *call, edit *replica.Edit, given payload) error {
 	return c.Long(c.Context(), int64(len(given.body)), func() (err error) {
 		if given.kind == convert.JSON {
-			if given.body, err = convert.TextOf(edit.Locale, given.body); err != nil {
+			if given.body, err = convert.To(engine.Text, edit.Locale, convert.JSON, given.body); err != nil {
 				return err
 			}
 			if int64(len(given.body)) > c.Options.TextBytes {

@@ -116,11 +116,11 @@ func merge(to, old, patch []byte) []byte {
 // Patched returns a bundle with a patch of its JSON (docs/JSON.md) in the form in which it was, and whether it has the same items. The error is a
 // *JSONFault if what the patch makes is no bundle. The memory of what is made is given to a function.
 func (r *Runner) Patched(ctx context.Context, b manifest.Bundle, body, patch []byte, hold func(bytes int64) error) (made []byte, same bool, err error) {
-	file, err := r.File(b.Kind, body)
+	file, err := To(engine.File, b.Locale, b.Kind, body)
 	if err != nil {
 		return nil, false, err
 	}
-	old, err := r.JSON(engine.File, file)
+	old, err := To(JSON, b.Locale, engine.File, file)
 	if err == nil {
 		err = hold(int64(3*len(file) + 4*len(old) + 2*len(patch)))
 	}

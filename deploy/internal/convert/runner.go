@@ -10,6 +10,9 @@ import (
 	"os/exec"
 	"sync"
 	"time"
+
+	"luvdregan.example/resb/deploy/internal/engine"
+	resb "luvdregan.example/resb/library/go"
 )
 
 // The errors of a conversion.
@@ -19,22 +22,46 @@ var (
 	ErrRun    = errors.New("the program can't be run")
 )
 
-// Bounds limit each run of the program. Who runs commands sees to it that there are few at once.
-type Bounds struct {
-	Time   time.Duration // of the processor, and twice that by the clock
-	Memory int64         // bytes of address space
-	Output int           // bytes, also of what the library makes
-}
+// The bounds of each run of the program. The caller limits how many run at once.
+const (
+	mostSeconds = 20        // of the processor, and twice that by the clock
+	mostMemory  = 1 << 20   // KB of address space
+	mostOutput  = 128 << 20 // bytes
+)
 
-// A Runner converts, and runs commands of the program.
+// A Runner runs commands of the program.
 type Runner struct {
-	program  string
-	bounds   Bounds
+	Program  string
 	meanings sync.Map // of codes
 }
 
-// New returns a runner of a program.
-func New(program string, bounds Bounds) *Runner { return &Runner{program: program, bounds: bounds} }
+// To returns a body of a bundle as one of another kind: a text, named after its locale, a file, or a line of JSON.
+func To(as, locale, kind string, body []byte) (made []byte, err error) {
+	if as == kind {
+		return body, nil
+	}
+	prepare := func() (*resb.Bundle, error) { return resb.Prepare(body, kind == engine.Text) }
+	if kind == JSON {
+		prepare = func() (*resb.Bundle, error) { return resb.PrepareJSON(body) }
+	}
+	b, err := prepare()
+	if err != nil {
+		return nil, engine.FaultOf(err)
+	}
+	defer b.Discard()
+	switch as {
+	case engine.Text:
+		var text string
+		text, err = b.Text(locale)
+		made = []byte(text)
+	case engine.File:
+		made, err = b.File()
+	default:
+		made, err = b.JSON()
+		made = append(made, '\n')
+	}
+	return made, engine.FaultOf(err)
+}
 
 // limited runs a command with a low priority under limits of the system. The shell becomes the command, so that ending it ends all.
 const limited = `ulimit -v "$0" && ulimit -t "$1" && ulimit -c 0 && shift && exec nice -n 10 "$@"`
@@ -42,12 +69,11 @@ const limited = `ulimit -v "$0" && ulimit -t "$1" && ulimit -c 0 && shift && exe
 // run runs a command with the body as its standard input, and returns what it prints to standard output. A command that finds a fault ends with
 // status 1 or 2, which is no error.
 func (r *Runner) run(ctx context.Context, body []byte, arguments ...string) ([]byte, error) {
-	ctx, cancel := context.WithTimeout(ctx, 2*r.bounds.Time)
+	ctx, cancel := context.WithTimeout(ctx, 2*mostSeconds*time.Second)
 	defer cancel()
-	seconds := int64((r.bounds.Time + time.Second - 1) / time.Second)
-	given := append([]string{"-c", limited, fmt.Sprint(r.bounds.Memory >> 10), fmt.Sprint(seconds), r.program}, arguments...)
+	given := append([]string{"-c", limited, fmt.Sprint(mostMemory), fmt.Sprint(mostSeconds), r.Program}, arguments...)
 	command := exec.CommandContext(ctx, "/bin/sh", given...)
-	out, said := &bounded{most: r.bounds.Output}, &bounded{most: 4 << 10}
+	out, said := &bounded{most: mostOutput}, &bounded{most: 4 << 10}
 	command.Stdin, command.Stdout, command.Stderr = bytes.NewReader(body), out, said
 	err := command.Run()
 	var exit *exec.ExitError

@@ -190,10 +190,10 @@ func Many(c *call) error {
 	h["Resb-Revision"], h["Content-Type"] = c.Backend.Now(c.App).Header(), linesType
 	c.NoStore()
 	var made bytes.Buffer
-	to := wire.Compressed(h, c.R, &made)
+	to, end := wire.Compressed(h, c.R, &made)
 	c.Status = http.StatusOK
 	c.W.WriteHeader(http.StatusOK)
-	stream(c, body, &made, to)
+	stream(c, body, &made, to, end)
 	return nil
 }
 
@@ -206,7 +206,7 @@ const (
 )
 
 // stream writes the replies to lines. While the caller reads it takes no turn.
-func stream(c *call, lines []byte, made *bytes.Buffer, to io.WriteCloser) {
+func stream(c *call, lines []byte, made *bytes.Buffer, to io.Writer, end func() error) {
 	var replies []byte
 	before, isLong := c.Ticket.Held(), len(lines) > front.Short // many short lines take long, too
 	some := func() error {
@@ -217,7 +217,7 @@ func stream(c *call, lines []byte, made *bytes.Buffer, to io.WriteCloser) {
 		}
 		_, err := to.Write(replies)
 		if err == nil && len(lines) == 0 {
-			err = to.Close()
+			err = end()
 		}
 		return err
 	}

@@ -107,46 +107,27 @@ type caller struct {
 // first. Another program before this one may have gone by the other. A header that came with an earlier request's body isn't seen.
 func (c *caller) HasTwoLengths() bool { return c.both }
 
-// Lengths are the fields of a header that say where a body ends. Of a line only the begin is stored.
+// Lengths are the fields of a header that say where a body ends.
 type lengths struct {
-	line              [len("transfer-encoding:")]byte
+	line              [len("transfer-encoding:")]byte // the begin of the one that comes
 	used              int
 	content, encoding bool
-	over              bool // the header has ended
+	over              bool // the header has ended, with an empty line
 }
 
 // take reads the next bytes of a header, and what follows it.
 func (l *lengths) take(header []byte) {
-	for len(header) > 0 && !l.over {
-		line, rest, isWhole := bytes.Cut(header, []byte("\n"))
-		if l.add(line); isWhole {
-			l.endLine()
-		}
-		header = rest
-	}
-}
-
-// add stores the begin of a line. Of most lines the first byte suffices.
-func (l *lengths) add(part []byte) {
-	for _, b := range part {
-		switch {
-		case l.used == len(l.line), l.used > 0 && l.line[0]|0x20 != 'c' && l.line[0]|0x20 != 't':
-			return
-		case b != '\r':
-			l.line[l.used] = b
-			l.used++
+	for isWhole := true; isWhole && !l.over; {
+		var part []byte
+		part, header, isWhole = bytes.Cut(header, []byte("\n"))
+		l.used += copy(l.line[l.used:], part)
+		if line := bytes.TrimRight(l.line[:l.used], "\r"); isWhole {
+			name, _, _ := strings.Cut(string(line), ":")
+			l.content = l.content || strings.EqualFold(name, "Content-Length")
+			l.encoding = l.encoding || strings.EqualFold(name, "Transfer-Encoding")
+			l.over, l.used = len(line) == 0, 0
 		}
 	}
-}
-
-// endLine ends a line. The header ends with an empty one.
-func (l *lengths) endLine() {
-	if l.used > 1 {
-		name, _, _ := strings.Cut(string(l.line[:l.used]), ":")
-		l.content = l.content || strings.EqualFold(name, "Content-Length")
-		l.encoding = l.encoding || strings.EqualFold(name, "Transfer-Encoding")
-	}
-	l.over, l.used = l.used == 0, 0
 }
 
 // Read reads bytes of the caller. If they don't come in time, and a header is begun, the caller gets an error.

@@ -9,6 +9,7 @@ import (
 	"os/exec"
 	"path/filepath"
 	"strings"
+	"syscall"
 	"time"
 
 	"luvdregan.example/resb/deploy/internal/auth"
@@ -27,8 +28,8 @@ type Parts struct {
 	Engine *engine.Engine
 }
 
-// Open reads the files that the settings name, and returns an error if one isn't as it must be. It changes and binds nothing, so a gateway may
-// run meanwhile. A start and -check-config have the same errors from it.
+// Open reads the files that the settings name, and returns an error if one isn't as it must be. It changes nothing, and binds none of their ports, so a gateway
+// may run meanwhile. A start and -check-config have the same errors from it.
 func (s *Settings) Open() (p Parts, err error) {
 	for _, step := range []func(*Parts) error{
 		s.checkUses, s.openTokens, s.openPair, s.checkAddresses, s.checkLogs, s.openEngine, s.checkProgram, s.checkStore} {
@@ -183,20 +184,16 @@ func (s *Settings) address(name, text string) (*net.TCPAddr, error) {
 	return at, nil
 }
 
-// isLocal returns true if the machine can listen at an address: it has it, or the system needn't have it.
+// isLocal returns true unless the machine can't listen at an address because it doesn't have it. It tries that at a port that nobody uses.
 func isLocal(ip net.IP) bool {
 	if ip == nil || ip.IsUnspecified() || ip.IsLoopback() {
-		return true
+		return true // even if it lacks IPv6: a name may have another address
 	}
-	addresses, err := net.InterfaceAddrs()
-	for _, one := range addresses {
-		if network, is := one.(*net.IPNet); is && network.IP.Equal(ip) {
-			return true
-		}
+	l, err := net.ListenTCP("tcp", &net.TCPAddr{IP: ip})
+	if err == nil {
+		_ = l.Close()
 	}
-	version := map[bool]string{true: "ipv4", false: "ipv6"}[ip.To4() != nil]
-	foreign, _ := os.ReadFile("/proc/sys/net/" + version + "/ip_nonlocal_bind")
-	return err != nil || strings.HasPrefix(string(foreign), "1")
+	return !errors.Is(err, syscall.EADDRNOTAVAIL) && !errors.Is(err, syscall.EAFNOSUPPORT)
 }
 
 func (s *Settings) checkLogs(*Parts) error {

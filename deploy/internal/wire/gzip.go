@@ -62,27 +62,17 @@ func Zipped(h http.Header, body []byte) []byte {
 	return out.Bytes()
 }
 
-// Compressed returns a writer whose bytes are compressed if the caller takes that, and sets the headers. Close writes what is left.
-func Compressed(h http.Header, r *http.Request, to io.Writer) io.WriteCloser {
+// Compressed returns a writer whose bytes are compressed if the caller takes that, and sets the headers. The function writes what is left.
+func Compressed(h http.Header, r *http.Request, to io.Writer) (w io.Writer, end func() error) {
 	h.Add("Vary", "Accept-Encoding")
 	if !TakesGzip(r) {
-		return plain{to}
+		return to, func() error { return nil }
 	}
 	h.Set("Content-Encoding", "gzip")
-	w := zippers.Get().(*gzip.Writer)
-	w.Reset(to)
-	return zipper{w}
-}
-
-type plain struct{ io.Writer }
-
-// Close does nothing.
-func (plain) Close() error { return nil }
-
-type zipper struct{ *gzip.Writer }
-
-// Close writes what is left, and gives the writer back.
-func (z zipper) Close() error {
-	defer zippers.Put(z.Writer)
-	return z.Writer.Close()
+	z := zippers.Get().(*gzip.Writer)
+	z.Reset(to)
+	return z, func() error {
+		defer zippers.Put(z)
+		return z.Close()
+	}
 }

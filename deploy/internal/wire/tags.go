@@ -13,19 +13,13 @@ import (
 // gzipTag ends the tag of a compressed reply, inside its quotes: a strong tag names bytes.
 const gzipTag = ".gz"
 
-// tagBytes is how many bytes of a hash a tag has, tagLength how many characters of base64url.
-const (
-	tagBytes  = 16
-	tagLength = 22
-)
+// tagBytes is how many bytes of a hash a tag has.
+const tagBytes = 16
 
 // TagOf returns the tag of a reply, equal only for equal replies.
 func TagOf(reply []byte) string {
 	sum := sha256.Sum256(reply)
-	var tag [tagLength + 2]byte
-	tag[0], tag[len(tag)-1] = '"', '"'
-	base64.RawURLEncoding.Encode(tag[1:len(tag)-1], sum[:tagBytes])
-	return string(tag[:])
+	return `"` + base64.RawURLEncoding.EncodeToString(sum[:tagBytes]) + `"`
 }
 
 // BundleTag returns the tag of a bundle: the first bytes of its SHA-256. After a full stop a tag of another form has its name, and one of a
@@ -72,10 +66,17 @@ func tags(headers []string) []string {
 
 // Has returns true if the caller has what a tag names, perhaps compressed, and the tag that the reply gets.
 func Has(r *http.Request, tag string) (reply string, has bool) {
-	headers := r.Header["If-None-Match"]
-	if len(headers) == 0 {
-		return tag, false
-	}
+	return find(tag, r.Header["If-None-Match"])
+}
+
+// IsOneOf returns true if headers with tags have one.
+func IsOneOf(tag string, headers []string) bool {
+	_, is := find(tag, headers)
+	return is
+}
+
+// find returns the tag in headers that names what a tag does, or the tag itself and false.
+func find(tag string, headers []string) (found string, is bool) {
 	for _, one := range tags(headers) {
 		if one == "*" || one == tag {
 			return tag, true
@@ -131,13 +132,3 @@ func (c Conditions) Hold(now *manifest.Bundle, made manifest.Digest) bool {
 
 // At returns when a bundle was put.
 func At(b *manifest.Bundle) time.Time { return time.UnixMilli(b.At).UTC() }
-
-// IsOneOf returns true if headers with tags have one.
-func IsOneOf(tag string, headers []string) bool {
-	for _, one := range tags(headers) {
-		if one == "*" || one == tag || strings.TrimSuffix(one, gzipTag+`"`)+`"` == tag {
-			return true
-		}
-	}
-	return false
-}

@@ -216,14 +216,13 @@ func (c *checked) bodiesOf(from reader) (sound map[manifest.Digest]bool, err err
 	var swap int64
 	var crc uint32
 	var body sql.RawBytes
-	q := query{"select digest, swap, crc, body from bodies where app = ?", []any{from.app}}
-	err = q.each(from.tx, func() error {
+	err = each(from.tx, func() error {
 		if swap < 0 || swap > c.swaps {
 			return rowDamaged("bodies", fmt.Errorf("it is of change %d of %d", swap, c.swaps), from.app, d)
 		}
 		sound[d] = checksum(body) == crc
 		return nil
-	}, &d, &swap, &crc, &body)
+	}, []any{&d, &swap, &crc, &body}, "select digest, swap, crc, body from bodies where app = ?", from.app)
 	return sound, err
 }
 

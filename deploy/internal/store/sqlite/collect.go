@@ -31,12 +31,11 @@ func (s *Store) Collect(ctx context.Context, keep store.Keep) (removed int, err 
 	err = s.read(ctx, func(tx *sql.Tx) error {
 		var app string
 		var of store.Stamp
-		q := query{text: `select app, count(*), (select ifnull(max(revision), 0) from manifests m where m.app = b.app)
-			from bodies b group by app`}
-		return q.each(tx, func() error {
+		return each(tx, func() error {
 			apps[app] = of
 			return nil
-		}, &app, &of.Bodies, &of.Revision)
+		}, []any{&app, &of.Bodies, &of.Revision}, `select app, count(*), (select ifnull(max(revision), 0) from manifests m where m.app = b.app)
+			from bodies b group by app`)
 	})
 	if err != nil {
 		return 0, err

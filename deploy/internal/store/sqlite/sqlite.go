@@ -260,28 +260,22 @@ func inTx(ctx context.Context, db *sql.DB, do func(tx *sql.Tx) error) error {
 	return do(tx)
 }
 
-// A query is a statement with its arguments.
-type query struct {
-	text string
-	args []any
-}
-
-// each reads the columns of each row, and then calls a function.
-func (q query) each(tx *sql.Tx, do func() error, columns ...any) error {
-	rows, err := tx.Query(q.text, q.args...)
+// each reads the columns of each row of a query, and then calls a function.
+func each(tx *sql.Tx, do func() error, columns []any, query string, args ...any) error {
+	rows, err := tx.Query(query, args...)
 	if err != nil {
 		return err
 	}
 	defer rows.Close()
-	for rows.Next() {
-		if err := rows.Scan(columns...); err != nil {
-			return err
-		}
-		if err := do(); err != nil {
-			return err
+	for err == nil && rows.Next() {
+		if err = rows.Scan(columns...); err == nil {
+			err = do()
 		}
 	}
-	return rows.Err()
+	if err == nil {
+		err = rows.Err()
+	}
+	return err
 }
 
 // A reader reads an application.
@@ -295,18 +289,16 @@ func (r reader) Heads(before int64, most int) (all []*manifest.Manifest, err err
 	if before == 0 {
 		before = math.MaxInt64
 	}
-	q := query{`select revision, head from manifests where app = ? and revision < ?
-		order by revision desc limit ?`, []any{r.app, before, most}}
 	var revision int64
 	var head []byte
-	err = q.each(r.tx, func() error {
+	err = each(r.tx, func() error {
 		m, err := store.ReadHead(r.app, revision, head)
 		if err != nil {
 			return rowDamaged("manifests", err, r.app, revision)
 		}
 		all = append(all, m)
 		return nil
-	}, &revision, &head)
+	}, []any{&revision, &head}, "select revision, head from manifests where app = ? and revision < ? order by revision desc limit ?", r.app, before, most)
 	return all, err
 }
 
@@ -323,51 +315,43 @@ func (r reader) Page(d manifest.Digest) (body []byte, err error) {
 	return body, err
 }
 
-// Manifest returns the manifest of a revision.
-func (s *Store) Manifest(ctx context.Context, app string, revision int64, near *manifest.Manifest) (
-	m *manifest.Manifest, err error) {
-	err = s.read(ctx, func(tx *sql.Tx) error {
-		m, err = store.ReadManifest(reader{tx, app}, revision, near)
-		return err
-	})
-	return m, err
-}
-
-// History returns the last manifests.
-func (s *Store) History(ctx context.Context, app string, before int64, most int) (
-	all []*manifest.Manifest, err error) {
-	err = s.read(ctx, func(tx *sql.Tx) error {
-		all, err = store.ReadHistory(reader{tx, app}, before, most)
-		return err
-	})
-	return all, err
-}
-
-// Digests returns those of the bodies of an application.
-func (s *Store) Digests(ctx context.Context, app string) (all map[manifest.Digest]bool, err error) {
-	err = s.read(ctx, func(tx *sql.Tx) error {
-		all, err = reader{tx, app}.digests()
-		return err
-	})
-	return all, err
-}
-
+// digests returns those of the bodies.
 func (r reader) digests() (map[manifest.Digest]bool, error) {
 	all := map[manifest.Digest]bool{}
 	var d manifest.Digest
-	q := query{"select digest from bodies where app = ?", []any{r.app}}
-	return all, q.each(r.tx, func() error {
+	return all, each(r.tx, func() error {
 		all[d] = true
 		return nil
-	}, &d)
+	}, []any{&d}, "select digest from bodies where app = ?", r.app)
+}
+
+// of returns what a function reads of an application at one moment.
+func of[T any](ctx context.Context, s *Store, app string, read func(from reader) (T, error)) (found T, err error) {
+	err = s.read(ctx, func(tx *sql.Tx) error {
+		found, err = read(reader{tx, app})
+		return err
+	})
+	return found, err
+}
+
+// Manifest returns the manifest of a revision.
+func (s *Store) Manifest(ctx context.Context, app string, revision int64, near *manifest.Manifest) (*manifest.Manifest, error) {
+	return of(ctx, s, app, func(from reader) (*manifest.Manifest, error) { return store.ReadManifest(from, revision, near) })
+}
+
+// History returns the last manifests.
+func (s *Store) History(ctx context.Context, app string, before int64, most int) ([]*manifest.Manifest, error) {
+	return of(ctx, s, app, func(from reader) ([]*manifest.Manifest, error) { return store.ReadHistory(from, before, most) })
+}
+
+// Digests returns those of the bodies of an application.
+func (s *Store) Digests(ctx context.Context, app string) (map[manifest.Digest]bool, error) {
+	return of(ctx, s, app, reader.digests)
 }
 
 // Body returns a body.
-func (s *Store) Body(ctx context.Context, app string, b manifest.Bundle) (body []byte, err error) {
-	err = s.read(ctx, func(tx *sql.Tx) error {
-		body, err = reader{tx, app}.Page(b.Digest)
-		return err
-	})
+func (s *Store) Body(ctx context.Context, app string, b manifest.Bundle) ([]byte, error) {
+	body, err := of(ctx, s, app, func(from reader) ([]byte, error) { return from.Page(b.Digest) })
 	if errors.Is(err, store.ErrDamaged) {
 		s.damaged.Store(blob{app, b.Digest}, true)
 	}
@@ -386,10 +370,10 @@ select app, (select max(revision) from manifests where app = n.app) from n where
 func newest(tx *sql.Tx, do func(app string, revision int64)) error {
 	var app string
 	var revision int64
-	return query{text: selectNewest}.each(tx, func() error {
+	return each(tx, func() error {
 		do(app, revision)
 		return nil
-	}, &app, &revision)
+	}, []any{&app, &revision}, selectNewest)
 }
 
 // Newest calls a function for the newest manifest of each application.
