@@ -7,6 +7,7 @@ package store
 import (
 	"context"
 	"errors"
+	"fmt"
 	"time"
 
 	"luvdregan.example/resb/deploy/internal/manifest"
@@ -87,4 +88,103 @@ func Pause(ctx context.Context, d time.Duration) bool {
 	case <-ctx.Done():
 		return false
 	}
+}
+
+// A Reader reads one application in a store.
+type Reader interface {
+	// Heads returns the last manifests before a revision, or the last ones if that is 0, the newest
+	// first. They lack what their pages have.
+	Heads(before int64, most int) ([]*manifest.Manifest, error)
+	// Page returns a page of a manifest. If it is missing the error wraps ErrNoBody.
+	Page(manifest.Digest) ([]byte, error)
+}
+
+// someHeads is how many heads are read at a time.
+const someHeads = 64
+
+// EachHead calls a function for all heads, the newest first, until it returns false.
+func EachHead(from Reader, do func(m *manifest.Manifest) (more bool, err error)) error {
+	for before := int64(0); ; {
+		some, err := from.Heads(before, someHeads)
+		for _, m := range some {
+			if more, err := do(m); err != nil || !more {
+				return err
+			}
+			before = m.Revision
+		}
+		if err != nil || len(some) < someHeads {
+			return err
+		}
+	}
+}
+
+// ReadHead reads the head that is stored for a revision of an application.
+func ReadHead(app string, revision int64, head []byte) (*manifest.Manifest, error) {
+	m, err := manifest.ReadHead(head)
+	if err == nil && (m.App != app || m.Revision != revision) {
+		err = fmt.Errorf("%w: it is the manifest of %s at %d", ErrDamaged, m.App, m.Revision)
+	}
+	return m, err
+}
+
+// ReadManifest does for a reader what Manifest does for a store.
+func ReadManifest(from Reader, revision int64, near *manifest.Manifest) (*manifest.Manifest, error) {
+	before := revision
+	if revision > 0 {
+		before++
+	}
+	found, err := from.Heads(before, 1)
+	switch {
+	case err != nil:
+		return nil, err
+	case len(found) == 0 || revision > 0 && found[0].Revision != revision:
+		return nil, ErrNoVersion
+	}
+	return found[0], found[0].Fill(near, from.Page)
+}
+
+// ReadHistory does for a reader what History does for a store.
+func ReadHistory(from Reader, before int64, most int) (all []*manifest.Manifest, err error) {
+	all, err = from.Heads(before, most)
+	for _, m := range all {
+		if err == nil {
+			err = m.FillMade(from.Page)
+		}
+	}
+	return all, err
+}
+
+// Copy copies the newest manifests of all applications, with their bodies, into a store that has none of these applications, and returns how many
+// they are. They keep their revisions; earlier manifests are left behind. Nobody may write to either store meanwhile.
+func Copy(ctx context.Context, from, to Store) (apps int, err error) {
+	last := map[string]int64{}
+	if err := from.Newest(ctx, func(app string, revision int64) { last[app] = revision }); err != nil {
+		return 0, err
+	}
+	for app, revision := range last {
+		if err := copyOne(ctx, from, to, app, revision); err != nil {
+			return apps, fmt.Errorf("%s: %w", app, err)
+		}
+		apps++
+	}
+	return apps, nil
+}
+
+func copyOne(ctx context.Context, from, to Store, app string, revision int64) error {
+	m, err := from.Manifest(ctx, app, revision, nil)
+	if err != nil {
+		return err
+	}
+	bodies := map[manifest.Digest][]byte{}
+	for _, b := range m.Bundles {
+		if bodies[b.Digest], err = from.Body(ctx, app, b); err != nil {
+			return err
+		}
+		if file := b.FileBody(); b.File != "" {
+			if bodies[b.File], err = from.Body(ctx, app, file); err != nil {
+				return err
+			}
+		}
+	}
+	return to.Swap(ctx, m.First(), bodies)
 }

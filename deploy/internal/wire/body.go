@@ -8,9 +8,46 @@ import (
 	"io"
 	"net"
 	"net/http"
+	"net/url"
 	"os"
+	"strings"
 	"time"
+
+	"luvdregan.example/resb/deploy/internal/convert"
+	"luvdregan.example/resb/deploy/internal/engine"
 )
+
+// The types of bodies.
+const (
+	JSON  = "application/json"
+	Lines = "application/x-ndjson"
+	Text  = "text/plain"
+	File  = "application/octet-stream"
+	Patch = "application/merge-patch+json"
+)
+
+// A Form is one in which a bundle is submitted and returned. Kind is that of its bodies.
+type Form struct {
+	Suffix, Type, Kind string
+	Header             []string // Content-Type
+}
+
+// Forms are all forms, the last one that of trees.
+var Forms = []Form{
+	{"txt", Text, engine.Text, []string{Text + "; charset=utf-8"}},
+	{"res", File, engine.File, []string{File}},
+	{"json", JSON, convert.JSON, []string{JSON}},
+}
+
+// FormOf returns the form that the suffix of a name says, and the name without it.
+func FormOf(name string) (locale string, of Form, ok bool) {
+	for _, f := range Forms {
+		if locale = strings.TrimSuffix(name, "."+f.Suffix); locale != name {
+			return locale, f, true
+		}
+	}
+	return name, of, false
+}
 
 // A body must come at a least rate: leastBytes in each leastInterval, unless it is whole.
 const (
@@ -165,4 +202,94 @@ func (p *pace) stop(whole bool) {
 	case p.conn != nil:
 		_ = p.conn.SetReadDeadline(p.end)
 	}
+}
+
+// Segments returns the parts of an address, unescaped. A part with a slash, `.` or `..` is refused: no key has a slash, and proxies treat the
+// others in different ways.
+func Segments(escaped string) (parts []string, ok bool) {
+	if !strings.HasPrefix(escaped, "/") {
+		return nil, false
+	}
+	parts = strings.Split(escaped[1:], "/")
+	for i, part := range parts {
+		plain, err := part, error(nil)
+		if strings.IndexByte(part, '%') >= 0 {
+			plain, err = url.PathUnescape(part)
+		}
+		if err != nil || strings.IndexByte(plain, '/') >= 0 || plain == "." || plain == ".." {
+			return nil, false
+		}
+		parts[i] = plain
+	}
+	return parts, true
+}
+
+// Caller returns the address from which a request comes, without the port: behind proxies that the operator names, the last address in
+// X-Forwarded-For that is none of theirs.
+func Caller(r *http.Request, proxies []*net.IPNet) string {
+	host, _, err := net.SplitHostPort(r.RemoteAddr)
+	if err != nil {
+		host = r.RemoteAddr
+	}
+	if len(proxies) == 0 || !isOf(host, proxies) {
+		return host
+	}
+	forwarded := members(r.Header["X-Forwarded-For"])
+	for i := len(forwarded) - 1; i >= 0; i-- {
+		if net.ParseIP(forwarded[i]) == nil {
+			return host
+		}
+		if host = forwarded[i]; !isOf(host, proxies) {
+			break
+		}
+	}
+	return host
+}
+
+func isOf(host string, proxies []*net.IPNet) bool {
+	ip := net.ParseIP(host)
+	for _, one := range proxies {
+		if ip != nil && one.Contains(ip) {
+			return true
+		}
+	}
+	return false
+}
+
+// Headers that scripts of other origins may send and read (CORS).
+const (
+	corsMethods = "GET, HEAD, PUT, POST, PATCH, DELETE"
+	corsHeaders = "Authorization, Content-Type, If-Match, If-None-Match, If-Unmodified-Since, Accept-Language"
+	corsReads   = "ETag, Last-Modified, Location, Retry-After, Content-Language, Resb-Revision"
+)
+
+// CORS lets scripts of the allowed origins ask, and returns true if a browser asks whether one may, for which the headers are set then. That
+// needs no token, since browsers send none then; it tells nothing of applications.
+func CORS(h http.Header, r *http.Request, origins []string) (asks bool) {
+	if len(origins) == 0 {
+		return false
+	}
+	h.Add("Vary", "Origin")
+	origin := r.Header.Get("Origin")
+	allowed := ""
+	for _, one := range origins {
+		if one == "*" || origin != "" && strings.EqualFold(one, origin) {
+			allowed = one
+		}
+	}
+	if origin == "" || allowed == "" {
+		return false
+	}
+	if allowed != "*" {
+		allowed = origin
+	}
+	h.Set("Access-Control-Allow-Origin", allowed)
+	if r.Method != http.MethodOptions || r.Header.Get("Access-Control-Request-Method") == "" {
+		h.Set("Access-Control-Expose-Headers", corsReads)
+		return false
+	}
+	h.Set("Access-Control-Allow-Methods", corsMethods)
+	h.Set("Access-Control-Allow-Headers", corsHeaders)
+	h.Set("Access-Control-Max-Age", "600")
+	return true
 }

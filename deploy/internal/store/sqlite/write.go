@@ -7,6 +7,7 @@ import (
 	"fmt"
 	"os"
 	"path/filepath"
+	"syscall"
 	"time"
 
 	"github.com/mattn/go-sqlite3"
@@ -356,4 +357,145 @@ func (s *Store) checkpoint(how string) error {
 		return errors.New("somebody reads what is in the WAL")
 	}
 	return nil
+}
+
+// disk returns the bytes that are free on the disk, and its size.
+func (s *Store) disk() (free, size int64, ok bool) {
+	var of syscall.Statfs_t
+	if syscall.Statfs(s.folder, &of) != nil {
+		return 0, 0, false
+	}
+	return int64(of.Bavail) * of.Bsize, int64(of.Blocks) * of.Bsize, true
+}
+
+// fits returns true if the disk has space for a change of this many bytes: in the WAL, in the database except for its free pages, and what is
+// to be left.
+func (s *Store) fits(bytes int) bool {
+	free, _, ok := s.disk()
+	if !ok || free > 2*int64(bytes)+s.spare {
+		return true
+	}
+	var pages, page int64
+	row := s.writer.QueryRow("select freelist_count, page_size from pragma_freelist_count, pragma_page_size")
+	if row.Scan(&pages, &page) != nil {
+		return false
+	}
+	grows := int64(bytes) - pages*page
+	if grows <= 0 {
+		return free > int64(bytes)
+	}
+	return free > int64(bytes)+grows+s.spare
+}
+
+// reserve fills a file, so that removals have space on a full disk: for the WAL, and for what is in the WAL and not yet in the database.
+func (s *Store) reserve() {
+	_, size, ok := s.disk()
+	bytes := int64(4 << 20)
+	if ok && size/4 < bytes {
+		bytes = size / 4
+	}
+	if s.spare == 0 {
+		s.spare = bytes / 4
+	}
+	path := filepath.Join(s.folder, reserved)
+	f, err := os.OpenFile(path, os.O_CREATE|os.O_RDWR, 0o600)
+	if err != nil {
+		return
+	}
+	defer f.Close()
+	_ = own(s.folder, path)
+	_ = syscall.Fallocate(int(f.Fd()), 0, 0, bytes)
+}
+
+// withReserve calls a function with the space of the reserve, moves the WAL into the database, and takes the space again.
+func (s *Store) withReserve(do func()) {
+	_ = os.Truncate(filepath.Join(s.folder, reserved), 0)
+	do()
+	_ = s.checkpoint("truncate")
+	s.reserve()
+}
+
+// A plan says what is removed of an application. It is made while others write: what they store again has a later number.
+type plan struct {
+	app     string
+	gone    []store.Span      // manifests
+	unnamed []manifest.Digest // bodies, and pages
+	swaps   int64             // the number of the last change when it was made
+	isFinal bool
+	wipes   bool // what is removed is overwritten
+}
+
+// Collect removes earlier manifests, and bodies that none names, of one application in each transaction. A swap stores its bodies itself, so they need
+// no time of grace.
+func (s *Store) Collect(ctx context.Context, keep store.Keep) (removed int, err error) {
+	if s.unwiped.Load() {
+		nothing := func(*transaction) error { return nil }
+		if err := s.submit(ctx, &job{shrinks: true, wipes: true, do: nothing}); err != nil {
+			return 0, err
+		}
+	}
+	apps := map[string]store.Stamp{}
+	err = s.read(ctx, func(tx *sql.Tx) error {
+		var app string
+		var of store.Stamp
+		return each(tx, func() error {
+			apps[app] = of
+			return nil
+		}, []any{&app, &of.Bodies, &of.Revision}, `select app, count(*), (select ifnull(max(revision), 0) from manifests m where m.app = b.app)
+			from bodies b group by app`)
+	})
+	if err != nil {
+		return 0, err
+	}
+	return s.collector.Collect(apps, keep, func(app string) (removed int, isFinal bool, err error) {
+		p := &plan{app: app}
+		err = s.read(ctx, func(tx *sql.Tx) error { return p.make(tx, keep) })
+		if err == nil && len(p.gone)+len(p.unnamed) > 0 {
+			err = s.submit(ctx, &job{shrinks: true, wipes: p.wipes, do: func(t *transaction) (err error) {
+				removed, err = p.carryOut(t)
+				return err
+			}})
+		}
+		return removed, p.isFinal, err
+	})
+}
+
+// make plans with the database at one moment.
+func (p *plan) make(tx *sql.Tx, keep store.Keep) error {
+	if err := tx.QueryRow("select swaps from state").Scan(&p.swaps); err != nil {
+		return err
+	}
+	stay, err := store.NewPlan(reader{tx, p.app}, keep)
+	if err != nil {
+		return err
+	}
+	p.gone, p.isFinal, p.wipes = stay.Gone, stay.IsFinal, stay.IsErased
+	stored, err := reader{tx, p.app}.digests()
+	for d := range stored {
+		if !stay.Named[d] {
+			p.unnamed = append(p.unnamed, d)
+		}
+	}
+	return err
+}
+
+// carryOut removes what was planned, except what was stored again.
+func (p *plan) carryOut(t *transaction) (removed int, err error) {
+	remove := func(query string, args ...any) {
+		if err != nil {
+			return
+		}
+		var done sql.Result
+		if done, err = t.exec(query, args...); err == nil {
+			n, _ := done.RowsAffected()
+			removed += int(n)
+		}
+	}
+	for _, one := range p.gone {
+		remove("delete from manifests where app = ? and revision >= ? and revision < ?", p.app, one.From, one.End)
+	}
+	for _, d := range p.unnamed {
+		remove("delete from bodies where app = ? and digest = ? and swap <= ?", p.app, d, p.swaps)
+	}
+	return removed, err
 }
