@@ -6,7 +6,6 @@ import (
 	"crypto/x509"
 	"errors"
 	"fmt"
-	"log"
 	"net"
 	"os"
 	"os/exec"
@@ -15,6 +14,7 @@ import (
 	"syscall"
 	"time"
 
+	"go.etcd.io/etcd/clientv3"
 	"go.etcd.io/etcd/pkg/transport"
 
 	"luvdregan.example/resb/deploy/internal/auth"
@@ -35,8 +35,8 @@ type Parts struct {
 	Engine *engine.Engine
 }
 
-// Open reads the files that the settings name, and returns an error if one isn't as it must be. It changes nothing, and binds none of their ports, so a gateway
-// may run meanwhile. A start and -check-config have the same errors from it.
+// Open reads the files that the settings name, and returns an error if one isn't as it must be. It changes nothing, and binds none of their
+// ports, so a gateway may run meanwhile. A start and -check-config have the same errors from it.
 func (s *Settings) Open() (p Parts, err error) {
 	for _, step := range []func(*Parts) error{
 		s.checkUses, s.openTokens, s.openPair, s.checkAddresses, s.checkLogs, s.openEngine, s.checkProgram, s.checkStore} {
@@ -329,8 +329,8 @@ func (s *Settings) FindStore() (of store.Store, refusal, err error) {
 }
 
 // etcdOptions reads the files that say how etcd is reached.
-func (s *Settings) etcdOptions() (o etcd.Options, err error) {
-	o = etcd.Options{Endpoints: split(s.Etcd), Logf: log.Printf}
+func (s *Settings) etcdOptions() (o clientv3.Config, err error) {
+	o.Endpoints = split(s.Etcd)
 	if s.etcdLogin != "" {
 		text, err := os.ReadFile(s.etcdLogin)
 		if err != nil {
@@ -340,7 +340,7 @@ func (s *Settings) etcdOptions() (o etcd.Options, err error) {
 		if len(words) != 2 {
 			return o, s.Wrong("etcd-login", ": %s: a user and a password are missing", s.etcdLogin)
 		}
-		o.User, o.Password = words[0], words[1]
+		o.Username, o.Password = words[0], words[1]
 	}
 	if s.etcdCert != "" {
 		if _, err := tls.LoadX509KeyPair(s.etcdCert, s.etcdKey); err != nil {

@@ -11,9 +11,9 @@ package etcd
 
 import (
 	"context"
-	"crypto/tls"
 	"errors"
 	"fmt"
+	"log"
 	"strings"
 	"sync"
 	"time"
@@ -44,21 +44,10 @@ type moment struct {
 	last     string
 }
 
-// Options say how etcd is reached.
-type Options struct {
-	Endpoints      []string
-	TLS            *tls.Config
-	User, Password string
-	Logf           func(format string, args ...any)
-}
-
 // A Store is a client of etcd.
 type Store struct {
 	*clientv3.Client
-	logf func(format string, args ...any)
-
-	grace time.Duration // the least of a collection
-
+	grace     time.Duration // the least of a collection
 	collector store.Collector
 
 	mu       sync.Mutex
@@ -69,16 +58,17 @@ type Store struct {
 	again    chan error    // why another watch is begun
 }
 
-// Open makes a client. It doesn't wait for a server.
-func Open(o Options) (*Store, error) {
-	log := zap.NewProductionConfig()
-	log.Level = zap.NewAtomicLevelAt(zap.ErrorLevel)
-	c, err := clientv3.New(clientv3.Config{Endpoints: o.Endpoints, TLS: o.TLS, Username: o.User, Password: o.Password,
-		DialTimeout: wait, DialKeepAliveTime: 10 * time.Second, DialKeepAliveTimeout: wait, PermitWithoutStream: true, LogConfig: &log})
+// Open makes a client for the servers and the user of a configuration. It doesn't wait for a server.
+func Open(to clientv3.Config) (*Store, error) {
+	logs := zap.NewProductionConfig()
+	logs.Level = zap.NewAtomicLevelAt(zap.ErrorLevel)
+	to.DialTimeout, to.DialKeepAliveTime, to.DialKeepAliveTimeout = wait, 10*time.Second, wait
+	to.PermitWithoutStream, to.LogConfig = true, &logs
+	c, err := clientv3.New(to)
 	if err != nil {
 		return nil, fmt.Errorf("etcd: %w", err)
 	}
-	return &Store{Client: c, logf: o.Logf, grace: leastGrace, sure: time.Now(), moved: make(chan struct{}), again: make(chan error, 1)}, nil
+	return &Store{Client: c, grace: leastGrace, sure: time.Now(), moved: make(chan struct{}), again: make(chan error, 1)}, nil
 }
 
 // Reach returns an error unless etcd answers a read: at once if it refuses this client, or when the context ends.
@@ -314,7 +304,7 @@ func (s *Store) Watch(ctx context.Context, seen func(app string, revision int64)
 		if err := s.watchOnce(ctx, seen); errors.Is(err, store.ErrWentBack) {
 			return err
 		} else if err != nil && ctx.Err() == nil {
-			s.logf("etcd: watch: %v", err)
+			log.Printf("etcd: watch: %v", err)
 			store.Pause(ctx, 100*time.Millisecond)
 		}
 	}

@@ -4,6 +4,8 @@ import (
 	"strings"
 	"testing"
 
+	"go.etcd.io/etcd/clientv3"
+
 	"luvdregan.example/resb/deploy/internal/store"
 	"luvdregan.example/resb/deploy/internal/store/sqlite"
 	"luvdregan.example/resb/deploy/internal/store/storetest"
@@ -11,7 +13,7 @@ import (
 
 func open(t testing.TB, endpoints string) *Store {
 	t.Helper()
-	s, err := Open(Options{Endpoints: strings.Split(endpoints, ","), Logf: t.Logf})
+	s, err := Open(clientv3.Config{Endpoints: strings.Split(endpoints, ",")})
 	storetest.Must(t, err)
 	s.grace = 0
 	t.Cleanup(func() { _ = s.Close() })

@@ -16,6 +16,8 @@ import (
 	"testing"
 	"time"
 
+	"go.etcd.io/etcd/clientv3"
+
 	"luvdregan.example/resb/deploy/internal/store"
 	. "luvdregan.example/resb/deploy/internal/store/storetest"
 )
@@ -75,7 +77,7 @@ func TestTLSAndUsers(t *testing.T) {
 	roots := x509.NewCertPool()
 	roots.AddCert(a.cert)
 	connect := func(config *tls.Config, password string) (*Store, error) {
-		s, err := Open(Options{Endpoints: []string{endpoint}, TLS: config, User: "gateway", Password: password, Logf: t.Logf})
+		s, err := Open(clientv3.Config{Endpoints: []string{endpoint}, TLS: config, Username: "gateway", Password: password})
 		if err == nil {
 			t.Cleanup(func() { _ = s.Close() })
 			s.grace = 0

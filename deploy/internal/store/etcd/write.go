@@ -4,6 +4,7 @@ import (
 	"context"
 	"errors"
 	"fmt"
+	"log"
 	"strings"
 	"time"
 
@@ -238,7 +239,7 @@ func (s *Store) compact(ctx context.Context) error {
 		return err
 	}
 	if _, err := s.Compact(ctx, r.Header.Revision, clientv3.WithCompactPhysical()); err != nil {
-		s.logf("etcd: compact: %v", err) // another gateway was first
+		log.Printf("etcd: compact: %v", err) // another gateway was first
 	}
 	return nil
 }
