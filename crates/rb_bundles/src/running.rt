@@ -1,4 +1,4 @@
-//! Runs the commands that need no settings of a project, but for `serve`.
+//! Runs the commands that need no settings of a project, except `serve`.
 use rb_arguments::Asked;
 use rb_console::Console;
 use rb_convert::{compile, compile_all, json, lines, text};

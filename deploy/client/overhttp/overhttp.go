@@ -20,7 +20,7 @@ import (
 
 // A Client asks for one application. It may be used by several goroutines at once.
 type Client struct {
-	HTTP     *http.Client  // by default one that waits for two minutes, as the gateway does for a request
+	HTTP     *http.Client  // by default it waits for two minutes, like the gateway
 	Patience time.Duration // how long a request that can't be answered now is asked again
 
 	base, token string

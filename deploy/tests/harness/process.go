@@ -77,7 +77,7 @@ func (p *Process) PID() int {
 }
 
 // Signal sends a signal. It returns from SIGSTOP once all threads stand still: on a busy machine the others
-// go on until the one that takes the signal has its turn.
+// run until the one that takes the signal has its turn.
 func (p *Process) Signal(s syscall.Signal) {
 	p.mu.Lock()
 	defer p.mu.Unlock()
