@@ -44,7 +44,7 @@ fn main(rt: HostRuntime) {
     let mut at = std::ptr::null_mut();
     let mut found = found::Found { at, count: 0, kind: 0, number: 0 };
     let mut origin = origins::Origin { actual: [0; 65], valid: [0; 65] };
-    let mut opened = rb_engine::OpenLocale { version: 0, app: 0, count: 0, stops: [0; 32], names: 0 };
+    let mut opened = rb_engine::OpenLocale { version: 0, app: 0, count: 0, stops: [0; 32], names: 0, from_valid: 0 };
 """
 
 

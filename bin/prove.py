@@ -38,7 +38,7 @@ def can_prove():
         rt, rtlib = toolchain()
     except (Exception, SystemExit):  # another `rt` can fail in any way
         return False
-    return hasattr(rt, "share_work") and all(hasattr(rtlib.Crate, name) for name in ("below", "build_rlib", "count", "is_built"))
+    return all(hasattr(rtlib.Crate, name) for name in ("below", "build_rlib", "count", "is_built"))
 
 
 class Plan:
@@ -150,7 +150,8 @@ def prove_all(plan, jobs, prove):
 def main(name, jobs):
     rt, rtlib = toolchain()
     rtlib.guarded()  # its first call sets a handler of a signal, which only this thread may
-    rt.share_work(True)
+    if hasattr(rt, "share_work"):
+        rt.share_work(True)
     program = next(it for it in rtlib.crates_below(os.getcwd()) if it.name == name)
     plan = Plan(program)
     held = rtlib.lock(program.below())

@@ -107,8 +107,8 @@ archive() {
 # linked: tries the library, and the gateways, one after the other as both build in deploy/out. They wait most of the time.
 linked() {
     part library tests/library.sh --built &
-    part gateway deploy/gateway/test "$program"
-    part gateways deploy/test "$program"
+    part gateway deploy/gateway/test
+    part gateways deploy/test
     wait
 }
 

@@ -82,9 +82,9 @@ from support.hostile import *
 folder, refused = sys.argv[2], int(sys.argv[3])
 # each with more allocations than its reading and acceptance make
 files = [
-    (one_key(random_letters)(20_000), 20), (many_tables(20_000), 20), (overlapping_arrays(20_000 // 12, True), 20),
-    (shared_arrays(62), 12), (suffixes(20_000 // 9), 60), (overlapping_tables(40_000 // 88, True), 60),
-    (copies(random_letters, 2, 100)(30_000), 160),
+    (one_key(random_letters)(20_000), 24), (many_tables(20_000), 24), (overlapping_arrays(20_000 // 12, True), 24),
+    (shared_arrays(62), 16), (suffixes(20_000 // 9), 64), (overlapping_tables(40_000 // 88, True), 64),
+    (copies(random_letters, 2, 100)(30_000), 164),
 ]
 for number, (data, most) in enumerate(files):
     for blocks in range(refused - most, refused):
@@ -110,8 +110,8 @@ refuse_files() {
     echo "ok: each of $sum allocations refused in turn over $number files that are expensive to check"
 }
 
-# each FEWEST leaves about 30 blocks more than the calls allocate
-refuse memory 930 :88 88q rb_engine rb_fallback rb_packages rb_validator rb_format rb_locales rb_parents rb_views rb_tree
-[ "$(left 88q)" = "$(left 88)" ] || fails 'lookups, replacements or removals take memory'
+# each FEWEST leaves at least 30 blocks more than the calls allocate
+refuse memory 930 :30 30q rb_engine rb_fallback rb_packages rb_validator rb_format rb_locales rb_parents rb_views rb_tree
+[ "$(left 30q)" = "$(left 30)" ] || fails 'lookups, replacements or removals take memory'
 echo 'ok: lookups, replacements and removals take none'
 refuse_files 220

@@ -75,7 +75,7 @@ as_service() {
     local token=TOKEN-0123456789-0123456789 hash
     hash=$(printf %s $token | sha256sum | cut -d ' ' -f 1)
     fresh
-    mkdir -p copy crates/rb_tool/out && ln -s "$top/deploy" "$top/library" "$top/tests" . && cp "$program" crates/rb_tool/out/rb_tool
+    mkdir copy && ln -s "$top/deploy" "$top/library" "$top/tests" .
     echo "shop write $hash" >tokens
     cat >started <<'END'
 #!/bin/sh
@@ -251,7 +251,7 @@ if [ -x "$gateway" ]; then
     runs 'deploy/README: the options of a gateway' "{ $(block deploy/README.md 'On real machines' |
         sed 's#/etc/resb/#etc/#g; s#10\.0\.0\.[1-3]:#127.0.0.1:#g') -check-config || [ \$? = 2 ]; } 2>&1 | grep '^resb-gateway: -etcd: '"
     resb-gateway init -state state
-    sed "s#/etc/resb/tokens#etc/tokens#; s#\"/usr/bin/resb\"#\"$program\"#; s#/var/lib/resb-gateway#state#" "$top/deploy/gateway.example.json" >gateway.json
+    sed "s#/etc/resb/tokens#etc/tokens#; s#/var/lib/resb-gateway#state#" "$top/deploy/gateway.example.json" >gateway.json
     runs 'deploy/OPERATIONS: the example of settings' 'resb-gateway -config gateway.json -check-config'
     runs 'deploy/OPERATIONS: the options of a gateway' "$(inline deploy/OPERATIONS.md 'resb-gateway options')"
     runs 'deploy/OPERATIONS: what takes space' "$(inline deploy/OPERATIONS.md 'resb-gateway list') -state state || [ \$? = 1 ]"

@@ -49,7 +49,7 @@ func PrepareJSON(json []byte) (*Bundle, error) {
 	})
 }
 
-// Copy returns a copy of the bundle, as for the release of a second engine.
+// Copy returns the bundle once more, as for the release of a second engine. It copies no bytes.
 func (b *Bundle) Copy() (*Bundle, error) {
 	return prepared(func(copied *C.resb_bundle, _ *C.uint64_t) C.uint32_t {
 		b.lock.Lock()

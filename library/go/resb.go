@@ -241,6 +241,22 @@ func entriesOf(entries []Entry) (first *C.resb_entry, free func()) {
 
 // Share returns Bundles of the same engine, for lookups beside this one. While both are open neither can change.
 func (b *Bundles) Share() (*Bundles, error) {
+	return b.other(func(other *C.resb) C.uint32_t { return C.resb_share(b.handle, other) })
+}
+
+// Snapshot returns Bundles of a new engine with the same bundles, which it shares: either changes alone, also while others of b's engine are
+// open. It takes time for each bundle, whatever its length.
+func (b *Bundles) Snapshot() (*Bundles, error) {
+	var seed [16]byte
+	if _, err := rand.Read(seed[:]); err != nil {
+		return nil, err
+	}
+	s, n := bytes(seed[:])
+	return b.other(func(other *C.resb) C.uint32_t { return C.resb_snapshot(b.handle, unsafe.Pointer(s), n, other) })
+}
+
+// other returns Bundles of the handle that a call makes.
+func (b *Bundles) other(call func(other *C.resb) C.uint32_t) (*Bundles, error) {
 	b.lock.Lock()
 	defer b.lock.Unlock()
 	if b.handle == nil {
@@ -250,7 +266,7 @@ func (b *Bundles) Share() (*Bundles, error) {
 	if other == nil {
 		return nil, errorOf(C.RESB_MEMORY)
 	}
-	if err := errorOf(C.resb_share(b.handle, other)); err != nil {
+	if err := errorOf(call(other)); err != nil {
 		C.free(unsafe.Pointer(other))
 		return nil, err
 	}

@@ -184,6 +184,34 @@ func TestShare(t *testing.T) {
 	}
 }
 
+// TestSnapshot changes a snapshot beside a share of the engine, and then the engine.
+func TestSnapshot(t *testing.T) {
+	b := opened(t)
+	other, err := b.Share()
+	if err != nil {
+		t.Fatal(err)
+	}
+	next, err := b.Snapshot()
+	if err != nil {
+		t.Fatal(err)
+	}
+	defer next.Close()
+	if err := next.Replace("shop", "de", []byte(`de{greeting{"Hallo"}}`), true); err != nil {
+		t.Error(err)
+	}
+	other.Close()
+	if err := b.Remove("shop", "de"); err != nil {
+		t.Error(err)
+	}
+	if got, err := next.Text("shop", "de_AT", "greeting"); got != "Hallo" || err != nil {
+		t.Error(got, err)
+	}
+	b.Close()
+	if _, err := b.Snapshot(); err == nil {
+		t.Error("a snapshot of closed Bundles")
+	}
+}
+
 // TestConcurrentUse looks up, changes and shares one Bundles on several goroutines.
 func TestConcurrentUse(t *testing.T) {
 	b := opened(t)

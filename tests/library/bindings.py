@@ -2,6 +2,7 @@
 """Tests the Python package resb: each kind of item, errors, changes, threads, signals and forks."""
 
 import copy
+import gc
 import mmap
 import multiprocessing
 import os
@@ -55,6 +56,72 @@ class Test(unittest.TestCase):
         self.assertNotIn("menu/open", root)
         with self.assertRaises(IndexError):
             self.look("list")[2]
+
+    def test_tables_inherit(self):
+        self.bundles.replace("shop", "de", 'de{menu{b{"Be"} c{"Ce"}}}')
+        self.bundles.install("shop", "root", 'root{menu{a{"A"} b{"B"}} x{"X"}}')
+        menu, items = self.look("menu"), {"a": "A", "b": "Be", "c": "Ce"}
+        self.assertEqual((list(menu), [*menu.keys()], len(menu)), (["a", "b", "c"], ["a", "b", "c"], 3))
+        self.assertEqual(([*menu.items()], [*menu.values()], dict(menu)), ([*items.items()], ["A", "Be", "Ce"], items))
+        self.assertEqual([key in menu for key in "abcd"], [True, True, True, False])
+        self.assertEqual(menu, items)
+        self.assertNotEqual(menu, self.look("menu", "en"))
+        self.assertEqual(self.look(""), {"menu": items, "x": "X"})
+        self.assertEqual(dict(self.bundles.children("shop", "de", ""))["menu"], items)
+        begun = iter(menu), menu.keys(), menu.items(), menu.values()
+        self.bundles.replace("shop", "de", 'de:table(nofallback){menu{b{"Be"}}}')
+        self.assertEqual([[*one] for one in begun], [[*items], [*items], [*items.items()], [*items.values()]])
+        self.assertEqual((menu, len(menu), "a" in menu), ({"b": "Be"}, 1, False))
+        for text, error in (('de{menu{"text"}}', "OtherKind"), ("de{menu:bin{00}}", "OtherKind"), ("de:table(nofallback){}", "Missing")):
+            self.bundles.replace("shop", "de", text)
+            self.assertEqual((code(len, menu), code(list, menu), code(menu.items)), (error, error, error))
+        self.assertIsNone(menu.get("b"))
+        self.bundles.close()
+        self.assertEqual((code(len, menu), code(menu.get, "b")), ("NotOpen", "NotOpen"))
+
+    def test_tables_have_what_lookups_find(self):
+        dead = '1:alias{"/LOCALE/none"} 2:alias{"fr/x"} 3:alias{""} 4:alias{"/OTHER/x"} 5:alias{"/LOCALE"} 6:alias{"loop/x"}'
+        self.bundles.install("shop", "loop", 'loop{%%Parent{"loop"}}')
+        self.bundles.install("shop", "xx", 'xx{t{%s ":a"{"A"} "::"{"B"} "a b"{"C"} "a/b"{"D"} z:alias{"/LOCALE/t/:a"} %s{""}}}' % (dead, "k" * 1023))
+        table = self.look("t", "xx")
+        self.assertEqual([*table.items()], [("::", "B"), (":a", "A"), ("a b", "C"), ("z", "A")])
+        self.assertEqual((dict(table), len(table)), ({"::": "B", ":a": "A", "a b": "C", "z": "A"}, 4))
+        causes = []
+        for key in ("1", "2", "3", "4", "5", "6", "k" * 1023, "ä"):
+            self.assertNotIn(key, table)
+            with self.assertRaises(KeyError) as raised:
+                table[key]
+            causes.append(str(raised.exception.__cause__))
+        self.assertEqual(causes, ["Missing", "NoBundle", "AliasText", "AliasPackage", "TooManyAliases", "Chain", "PathTooLong", "BadPath"])
+        self.assertNotIn("a/b", table)
+        self.bundles.install("shop", "yy", TEXT.replace("low", 'u{"\\ufeff\\ud800"} ":bin":bin{01} ":error"{"e"} list2{{"a"}} low'))
+        table = self.look("", "yy")
+        for key, value in table.items():
+            found = table[key]
+            same = list(value) == list(found) if isinstance(value, resb.Array) else value == found
+            self.assertTrue(same and type(value) is type(found), key)
+        self.assertEqual((dict(table.items())["u"], len(table)), ("\ufeff\ud800", 12))
+
+    def test_tables_lack_what_is_hidden(self):
+        self.bundles.install("shop", "root", 'root{t{"A"} u{a{"A"} b{"B"}}}')
+        self.bundles.install("shop", "xx", 'xx{t{b{"B"}} u{"U"}}')
+        self.bundles.install("shop", "xx_AT", 'xx_AT{u{c{"C"}}}')
+        t, u = self.look("t", "xx"), self.look("u", "xx_AT")
+        self.assertEqual((t, u), ({"b": "B"}, {"c": "C"}))
+        self.assertEqual((t.get("0"), u["a"]), (None, "A"))
+
+    def test_tables_of_icudata(self):
+        with resb.Bundles({"root": 'root{t{a{"A"} b{"B"}}}', "de": 'de{t{b{"Be"}}}'}) as bundles:
+            bundles.install("shop", "root", 'root{t:alias{"/ICUDATA/de"} u{t:alias{"/ICUDATA/de/t"} c{"C"}}}')
+            self.assertEqual(bundles.look("shop", "de", "t"), {"a": "A", "b": "Be"})
+            self.assertEqual(bundles.look("shop", "de", "u"), {"c": "C", "t": {"a": "A", "b": "Be"}})
+
+    def test_tables_are_limited(self):
+        tables = ["t0{%s}" % "".join(f'{key}{{""}}' for key in "abcdefghij")]
+        tables += ["t%d{%s}" % (i, "".join(f'{key}:alias{{"/LOCALE/t{i - 1}"}}' for key in "abcdefghij")) for i in range(1, 8)]
+        self.bundles.install("shop", "xx", "xx{%s}" % "".join(tables))
+        table = self.look("t7", "xx")
+        self.assertEqual((code(len, table), table["a"]["b"]["c"]["d"]["e"]["f"]["g"]["h"], len(self.look("t2", "xx"))), ("TooManySteps", "", 10))
 
     def test_prepared(self):
         prepared = resb.prepare('x{a{"b"} n:int{-1}}')
@@ -143,7 +210,10 @@ class Test(unittest.TestCase):
         self.assertEqual(code(self.bundles.look, "bank", "de", "greeting"), "NoBundle")
         self.assertEqual(code(self.bundles.install, "shop", "de", TEXT), "Exists")
         self.assertEqual(code(self.bundles.replace, "shop", "fr", TEXT), "Absent")
-        self.assertEqual(code(self.bundles.install, "shop", "fr", b"x"), "BadFile")
+        for app, locale, bundle, error in (("shop", "fr", b"x", "BadFile"), ("shop", "fr", "fr{", "BadText"), ("shop", "-", b"", "BadLocale"), ("", "-", "fr{", "BadApp")):
+            self.assertEqual(code(self.bundles.install, app, locale, bundle), error)
+            self.assertEqual(code(self.bundles.replace, app, locale, bundle), error)
+        self.assertRaises(TypeError, self.bundles.look, "shop", "de", None)
         self.assertEqual(code(resb.check, b""), "FileHeader")
         with self.assertRaises(resb.Error) as raised:
             resb.compile("de{\na:int{09}}")
@@ -159,6 +229,19 @@ class Test(unittest.TestCase):
         self.assertEqual(self.look("greeting"), "Tag")
         self.bundles.remove("shop", "de")
         self.assertEqual((code(self.look, "greeting"), self.bundles.list("shop")), ("NoBundle", []))
+
+    def test_snapshot(self):
+        bundles = resb.Bundles(icudata={"root": 'root{common{"C"}}'})
+        bundles.install("shop", "de", 'de{a{"A"} c:alias{"/ICUDATA/root/common"}}')
+        other = bundles.snapshot()
+        other.remove("shop", "de")
+        bundles.install("shop", "fr", 'fr{a{"F"}}')
+        self.assertEqual([bundles.text("shop", "de", "a"), bundles.text("shop", "de", "c")], ["A", "C"])
+        self.assertEqual([bundles.list("shop"), other.list("shop")], [["de", "fr"], []])
+        bundles.close()
+        other.install("shop", "de", 'de{c:alias{"/ICUDATA/root/common"}}')
+        self.assertEqual(other.text("shop", "de", "c"), "C")
+        self.assertEqual(code(bundles.snapshot), "NotOpen")
 
     def test_icudata_and_parents(self):
         common = {"de": 'de{months{"Januar","Februar"}}', "root": resb.compile('root{months{"M01","M02"}}')}
@@ -242,8 +325,33 @@ class Test(unittest.TestCase):
         finally:
             sys.settrace(None)
         self.assertEqual(values, ("Auf", [1, -2], ["de"]))
-        self.assertEqual(seen, {("Auf", (1, -2), "Absent"), ("Auf", (1, -2), "Shared")})
-        self.assertEqual(interrupt(), ("Auf", (1, -2), "Absent"))
+        self.assertEqual(seen, {("Auf", (1, -2), "Absent")})
+
+    def test_a_finalizer_changes(self):
+        """Looks up a list whose allocation would collect an object, whose finalizer removes the bundle."""
+        bundles, numbers = self.bundles, list(range(1000))
+
+        class Removes:
+            def __init__(self):
+                self.cycle = self
+
+            def __del__(self):
+                bundles.remove("shop", "xx")
+
+        self.addCleanup(gc.set_threshold, *gc.get_threshold())
+        for _ in range(10):
+            bundles.install("shop", "xx", f"xx{{v:intvector{{{','.join(map(str, numbers))}}}}}")
+            gc.disable()
+            lists = [[] for _ in range(1000)]  # the interpreter's spare lists are in use
+            Removes()
+            gc.set_threshold(1)
+            gc.enable()
+            try:
+                self.assertTrue(self.look("v", "xx") == numbers)
+            except resb.Error as error:  # an interpreter may collect it before
+                self.assertEqual(error.code, "NoBundle")
+            gc.collect()
+            self.assertEqual((code(self.look, "v", "xx"), len(lists)), ("NoBundle", 1000))
 
     def test_forks_beside_threads(self):
         """Looks up in children that are forked while other threads look up and change."""
@@ -264,8 +372,7 @@ class Test(unittest.TestCase):
         ends.set()
         for thread in threads:
             thread.join()
-        # 3: a child that was forked during a change finds the bundles closed
-        self.assertLessEqual(set(statuses), {0, 3})
+        self.assertEqual(set(statuses), {0})
 
     def status_of_a_child(self):
         child = os.fork()
@@ -273,9 +380,8 @@ class Test(unittest.TestCase):
             signal.alarm(60)  # ends a child that waits for ever
             status = 1
             try:
-                status = 0 if (self.look("v"), self.look("menu/open")) == ([1, -2], "Auf") else 1
-            except resb.Error as error:
-                status = 3 if error.code == "NotOpen" else 2
+                self.bundles.replace("shop", "de", TEXT)
+                status = 0 if (self.look("v"), self.look("menu/open")) == ([1, -2], "Auf") else 2
             finally:
                 os._exit(status)
         return os.waitstatus_to_exitcode(os.waitpid(child, 0)[1])
@@ -323,7 +429,7 @@ class Test(unittest.TestCase):
             for _ in range(500):
                 self.bundles.replace("shop", "de", TEXT)
 
-        threads = [threading.Thread(target=call) for call in (look, look, look, change)]
+        threads = [threading.Thread(target=call) for call in (look, look, look, change, change)]
         for thread in threads:
             thread.start()
         for thread in threads:

@@ -152,7 +152,7 @@ static void installs(void) {
     resb_close(&engine);
 }
 
-/* Releases a bundle and its copy to two engines; closing the first doesn't touch the second. */
+/* Releases one bundle to two engines; closing the first doesn't touch the second. */
 static void copies(void) {
     resb engines[] = {RESB_CLOSED, RESB_CLOSED};
     resb_bundle bundle = RESB_DISCARDED, copy = RESB_DISCARDED, other = RESB_DISCARDED;
@@ -176,9 +176,68 @@ static void copies(void) {
     resb_close(&engines[1]);
 }
 
+/* A snapshot of an engine whose handle a reader has: both change apart, and each keeps its bundles when the other one is closed. */
+static void snapshots(void) {
+    resb engine = RESB_CLOSED, reader = RESB_CLOSED, next = RESB_CLOSED;
+    resb_entry icudata[] = {{S("root"), S("root{months{\"January\"}}"), true}};
+    uint8_t seed[16] = {9};
+    uint64_t place;
+    resb_found found;
+    EXPECT(resb_snapshot(&engine, seed, 16, &next) == RESB_NOT_OPEN && !next.is_open);
+    EXPECT(resb_open_with(&engine, seed, 16, icudata, 1, S("x{parentLocales{fr{\"de\"}}}"), &place) == RESB_OK);
+    EXPECT(put(resb_install_bundle, &engine, "shop", "de", text) == RESB_OK);
+    EXPECT(put(resb_install_bundle, &engine, "shop", "fr", "fr{months:alias{\"/ICUDATA/root/months\"}}") == RESB_OK);
+    EXPECT(resb_share(&engine, &reader) == RESB_OK && resb_open(&next, seed, 16) == RESB_OK);
+    EXPECT(resb_snapshot(&reader, seed, 16, &next) == RESB_OK && reader.is_open && next.is_open);
+    EXPECT(resb_look(&next, S("shop"), S("de"), S("months"), &found) == RESB_OK && found.count == 7);
+    EXPECT(put(resb_replace_bundle, &engine, "shop", "de", "de{}") == RESB_SHARED);
+    EXPECT(put(resb_replace_bundle, &next, "shop", "de", "de{count:int{8}}") == RESB_OK);
+    EXPECT(resb_remove(&next, S("shop"), S("fr")) == RESB_OK);
+    has(&reader, "de", text);
+    has(&next, "de", "de{count:int{8}}");
+    EXPECT(resb_look(&next, S("shop"), S("de"), S("months"), &found) == RESB_MISSING);
+    EXPECT(resb_look(&reader, S("shop"), S("de"), S("months"), &found) == RESB_OK && found.count == 7);
+    resb_close(&reader);
+    EXPECT(put(resb_install_bundle, &engine, "shop", "en", "en{}") == RESB_OK);
+    resb_close(&engine);
+    EXPECT(resb_look(&next, S("shop"), S("en"), S(""), &found) == RESB_NO_BUNDLE);
+    has(&next, "de", "de{count:int{8}}");
+    EXPECT(resb_snapshot(&next, seed, 16, &engine) == RESB_OK);
+    resb_close(&next);
+    has(&engine, "de", "de{count:int{8}}");
+    resb_close(&engine);
+}
+
+/* No locale that an engine opened in any of its states answers in another one: in those that it was made from, in those that are made
+ * from it, by the same seed too, or in two of one engine by different seeds. */
+static void stale_elsewhere(void) {
+    enum { ENGINES = 24, CHANGES = 6 };
+    resb engines[ENGINES] = {RESB_CLOSED};
+    static resb_locale opened[ENGINES][CHANGES];
+    resb_found found;
+    for (int i = 0; i < ENGINES; i++) {
+        uint8_t seed[16] = {(uint8_t)(i / 2 % 2), (uint8_t)(i % 2)};
+        EXPECT((i < 2 ? resb_open(&engines[i], seed, 16) : resb_snapshot(&engines[i / 2 - 1], seed, 16, &engines[i])) == RESB_OK);
+        for (int k = 0; k < CHANGES; k++) {
+            EXPECT(put(i < 2 && k == 0 ? resb_install_bundle : resb_replace_bundle, &engines[i], "shop", "de", text) == RESB_OK);
+            EXPECT(resb_open_locale(&engines[i], S("shop"), S("de"), &opened[i][k]) == RESB_OK);
+        }
+    }
+    for (int i = 0; i < ENGINES; i++)
+        for (int k = 0; k < CHANGES; k++)
+            for (int j = 0; j < ENGINES; j++) {
+                uint32_t error = resb_look_at(&engines[j], &opened[i][k], S("count"), &found);
+                EXPECT(error == (i == j && k == CHANGES - 1 ? RESB_OK : RESB_STALE));
+            }
+    for (int i = 0; i < ENGINES; i++)
+        resb_close(&engines[i]);
+}
+
 int main(void) {
     compiles();
     copies();
+    snapshots();
+    stale_elsewhere();
     prepares();
     refuses_errors();
     refuses_as_check();

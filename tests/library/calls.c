@@ -133,20 +133,22 @@ static void looks(resb *e) {
     EXPECT(resb_look(e, S("shop"), S("de"), S("a//b"), &f) == RESB_BAD_PATH && memcmp(&f, &before, sizeof f) == 0);
 }
 
-/* Checks that lookups from an open locale describe the items that resb_look describes. */
-static void looks_alike(resb *e, const char *app, const char *locale, const char *path) {
+/* Checks that lookups from an open locale describe the items that those by name describe in `cold`, an engine that keeps no locale open. */
+static void looks_alike(resb *e, resb *cold, const char *app, const char *locale, const char *path) {
     resb_found f = {NULL, 0, 0, 0}, g = {NULL, 0, 0, 0};
     resb_locale opened;
     EXPECT(resb_open_locale(e, S(app), S(locale), &opened) == RESB_OK);
-    uint32_t error = resb_look(e, S(app), S(locale), S(path), &f);
+    uint32_t error = resb_look(cold, S(app), S(locale), S(path), &f);
     EXPECT(resb_look_at(e, &opened, S(path), &g) == error && memcmp(&f, &g, sizeof f) == 0);
     /* with each limit on the steps, up to one that is enough */
     uint64_t steps = 0;
     do {
         memset(&f, 0, sizeof f);
         memset(&g, 0, sizeof g);
-        error = resb_look_within(e, S(app), S(locale), S(path), steps, &f);
+        error = resb_look_within(cold, S(app), S(locale), S(path), steps, &f);
         EXPECT(resb_look_at_within(e, &opened, S(path), steps, &g) == error && memcmp(&f, &g, sizeof f) == 0);
+        memset(&g, 0, sizeof g);
+        EXPECT(resb_look_within(e, S(app), S(locale), S(path), steps, &g) == error && memcmp(&f, &g, sizeof f) == 0);
     } while (error == RESB_TOO_MANY_STEPS && ++steps < 1000);
     EXPECT(error != RESB_TOO_MANY_STEPS);
     EXPECT(resb_look_at_within(e, &opened, S(path), UINT64_MAX, &g) == error && memcmp(&f, &g, sizeof f) == 0);
@@ -179,9 +181,15 @@ static void opens_locales(resb *e) {
     EXPECT(resb_look_at_within(e, &opened, S("a//b"), 0, &f) == RESB_BAD_PATH && f.number == 7);
     static const char *const paths[] = {"", "greeting", "count", "low", "v", "b", "list", "list/1", "empty", "menu/open", "menu/x", "link", "only", "/"};
     static const char *const locales[] = {"de", "de_AT", "fr", "root", "zz_Zzzz_ZZ"};
+    /* an engine with two handles keeps no locale open */
+    static const uint8_t seed[16] = {9};
+    resb cold = RESB_CLOSED, held = RESB_CLOSED;
+    EXPECT(resb_snapshot(e, seed, sizeof seed, &cold) == RESB_OK && resb_share(&cold, &held) == RESB_OK);
     for (size_t i = 0; i < sizeof paths / sizeof *paths; i++)
         for (size_t k = 0; k < sizeof locales / sizeof *locales; k++)
-            looks_alike(e, "shop", locales[k], paths[i]);
+            looks_alike(e, &cold, "shop", locales[k], paths[i]);
+    resb_close(&cold);
+    resb_close(&held);
     /* forged places */
     resb_locale forged = opened;
     forged.app = SIZE_MAX;
@@ -191,6 +199,10 @@ static void opens_locales(resb *e) {
     forged.count = SIZE_MAX;
     forged.stops[0] = SIZE_MAX;
     EXPECT(resb_look_at(e, &forged, S("greeting"), &f) != RESB_OK);
+    forged = opened;
+    forged.names = forged.from_valid = 255;
+    EXPECT(resb_look_at(e, &forged, S("link"), &f) == resb_look(e, S("shop"), S("de"), S("link"), &f));
+    EXPECT(resb_look_at_within(e, &forged, S("link"), 99, &f) == RESB_TOO_MANY_STEPS);
     /* a change of any application, but no refused one */
     EXPECT(resb_open_locale(e, S("bank"), S("de"), &bank) == RESB_OK);
     EXPECT(resb_install(e, S("bank"), S("de"), S("de{}"), true) == RESB_EXISTS && resb_remove(e, S("bank"), S("fr")) == RESB_ABSENT);

@@ -131,6 +131,11 @@ static void history(void) {
         EXPECT(resb_look(&other, S("shop"), S("de_AT"), S("greeting"), &f) == seen);
     else
         EXPECT(e.is_open && !other.is_open);
+    if (worked(resb_snapshot(&e, seed, 16, &other))) {
+        EXPECT(resb_look(&other, S("shop"), S("de_AT"), S("greeting"), &f) == seen);
+        worked(resb_install(&other, S("shop"), S("fr"), S("fr{}"), true));
+    }
+    EXPECT(resb_look(&e, S("shop"), S("fr"), S(""), &f) == (root ? RESB_OK : RESB_NO_BUNDLE));
     resb_close(&other);
     if (root)
         EXPECT(!worked(resb_remove(&e, S("shop"), S("root"))) || resb_remove(&e, S("shop"), S("root")) != RESB_OK);

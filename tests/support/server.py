@@ -11,6 +11,10 @@ from support.program import WAIT, Commands, shown
 # The settings of bin/resb and deploy/. docs/OPERATIONS.md asks an operator for the first.
 SETTINGS = {"MALLOC_MMAP_THRESHOLD_": "4096", "GLIBC_TUNABLES": "glibc.malloc.hugetlb=1"}
 
+# The limits that docs/OPERATIONS.md advises, with more and larger applications: CLDR's bundles have 10 MB, and 100,000 bundles are in 1,000.
+ADVISED = ["--app-bytes", "16777216", "--bundle-bytes", "1048576", "--reply-bytes", "1048576", "--line-bytes", "6356992", "--apps", "1024",
+           "--steps", "10000", "--keep-serving"]
+
 
 def line_of(request: Any) -> bytes:
     """Returns a request as a line, without its line feed; a text or bytes are a line already."""

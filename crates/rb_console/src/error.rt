@@ -1,5 +1,5 @@
 //! The errors with which a command ends.
-ghost use Rattle.std.specs.Prelude.{◌≡◌, ◌≢◌, IfErr, IfOk};
+ghost use Rattle.std.specs.Prelude.{◌≡◌, ◌≢◌, IfErr, IfOk, IsErr, Ok};
 ghost use Rattle.std.specs.Process.{exit_status};
 ghost use Rattle.rb_console.specs.Status.{refused_status, start_status};
 ghost use Rattle.rb_console.specs.Errors.{command_status};
@@ -7,6 +7,7 @@ ghost use Rattle.rb_console.specs.Errors.{command_status};
 use crate::console::Console;
 use crate::files::{not_read, refused_on};
 use rb_lexer::SourceFault;
+use std::alloc::AllocError;
 use std::io::ErrorKind;
 use std::process::ExitCode;
 
@@ -47,6 +48,40 @@ pub fn not_started_on<R: Eprint>(rt: &R, console: Console, error: StartError<'_>
         StartError::Memory => (eprintln!(rt; "Memory{}", console.hint("Memory")), 1),
     };
     ExitCode::from(status)
+}
+
+/// Returns what was made, or the status of a command that doesn't start, once that is reported.
+pub fn started<T: Drop, R: Eprint>(
+    rt: &R,
+    console: Console,
+    made: Result<T, StartError<'_>>,
+) -> Result<T, ExitCode>
+    ensures ok { IfOk result (λ t. made.entry ≡ Ok t) }
+    ensures err { IfErr result (λ _. IsErr made.entry) }
+    ensures status { IfErr result (λ status. IfErr made.entry
+        (λ error. exit_status status ≡ start_status error)) }
+{
+    match made {
+        Ok(made) => Ok(made),
+        Err(error) => Err(not_started_on(rt, console, error)),
+    }
+}
+
+/// Returns what was made, or the status of a command that memory runs out for, once that is
+/// reported.
+pub fn allocated<T: Drop, R: Eprint>(
+    rt: &R,
+    console: Console,
+    made: Result<T, AllocError>,
+) -> Result<T, ExitCode>
+    ensures ok { IfOk result (λ t. made ≡ Ok t) }
+    ensures err { IfErr result (λ _. IsErr made) }
+    ensures status { IfErr result (λ status. exit_status status ≡ 1) }
+{
+    match made {
+        Ok(made) => Ok(made),
+        Err(_) => Err(not_started_on(rt, console, StartError::Memory)),
+    }
 }
 
 /// The reason why a command ends without success.

@@ -22,7 +22,7 @@ mod shown_bytes;
 
 pub use console::{Cause, Console, Hint, ShownChar, ShownName};
 pub use contents::{Refusal, made_of_each};
-pub use error::{CommandError, StartError, ended, finish, not_started_on};
+pub use error::{CommandError, StartError, allocated, ended, finish, not_started_on, started};
 pub use files::{cannot_read_on, printed, read_at_most, read_file, refused_on};
 pub use folders::{folder_of, in_folder, is_folder, read_names};
 pub use given::{Form, Given, all_given, is_text, read_given, stem};

@@ -59,10 +59,7 @@ pub(crate) fn compile_to<'a, R: Files + RandomSource + AllocGlobal>(
     (input, text): (&'a str, io::Result<Vec<u8>>),
     (output, chosen): (&'a str, &Output),
 ) -> Result<usize, MakeError<'a>> {
-    let file = match file_of(rt.alloc(), language, input, text) {
-        Ok(file) => file,
-        Err(error) => return Err(error),
-    };
+    let file = file_of(rt.alloc(), language, input, text)?;
     match write_output(rt, chosen, &file) {
         Ok(()) => Ok(file.len()),
         Err(error) => Err(MakeError::Other(CommandError::Unwritten(output, error.kind()))),
@@ -97,11 +94,11 @@ fn output_asked<'a, R: Files + AllocGlobal>(
         asked.input
     };
     let is_input = are_same_file(rt, source, asked.output);
-    match chosen_output(rt, asked.how, asked.output, is_input) {
-        Ok(chosen) if chosen.decision == Decision::Print => Ok(None),
-        Ok(chosen) => Ok(Some(chosen)),
-        Err(error) => Err(error),
+    let chosen = chosen_output(rt, asked.how, asked.output, is_input)?;
+    if chosen.decision == Decision::Print {
+        return Ok(None);
     }
+    Ok(Some(chosen))
 }
 
 /// Compiles a text to a file, and prints the file's length. The text is compiled before anything is

@@ -1,5 +1,4 @@
 //! The differences of two bundles as they are printed.
-use crate::compare::Report;
 use rb_asked::AskedDiff;
 use rb_console::Printing;
 use rb_json::{Layout, Outlet, put_leaf, spell_bytes, spell_text, spell_unsigned};
@@ -74,7 +73,7 @@ pub(crate) enum Value<N> {
 
 impl<N: Node> Value<N> {
     /// Returns the value that is an item, if there is one.
-    fn of_item(item: Option<N>) -> Option<Value<N>> {
+    pub(crate) fn of_item(item: Option<N>) -> Option<Value<N>> {
         match item {
             Some(node) => Some(Value::Item(node)),
             None => None,
@@ -176,15 +175,5 @@ impl<W: Write + Drop> DiffPrinter<W> {
                 self.put_line(b"+ ", path, new);
             }
         }
-    }
-}
-
-impl<N: Node, W: Write + Drop> Report<N> for DiffPrinter<W> {
-    fn differs(&mut self, path: &[u8], old: Option<N>, new: Option<N>) {
-        self.report(path, Value::of_item(old), Value::of_item(new));
-    }
-
-    fn is_done(&self) -> bool {
-        self.out.has_failed()
     }
 }

@@ -1,16 +1,16 @@
 //! `resb diff`.
-use crate::compare::{ItemPath, Side, compare, report_all};
+use crate::compare::compare;
 use crate::difference::{Counts, DiffForm, DiffPrinter};
 use rb_asked::AskedDiff;
+use rb_compiler::compile_bundle;
 use rb_console::{
     CommandError, Console, Printing, ShownBytes, StartError, accepted, finish, in_folder,
     is_folder, is_text, printed, read_given, read_names,
 };
 use rb_json::is_within;
-use rb_tree::HEIGHT_LIMIT;
-use rb_validator::{Bundle, accept};
+use rb_validator::Bundle;
 use rb_views::root;
-use std::alloc::AllocError;
+use std::alloc::{AllocError, Global};
 use std::collections::BTreeSet;
 use std::io;
 use std::io::{BufWriter, ErrorKind, Write};
@@ -31,13 +31,9 @@ struct Differ<W: Write + Drop> {
 /// Compiles a bundle text.
 fn compiled<'a, R: Files + AllocGlobal>(rt: &R, file: &'a str) -> Result<Bundle, CommandError<'a>> {
     let text = read_given(rt, file)?;
-    let bytes = match rb_compiler::compile(rt.alloc(), &text) {
-        Ok(bytes) => bytes,
-        Err(fault) => return Err(CommandError::TextRefused(file, fault)),
-    };
-    match accept(rt.alloc(), bytes) {
+    match compile_bundle(rt.alloc(), &text) {
         Ok(bundle) => Ok(bundle),
-        Err((fault, _)) => Err(CommandError::Refused(file, fault.word())),
+        Err(fault) => Err(CommandError::TextRefused(file, fault)),
     }
 }
 
@@ -62,26 +58,21 @@ impl<W: Write + Drop> Differ<W> {
     /// Compares two bundles, of which one may be missing, and prints the differences.
     fn compare(
         &mut self,
-        path: ItemPath,
+        alloc: Global,
         old: Option<&Bundle>,
         new: Option<&Bundle>,
     ) -> Result<(), AllocError> {
-        let mut path = path;
         let printer = &mut self.printer;
         printer.counts = Counts::NONE;
-        match (old, new) {
-            (Some(old), Some(new)) => {
-                printer.report_flags(root(old), old.no_fallback(), new.no_fallback());
-                compare(printer, &mut path, root(old), root(new), HEIGHT_LIMIT)?;
-            }
-            (Some(old), None) => {
-                report_all(printer, &mut path, root(old), Side::Old, HEIGHT_LIMIT)?;
-            }
-            (None, Some(new)) => {
-                report_all(printer, &mut path, root(new), Side::New, HEIGHT_LIMIT)?;
-            }
-            (None, None) => {}
+        if let (Some(old), Some(new)) = (old, new) {
+            printer.report_flags(root(old), old.no_fallback(), new.no_fallback());
         }
+        compare(
+            printer,
+            alloc,
+            old.map(|old| root(old)),
+            new.map(|new| root(new)),
+        )?;
         if printer.counts != Counts::NONE {
             printer.put_counts();
             self.has_differences = true;
@@ -119,8 +110,10 @@ impl<W: Write + Drop> Differ<W> {
             (Ok(old), Ok(new)) => (old, new),
             (Err(error), _) | (_, Err(error)) => return self.fail(rt, console, error),
         };
-        let path = ItemPath::new(Vec::new(rt.alloc()));
-        if self.compare(path, old.as_ref(), new.as_ref()).is_err() {
+        if self
+            .compare(rt.alloc(), old.as_ref(), new.as_ref())
+            .is_err()
+        {
             self.fail(rt, console, CommandError::NotStarted(StartError::Memory));
         }
     }

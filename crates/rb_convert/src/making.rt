@@ -103,10 +103,7 @@ fn file_of_json<'a>(
     json: &[u8],
     no_fallback: bool,
 ) -> Result<Vec<u8>, MakeError<'a>> {
-    let tree = match tree_of(alloc, input, json) {
-        Ok(tree) => tree,
-        Err(error) => return Err(error),
-    };
+    let tree = tree_of(alloc, input, json)?;
     match file_of_tree(alloc, &tree, no_fallback) {
         Ok(file) => Ok(file),
         Err(_) => Err(out_of_memory(alloc, input)),

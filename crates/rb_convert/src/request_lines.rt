@@ -54,10 +54,7 @@ fn json_files<'a, R: Files + AllocGlobal>(
     let mut files = Vec::new(rt.alloc());
     for bundle in bundles {
         let json = read_at_most(rt, bundle.file, JSON.most_read());
-        let file = match file_of(rt.alloc(), JSON, bundle.file, json) {
-            Ok(file) => file,
-            Err(error) => return Err(error),
-        };
+        let file = file_of(rt.alloc(), JSON, bundle.file, json)?;
         if files.push(file).is_err() {
             return Err(MakeError::Other(CommandError::NotStarted(StartError::Memory)));
         }

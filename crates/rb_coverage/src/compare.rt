@@ -1,38 +1,33 @@
 //! Compares the items of one key.
-use crate::arguments::{Used, are_other, arguments_of};
+use crate::arguments::{are_other, arguments_of};
 use crate::chain::Chain;
 use crate::finding::{Finding, Found};
-use crate::same::are_same;
-use crate::walk::Member;
-use rb_tree::{Kind, Node, Tree};
+use rb_compare::{Member, are_equal, has_text};
+use rb_messages::Named;
+use rb_tree::{HEIGHT_LIMIT, Kind, Node, Tree};
 use std::alloc::{AllocError, Global};
 
 /// The items of a key, in the order of bundles.
 #[derive(Drop)]
 pub(crate) struct Items<'a> {
     alloc: Global,
-    members: Vec<Member<'a>>,
+    members: Vec<Member<&'a Tree>>,
     /// The arguments of each, if it is a message.
-    arguments: Vec<Option<Vec<Used<'a>>>>,
+    arguments: Vec<Option<Vec<Named<'a>>>>,
     /// The index of the root's among the members.
     root: Option<usize>,
 }
 
-/// Checks whether an item has text to translate.
-pub(crate) fn is_translated(tree: &Tree) -> bool {
-    matches!(tree, Tree::String(_) | Tree::Array(_))
-}
-
 /// Returns the index of a bundle's item.
-fn place_of(members: &[Member<'_>], bundle: usize) -> Option<usize> {
-    match members.binary_search_by(|member| member.bundle.cmp(&bundle)) {
+fn place_of(members: &[Member<&Tree>], bundle: usize) -> Option<usize> {
+    match members.binary_search_by(|member| member.tree.cmp(&bundle)) {
         Ok(i) => Some(i),
         Err(_) => None,
     }
 }
 
 /// Returns the index of the nearest item that a locale inherits.
-fn inherited(members: &[Member<'_>], chain: &Chain) -> Option<usize> {
+fn inherited(members: &[Member<&Tree>], chain: &Chain) -> Option<usize> {
     for parent in &chain.parents {
         if let Some(i) = place_of(members, *parent) {
             return Some(i);
@@ -44,12 +39,12 @@ fn inherited(members: &[Member<'_>], chain: &Chain) -> Option<usize> {
 impl<'a> Items<'a> {
     pub(crate) fn new(
         alloc: Global,
-        members: Vec<Member<'a>>,
+        members: Vec<Member<&'a Tree>>,
         root: usize,
     ) -> Result<Items<'a>, AllocError> {
         let mut arguments = Vec::with_capacity(alloc, members.len())?;
         for member in &members {
-            arguments.push(arguments_of(alloc, member.tree)?)?;
+            arguments.push(arguments_of(alloc, member.node)?)?;
         }
         let root = place_of(&members, root);
         Ok(Items {
@@ -62,7 +57,7 @@ impl<'a> Items<'a> {
 
     fn tree(&self, place: Option<usize>) -> Option<&'a Tree> {
         match self.members.get(place?) {
-            Some(member) => Some(member.tree),
+            Some(member) => Some(member.node),
             None => None,
         }
     }
@@ -70,7 +65,7 @@ impl<'a> Items<'a> {
     /// Checks whether the root has text to translate at this key.
     pub(crate) fn has_text(&self) -> bool {
         match self.tree(self.root) {
-            Some(tree) => is_translated(tree),
+            Some(tree) => has_text(tree.kind()),
             None => false,
         }
     }
@@ -91,7 +86,7 @@ impl<'a> Items<'a> {
         match (here.kind(), above.kind()) {
             (Kind::Table, Kind::Table) => Ok(None),
             (a, b) if a == b => {
-                if are_same(self.alloc, here, above)? {
+                if are_equal(here, above, HEIGHT_LIMIT) {
                     return Ok(Some(Finding::Same));
                 }
                 if self.have_other_arguments(own, parent) {

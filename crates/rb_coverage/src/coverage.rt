@@ -3,7 +3,7 @@ use crate::compare::Items;
 use crate::data::ProjectData;
 use crate::fault::CoverageFault;
 use crate::finding::Found;
-use crate::walk::{Links, Member, Walk};
+use crate::walk::KeyWalk;
 use rb_locales::Name;
 use rb_tree::Tree;
 use std::alloc::{AllocError, Global};
@@ -15,35 +15,9 @@ pub struct Coverage<'a> {
     chains: Vec<Chain>,
     /// The index of the root's bundle.
     root: usize,
-    walk: Walk<'a>,
+    walk: KeyWalk<'a>,
     /// The number of the root's keys with text to translate, up to here.
     keys: u64,
-}
-
-/// Returns the trees of bundles in their order.
-fn trees_of<'a>(
-    alloc: Global,
-    module: &'a [(Name, Tree, bool)],
-) -> Result<Vec<Member<'a>>, AllocError> {
-    let mut trees = Vec::with_capacity(alloc, module.len())?;
-    for (bundle, entry) in module.iter().enumerate() {
-        trees.push(Member {
-            bundle,
-            tree: &entry.1,
-            is_linked: false,
-        })?;
-    }
-    Ok(trees)
-}
-
-/// Begins to walk through the keys of a module's bundles.
-fn walk_of<'a>(
-    alloc: Global,
-    module: &'a [(Name, Tree, bool)],
-    data: &'a ProjectData,
-) -> Result<Walk<'a>, AllocError> {
-    let trees = trees_of(alloc, module)?;
-    Walk::new(alloc, Links { module, data }, &trees)
 }
 
 impl<'a> Coverage<'a> {
@@ -58,7 +32,7 @@ impl<'a> Coverage<'a> {
             return Err(CoverageFault::NoRoot);
         };
         let chains = chains_of(alloc, module, data.parents())?;
-        let Ok(walk) = walk_of(alloc, module, data) else {
+        let Ok(walk) = KeyWalk::new(alloc, module, data) else {
             return Err(CoverageFault::Memory);
         };
         Ok(Coverage {

@@ -1,4 +1,5 @@
 //! Follows aliases of a project to ICUDATA.
+use rb_compare::{Member, Walk};
 use rb_fallback::{Target, read_alias};
 use rb_locales::Name;
 use rb_parents::{ListShelf, Next, Parents, TRAIL_LIMIT, visit};
@@ -33,25 +34,6 @@ fn path_of(alloc: Global, units: &[u16], at: usize) -> Result<Vec<u8>, AllocErro
         path.push(u8::try_from(*unit).unwrap_or(b'?'))?;
     }
     Ok(path)
-}
-
-/// Adds the items of a table or an array to those to look at.
-fn push_items<'a>(pending: &mut Vec<&'a Tree>, tree: &'a Tree) -> Result<(), AllocError> {
-    match tree {
-        Tree::Array(items) => {
-            for item in items.as_slice() {
-                pending.push(item)?;
-            }
-            Ok(())
-        }
-        Tree::Table(entries) => {
-            for i in 0..entries.len() {
-                pending.push(entries.at(i))?;
-            }
-            Ok(())
-        }
-        _ => Ok(()),
-    }
 }
 
 /// Walks a path in a bundle, if it is there.
@@ -181,14 +163,16 @@ impl ProjectData {
         name: &Name,
     ) -> Result<Vec<Vec<u16>>, AllocError> {
         let mut dead = Vec::new(alloc);
-        let mut pending = Vec::new(alloc);
-        pending.push(bundle)?;
+        let mut walk = Walk::new(alloc);
+        walk.add(&[Member::of(0, bundle)])?;
         for _ in 0..u64::MAX {
-            let Some(tree) = pending.pop() else {
+            if !walk.advance()? {
                 break;
-            };
-            self.add_dead(alloc, &mut dead, tree, name)?;
-            push_items(&mut pending, tree)?;
+            }
+            if let Some(tree) = walk.node(0) {
+                self.add_dead(alloc, &mut dead, tree, name)?;
+                walk.enter(&[Member::of(0, tree)])?;
+            }
         }
         dead.sort_by(|a: &Vec<u16>, b: &Vec<u16>| a.as_slice().cmp(b.as_slice()))?;
         Ok(dead)

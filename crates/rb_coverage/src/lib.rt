@@ -10,8 +10,6 @@ mod coverage;
 mod data;
 mod fault;
 mod finding;
-mod path;
-mod same;
 mod translations;
 mod walk;
 

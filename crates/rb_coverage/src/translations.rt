@@ -1,5 +1,6 @@
 //! The strings of a root that the locales of a module translate.
-use rb_tree::{Entries, Tree};
+use rb_compare::{Member, Walk, is_icu_key};
+use rb_tree::{Node, Tree};
 use std::alloc::{AllocError, Global};
 use std::collections::BTreeMap;
 
@@ -14,14 +15,6 @@ const PATH_LIMIT: usize = 200;
 #[derive(Drop)]
 pub struct Translations {
     counts: BTreeMap<String, u64>,
-}
-
-/// An item of a locale with the root's, at a path.
-#[derive(Drop)]
-struct Pair<'a> {
-    here: &'a Tree,
-    root: &'a Tree,
-    path: String,
 }
 
 /// A count of the words of a text.
@@ -76,74 +69,13 @@ fn is_phrase(units: &[u16]) -> bool {
     words.count.saturating_add(u64::from(words.is_word)) > 1
 }
 
-/// Adds the items at a key or an index below a pair, unless the path is long.
-fn push_pair<'a>(
-    alloc: Global,
-    pairs: &mut Vec<Pair<'a>>,
-    path: &str,
-    segment: &str,
-    (here, root): (&'a Tree, &'a Tree),
-) -> Result<(), AllocError> {
-    let slash = if path.is_empty() { "" } else { "/" };
-    let path = format!(in alloc; "{path}{slash}{segment}")?;
-    if path.len() < PATH_LIMIT {
-        pairs.push(Pair { here, root, path })?;
-    }
-    Ok(())
-}
-
-/// Adds the entries that two tables have, without ICU's own.
-fn push_entries<'a>(
-    alloc: Global,
-    pairs: &mut Vec<Pair<'a>>,
-    path: &str,
-    here: &'a Entries,
-    root: &'a Entries,
-) -> Result<(), AllocError> {
-    for i in 0..here.len() {
-        let key = here.key_at(i);
-        if let (Some(other), false) = (root.get(key), key.starts_with(b"%%")) {
-            let segment = str::from_utf8(key).unwrap_or("?");
-            push_pair(alloc, pairs, path, segment, (here.at(i), other))?;
-        }
-    }
-    Ok(())
-}
-
-/// Adds the items that two arrays have.
-fn push_items<'a>(
-    alloc: Global,
-    pairs: &mut Vec<Pair<'a>>,
-    path: &str,
-    here: &'a [Tree],
-    root: &'a [Tree],
-) -> Result<(), AllocError> {
-    for (i, (here, root)) in here.iter().zip(root).enumerate() {
-        let segment = format!(in alloc; "{i}")?;
-        push_pair(alloc, pairs, path, segment.as_str(), (here, root))?;
-    }
-    Ok(())
-}
-
-/// Adds what is below a pair. Returns true if it is a phrase and its translation.
-fn enter<'a>(
-    alloc: Global,
-    pairs: &mut Vec<Pair<'a>>,
-    pair: &Pair<'a>,
-) -> Result<bool, AllocError> {
-    let path = pair.path.as_str();
-    match (pair.here, pair.root) {
-        (Tree::Table(here), Tree::Table(root)) => push_entries(alloc, pairs, path, here, root)?,
-        (Tree::Array(here), Tree::Array(root)) => {
-            push_items(alloc, pairs, path, here.as_slice(), root.as_slice())?;
-        }
-        (Tree::String(here), Tree::String(root)) => {
-            let (here, root) = (here.as_slice(), root.as_slice());
-            return Ok(here != root && !here.is_empty() && is_phrase(root));
-        }
-        _ => {}
-    }
-    Ok(false)
+/// Returns true if two items are a phrase and its translation.
+fn is_translation(here: &Tree, root: &Tree) -> bool {
+    let (Tree::String(here), Tree::String(root)) = (here, root) else {
+        return false;
+    };
+    let (here, root) = (here.as_slice(), root.as_slice());
+    here != root && !here.is_empty() && is_phrase(root)
 }
 
 /// Returns the paths of the root's phrases for which a locale has other strings.
@@ -153,18 +85,22 @@ pub fn translated_paths(
     root: &Tree,
 ) -> Result<Vec<String>, AllocError> {
     let mut paths = Vec::new(alloc);
-    let mut pairs = Vec::new(alloc);
-    pairs.push(Pair {
-        here,
-        root,
-        path: String::new(alloc),
-    })?;
+    let mut walk = Walk::new(alloc);
+    walk.add(&[Member::of(0, here), Member::of(1, root)])?;
     for _ in 0..u64::MAX {
-        let Some(pair) = pairs.pop() else {
+        if !walk.advance()? {
             break;
+        }
+        let (Some(here), Some(root)) = (walk.node(0), walk.node(1)) else {
+            continue;
         };
-        if enter(alloc, &mut pairs, &pair)? {
-            paths.push(pair.path)?;
+        if is_icu_key(walk.key()) || walk.path().len() >= PATH_LIMIT {
+            continue;
+        }
+        if is_translation(here, root) {
+            paths.push(String::from_utf8_lossy(alloc, walk.path())?)?;
+        } else if here.kind() == root.kind() {
+            walk.enter(&[Member::of(0, here), Member::of(1, root)])?;
         }
     }
     Ok(paths)

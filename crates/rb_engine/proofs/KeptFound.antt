@@ -108,7 +108,7 @@ takes_few few steps own icu ps name path l e = by (is_path path) refl
 
 pub item_takes_few : (item : KeptItem) (packages : Stored) (ps : ParentsOf) (app locale path : List ℕ) (steps : ℕ) → item.place.app ≡ app
     → item.place.name ≡ locale → item.path ≡ path → place_of item.place.app item.place.name ≡ Ok item.place → IsWithinSteps item packages ps
-    → item.steps ≤ steps → TakesMoreFor false steps packages ps app locale path
+    → item.steps ≤ steps → TakesMoreFor false (Some steps) packages ps app locale path
 item_takes_few item packages ps app locale path steps a n p read few l =
     let own = bundle_at (list_of item.place.app packages) in
     let icu = bundle_at (icudata_of packages) in

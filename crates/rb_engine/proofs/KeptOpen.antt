@@ -1,17 +1,16 @@
 -- The locales that an engine keeps open.
 use Rattle.std.proofs.Common.{◌≡◌, ◌≢◌, ◌<◌, ◌≤◌, ◌⊎◌, ℕ, zero, suc, List, [], ◌∷◌, Bool, true, Option, Some, None, IfSome, Ok, replicate, set, refl, ap, sym, ◌∙◌, subst, arith, inl, inr}
 use Rattle.std.specs.List.{slice_get}
-use Rattle.rb_parents.specs.Trail.{Bundles, ParentsOf, trail}
-use Rattle.rb_fallback.specs.Steps.{trail_length}
-use Rattle.rb_fallback.specs.Stops.{AreStopsOf}
+use Rattle.rb_parents.specs.Trail.{Bundles, ParentsOf}
+use Rattle.rb_fallback.specs.Stops.{AreStopsOf, CountsTrail}
 use Rattle.rb_packages.specs.Packages.{Files, OthersStay, Stored, files_of, icudata_of, list_of}
 use Rattle.rb_packages.specs.Shelf.{bundle_at}
 use Rattle.rb_engine.specs.Answer.{Response, lookup_in}
-use Rattle.rb_engine.specs.OpenLocale.{opened_stop}
+use Rattle.rb_engine.specs.OpenLocale.{names_of, opened_stop}
 use Rattle.rb_engine.specs.Place.{place_of}
-use Rattle.rb_engine.specs.Steps.{takes_more_from}
+use Rattle.rb_engine.specs.Steps.{exceeds_from}
 use Rattle.rb_engine.specs.Version.{is_current, last_version, next_version}
-use Rattle.rb_engine.specs.inner.KeptLocales.{AreKept, IsAnsweredFor, IsKept, IsOpenAt, IsOpenFor, IsOpenOver, TakesMoreFor}
+use Rattle.rb_engine.specs.inner.KeptLocales.{AreKept, IsAnsweredFor, IsKept, IsOpenAt, IsOpenFor, IsOpenOver, IsOpenWithin, TakesMoreFor}
 use Rattle.rb_engine.specs.inner.LastChanges.{AreUpTo, HasChanged, group_of, version_in}
 use Rattle.rb_engine.specs.declared.request.Reply.{Reply}
 use Rattle.rb_engine.specs.declared.request.Reply.TheVariants.{Done}
@@ -90,9 +89,9 @@ module _ (slot : Slot) (packages : Stored) (ps : ParentsOf) (app locale path : L
     answer = rw (← is_own, ← is_icu) e;
   }
 
-  pub takes_for : (more : Bool) (steps : ℕ) → takes_more_from steps own icu ps slot.place.name path ≡ more
-      → TakesMoreFor more steps packages ps app locale path
-  takes_for more steps e = record {
+  pub takes_for : (more : Bool) (left : Option ℕ) → exceeds_from left own icu ps slot.place.name path ≡ more
+      → TakesMoreFor more left packages ps app locale path
+  takes_for more left e = record {
     place = slot.place;
     read = a.read;
     takes = rw (← is_own, ← is_icu) e;
@@ -117,7 +116,7 @@ pub opened_is : (opened : OpenLocale) (packages : Stored) (ps : ParentsOf) (vers
     → opened.version ≡ version → (version < last_version → version ≤ latest)
     → place_of place.app place.name ≡ Ok place
     → AreStopsOf (opened_stop opened (files_of place.app packages)) (bundle_at (list_of place.app packages)) ps place.name
-    → opened.names ≡ trail_length (trail (bundle_at (list_of place.app packages)) ps place.name)
+    → CountsTrail (names_of opened) (bundle_at (list_of place.app packages)) ps place.name
     → IsKept (record { place = place; opened = opened }) packages ps versions latest
 opened_is opened packages ps versions latest version place same past read stops names = record {
   read = read;
@@ -140,3 +139,9 @@ kept_put slots index slot packages ps versions latest s k = λ i other at. by ot
     by : (other : Slot) (i : ℕ) → (Some other ≡ Some slot) ⊎ (slice_get slots i ≡ Some (Some other)) → IsKept other packages ps versions latest
     by other i (inl e) = let same : slot ≡ other = cc in subst (λ (x : Slot). IsKept x packages ps versions latest) same s
     by other i (inr e) = k i other e
+
+-- with a limit or none
+pub open_within : {opened : OpenLocale} {files : Files} {ps : ParentsOf} {n : List ℕ} (left : Option ℕ) → IsOpenOver opened files ps n
+    → IsOpenWithin left opened files ps n
+open_within None o = record { stops = o.stops; names = tt }
+open_within (Some steps) o = record { stops = o.stops; names = o.names }

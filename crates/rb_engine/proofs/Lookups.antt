@@ -20,7 +20,7 @@ use Rattle.rb_engine.specs.Place.{place_of}
 use Rattle.rb_engine.specs.declared.place.Place.{Place}
 use Rattle.rb_engine.proofs.StepLemmas.{app-place_of}
 use Rattle.rb_engine.specs.LookResponse.{look_response}
-use Rattle.rb_engine.specs.Steps.{takes_more, takes_more_from}
+use Rattle.rb_engine.specs.Steps.{exceeds, exceeds_from}
 
 -- what a search gives, as the answer to a lookup whose nodes are seen as `seen` has them
 abbrev pub IsTold : {N M : Type 0} → (N → Resource) → (M → Resource) → Result (Found N) LookError → Result (Found M) LookFault → Type 0
@@ -54,8 +54,8 @@ lookup_at_place start app locale path p s h =
     rw h (ap (λ x. lookup_in (bundle_at (list_of x s)) (bundle_at start.icudata) start.parents p.name path) (app-place_of app locale p h))
 
 -- so it takes the same steps
-pub takes_at_place : (steps : ℕ) (start : Start) (app locale path : List ℕ) (p : Place) (s : Stored) → place_of app locale ≡ Ok p
-    → takes_more_from steps (bundle_at (list_of p.app s)) (bundle_at start.icudata) start.parents p.name path
-    ≡ takes_more steps start (list_of app s) (place_of app locale) path
-takes_at_place steps start app locale path p s h =
-    rw h (ap (λ x. takes_more_from steps (bundle_at (list_of x s)) (bundle_at start.icudata) start.parents p.name path) (app-place_of app locale p h))
+pub takes_at_place : (left : Option ℕ) (start : Start) (app locale path : List ℕ) (p : Place) (s : Stored) → place_of app locale ≡ Ok p
+    → exceeds_from left (bundle_at (list_of p.app s)) (bundle_at start.icudata) start.parents p.name path
+    ≡ exceeds left start (list_of app s) (place_of app locale) path
+takes_at_place left start app locale path p s h =
+    rw h (ap (λ x. exceeds_from left (bundle_at (list_of x s)) (bundle_at start.icudata) start.parents p.name path) (app-place_of app locale p h))

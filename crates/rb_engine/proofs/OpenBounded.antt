@@ -1,5 +1,6 @@
--- Lookups from an open locale with a limit on their steps.
-use Rattle.std.proofs.Common.{◌≡◌, ℕ, Bool, List, Ok, ap, sym, ◌∙◌, subst}
+-- Lookups from an open locale with a limit on their steps, or none.
+use Rattle.std.proofs.Common.{◌≡◌, ℕ, Bool, List, Option, IfSome, ap, sym, ◌∙◌, subst}
+use Rattle.std.proofs.lemmas.Option.{IfSome_then}
 use Rattle.rb_parents.specs.Family.{parent_of}
 use Rattle.rb_parents.specs.Trail.{Bundles}
 use Rattle.rb_parents.specs.declared.parents.Parents.{Parents}
@@ -11,8 +12,8 @@ use Rattle.rb_engine.specs.Ask.{Looks}
 use Rattle.rb_engine.specs.Kept.{state_of}
 use Rattle.rb_engine.specs.OpenLocale.{CountsNames, IsOpenLocale}
 use Rattle.rb_engine.specs.Place.{place_of}
-use Rattle.rb_engine.specs.Steps.{takes_more, takes_more_from}
-use Rattle.rb_engine.specs.inner.KeptLocales.{IsOpenOver}
+use Rattle.rb_engine.specs.Steps.{exceeds, exceeds_from}
+use Rattle.rb_engine.specs.inner.KeptLocales.{IsOpenWithin}
 use Rattle.rb_engine.specs.declared.open_locale.OpenLocale.{OpenLocale}
 use Rattle.rb_engine.proofs.Opening.{kept}
 
@@ -20,19 +21,20 @@ use Rattle.rb_engine.proofs.Opening.{kept}
 module _ (packages : Stored) (parents : Parents) (version : ℕ) (opened : OpenLocale) (app locale path : List ℕ)
     (a : IsOpenLocale opened (kept packages parents version) app locale) (files : Files) (icu : Bundles)
     (same : files ≡ files_at_index packages opened.app) (is_icu : icu ≡ bundle_at (icudata_of packages)) where
-  pub open_over : CountsNames opened (kept packages parents version) app locale → IsOpenOver opened files (parent_of parents) a.place.name
-  open_over n =
-      subst (λ (fs : Files). IsOpenOver opened fs (parent_of parents) a.place.name) (sym (same ∙ a.files))
-      (record { stops = a.stops; names = n a.place a.read })
+  pub open_within : (left : Option ℕ) → IfSome left (λ _. CountsNames opened (kept packages parents version) app locale)
+      → IsOpenWithin left opened files (parent_of parents) a.place.name
+  open_within left n =
+      subst (λ (fs : Files). IsOpenWithin left opened fs (parent_of parents) a.place.name) (sym (same ∙ a.files))
+      (record { stops = a.stops; names = IfSome_then left n (λ _ k. k a.place a.read) })
 
-  pub takes_open : (more : Bool) (steps : ℕ) → takes_more_from steps (bundle_at (shelf_of files)) icu (parent_of parents) a.place.name path ≡ more
-      → takes_more steps (state_of (kept packages parents version)).start ((state_of (kept packages parents version)).lists app) (place_of app locale) path
+  pub takes_open : (more : Bool) (left : Option ℕ) → exceeds_from left (bundle_at (shelf_of files)) icu (parent_of parents) a.place.name path ≡ more
+      → exceeds left (state_of (kept packages parents version)).start ((state_of (kept packages parents version)).lists app) (place_of app locale) path
       ≡ more
-  takes_open more steps e =
+  takes_open more left e =
       let start = (state_of (kept packages parents version)).start in
-      ap (λ r. takes_more steps start (list_of app packages) r path) a.read
-      ∙ ap (λ (fs : Files). takes_more_from steps (bundle_at (shelf_of fs)) (bundle_at (icudata_of packages)) (parent_of parents) a.place.name path) (sym (same ∙ a.files))
-      ∙ ap (λ b. takes_more_from steps (bundle_at (shelf_of files)) b (parent_of parents) a.place.name path) (sym is_icu)
+      ap (λ r. exceeds left start (list_of app packages) r path) a.read
+      ∙ ap (λ (fs : Files). exceeds_from left (bundle_at (shelf_of fs)) (bundle_at (icudata_of packages)) (parent_of parents) a.place.name path) (sym (same ∙ a.files))
+      ∙ ap (λ b. exceeds_from left (bundle_at (shelf_of files)) b (parent_of parents) a.place.name path) (sym is_icu)
       ∙ e
 
   pub answered_open : (response : Response) → response ≡ lookup_in (bundle_at (shelf_of files)) icu (parent_of parents) a.place.name path

@@ -1,5 +1,5 @@
 -- The stops of a locale that is opened.
-use Rattle.std.proofs.Common.{◌≡◌, ◌≤◌, ℕ, List, [], ◌∷◌, ◌++◌, length, map, take, Bool, true, false, cond, Option, Some, None, Result, Ok, Err, IfOk, IfErr}
+use Rattle.std.proofs.Common.{◌≡◌, ◌≤◌, ◌+◌, ◌||◌, nat_lt, ℕ, List, [], ◌∷◌, ◌++◌, length, map, take, Bool, true, false, cond, Option, Some, None, Result, Ok, Err, IfOk, IfErr}
 use Rattle.std.proofs.Common.{refl, sym, ap, ◌∙◌, subst, option_map, is_some, append-nil}
 use Rattle.std.specs.Option.{option_and_then}
 use Rattle.std.specs.List.{slice_get}
@@ -21,12 +21,12 @@ use Rattle.rb_parents.proofs.Trails.{stop_is}
 use Rattle.rb_parents.specs.declared.fault.TrailFault.{TrailFault}
 use Rattle.rb_parents.specs.declared.fault.TrailFault.TheVariants as bad
 use Rattle.rb_fallback.specs.Search.{by_stops, by_trail, first_stop, level, look_up}
-use Rattle.rb_fallback.specs.Steps.{trail_length}
-use Rattle.rb_fallback.specs.Stops.{AreStopsOf, stop_among, with_tree}
+use Rattle.rb_fallback.specs.Stops.{AreStopsOf, CountsTrail, stop_among, with_tree}
 use Rattle.rb_fallback.specs.declared.found.Found.{Found}
 use Rattle.rb_fallback.specs.declared.fault.LookError.{LookError}
 use Rattle.rb_fallback.specs.declared.fault.LookError.TheVariants as error
 use Rattle.rb_fallback.proofs.GivenStops.{fault_look}
+use Rattle.rb_fallback.proofs.SameStops.{from_more, from_stop}
 use Rattle.rb_packages.specs.LentItem.{lent_tree}
 use Rattle.rb_packages.specs.declared.lent.LentItem.{LentItem}
 use Rattle.rb_packages.specs.Packages.{Files, Stored, files_of, icudata_of, list_of, shelf_of}
@@ -39,7 +39,7 @@ use Rattle.rb_engine.specs.Kept.{Kept, state_of}
 use Rattle.rb_engine.specs.LookResponse.{look_response}
 use Rattle.rb_engine.specs.Place.{place_of}
 use Rattle.rb_engine.specs.LookFaults.{look_fault_of, trail_refusal}
-use Rattle.rb_engine.specs.OpenLocale.{CountsNames, IsOpenLocale, RefusesAll, named_tree, opened_stop, stop_indices}
+use Rattle.rb_engine.specs.OpenLocale.{CountsNames, IsOpenLocale, RefusesAll, named_tree, names_of, opened_stop, stop_indices}
 use Rattle.rb_engine.specs.inner.Opening.{HasStops}
 use Rattle.rb_engine.specs.declared.open_locale.OpenLocale.{OpenLocale}
 use Rattle.rb_engine.specs.declared.place.Place.{Place}
@@ -92,6 +92,14 @@ stop_seen o b e = same o ∙ ap is_some e ∙ stop_is b
     same : (o : Option LentItem) → is_some o ≡ is_some (option_map lent_tree o)
     same None = refl
     same (Some item) = refl
+
+-- the names from the first stop on, with one name more
+pub one_name : (b : Bundles) (ns : List (List ℕ)) (n : List ℕ) (before : ℕ) (is : Bool) → before ≡ length (from_stop b ns) → is ≡ is_stop b n
+    → cond (nat_lt 0 before || is) (before + 1) 0 ≡ length (from_stop b (ns ++ n ∷ []))
+one_name b ns n before is e s =
+    ap (λ (k : ℕ). cond (nat_lt 0 k || is) (k + 1) 0) e
+    ∙ ap (λ (c : Bool). cond (nat_lt 0 (length (from_stop b ns)) || c) (length (from_stop b ns) + 1) 0) s
+    ∙ sym (from_more b ns n)
 
 -- ---- all stops
 abbrev flat : {A : Type 0} → Option (Option A) → Option A
@@ -171,14 +179,13 @@ module _ (packages : Stored) (parents : Parents) (version : ℕ) where
 
   -- the place that was read is the only one
   pub counts : (opened : OpenLocale) (app locale : List ℕ) (p : Place) → place_of app locale ≡ Ok p
-      → opened.names ≡ trail_length (trail (bundle_at (list_of p.app packages)) (parent_of parents) p.name) → CountsNames opened kept app locale
+      → CountsTrail (names_of opened) (bundle_at (list_of p.app packages)) (parent_of parents) p.name → CountsNames opened kept app locale
   counts opened app locale p h e = λ q read.
       let ok : Ok p ≡ Ok q = sym h ∙ read in
       let there : p ≡ q = cc in
       let same : p.app ≡ app = app-place_of app locale p h in
-      e
-      ∙ ap (λ (a : List ℕ). trail_length (trail (bundle_at (list_of a packages)) (parent_of parents) p.name)) same
-      ∙ ap (λ (x : Place). trail_length (trail (bundle_at (list_of app packages)) (parent_of parents) x.name)) there
+      subst (λ (x : Place). CountsTrail (names_of opened) (bundle_at (list_of app packages)) (parent_of parents) x.name) there
+      (subst (λ (a : List ℕ). CountsTrail (names_of opened) (bundle_at (list_of a packages)) (parent_of parents) p.name) same e)
 
   pub is_refused : (app locale : List ℕ) (p : Place) (e : LookFault) → place_of app locale ≡ Ok p
       → ((path : List ℕ) → is_path path ≡ true → length path ≤ 1024

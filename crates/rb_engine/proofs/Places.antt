@@ -7,7 +7,6 @@ use Rattle.rb_packages.specs.declared.app.AppFault.{AppFault}
 use Rattle.rb_packages.specs.declared.app.AppFault.TheVariants.{BadApp, Reserved}
 use Rattle.rb_engine.specs.Place.{place_by, place_of}
 use Rattle.rb_engine.specs.declared.place.Place.{Place}
-use Rattle.rb_engine.specs.declared.place.PlaceFault.{PlaceFault}
 
 same_app : (bad own : Bool) (bytes app : List ℕ) → cond bad (Err BadApp) (cond own (Err Reserved) (Ok bytes)) ≡ Ok app → bytes ≡ app
 same_app true own bytes app e = cc

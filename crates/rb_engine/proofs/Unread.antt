@@ -1,5 +1,5 @@
 -- Proves the answers to a payload without a bundle.
-use Rattle.std.proofs.Common.{◌≡◌, ◌⊎◌, inl, inr, refl}
+use Rattle.std.proofs.Common.{◌≡◌, ◌⊎◌, inl, inr}
 use Rattle.rb_tree.specs.SourceTree.{SourceTree}
 use Rattle.rb_engine.specs.Source.{HasNone, unread_reply}
 use Rattle.rb_engine.specs.Start.{HasBundle}

@@ -4,8 +4,8 @@ use Rattle.std.specs.Prelude.{◌≡◌, ◌≢◌, ℕ, Bool, true, false, List
 use Rattle.std.specs.Str.{bytes_eq}
 use Rattle.rb_packages.specs.App.{app_of}
 use Rattle.rb_packages.specs.Shelf.{Shelf}
-use Rattle.rb_engine.specs.Ask.{Call, Requests, LooksUp, caller, Ask, Means}
-use Rattle.rb_engine.specs.Answer.{Start, Response, Replies, Finds, Refuses, answer_over, answer, bundles_after}
+use Rattle.rb_engine.specs.Ask.{Call, Requests, caller, Ask, Means}
+use Rattle.rb_engine.specs.Answer.{Start, Response, Replies, answer_over, answer, bundles_after}
 use Rattle.rb_engine.specs.Place.{place_of}
 use Rattle.rb_engine.specs.declared.request.Request.TheVariants as request
 use Rattle.rb_engine.specs.declared.request.Reply.{Reply}

@@ -7,10 +7,9 @@ use Rattle.rb_tree.specs.Resource.{Resource}
 use Rattle.rb_tree.specs.Path.{is_path}
 use Rattle.rb_format.specs.File.{tree_of}
 use Rattle.rb_parents.specs.Family.{parent_in}
-use Rattle.rb_parents.specs.Trail.{trail}
 use Rattle.rb_fallback.specs.Limits.{path_limit}
-use Rattle.rb_fallback.specs.Steps.{trail_length}
-use Rattle.rb_fallback.specs.Stops.{AreStopsOf}
+use Rattle.rb_fallback.specs.Stops.{AreStopsOf, CountsTrail}
+use Rattle.rb_fallback.specs.declared.steps.TrailNames.{TrailNames}
 use Rattle.rb_packages.specs.Shelf.{bundle_at}
 use Rattle.rb_packages.specs.Packages.{Files, files_of, list_of}
 use Rattle.rb_packages.specs.Positions.{files_at_index}
@@ -43,11 +42,14 @@ pub record IsOpenLocale (opened : OpenLocale) (engine : Kept) (app locale : List
   pub stops : AreStopsOf (opened_stop opened (files_of app engine.packages)) (bundle_at (list_of app engine.packages))
       (parent_in engine.parents) place.name
 
--- it has the number of the trail's names, by which the steps of a lookup count
+-- the numbers of names of its trail
+abbrev pub names_of : OpenLocale → TrailNames
+names_of opened = record { all = opened.names; from_valid = opened.from_valid }
+
+-- it has the numbers of the trail's names, by which the steps of a lookup count
 abbrev pub CountsNames : OpenLocale → Kept → List ℕ → List ℕ → Type 0
 CountsNames opened engine app locale = (place : Place) → place_of app locale ≡ Ok place
-    → opened.names
-    ≡ trail_length (trail (bundle_at (list_of app engine.packages)) (parent_in engine.parents) place.name)
+    → CountsTrail (names_of opened) (bundle_at (list_of app engine.packages)) (parent_in engine.parents) place.name
 
 -- a lookup of any path that isn't too long ends with this error
 abbrev pub RefusesAll : Kept → List ℕ → List ℕ → LookFault → Type 0
@@ -72,7 +74,7 @@ StaysOpen =
     → IsOpenLocale opened first app locale → opened.version ≡ first.version → IsReached first between last
     → is_current opened.version last.version ≡ true → IsOpenLocale opened last app locale
 
--- nor does the number of its names change
+-- nor do the numbers of its names change
 abbrev pub StaysCounted : Type 0
 StaysCounted =
     (opened : OpenLocale) (app locale : List ℕ) (first last : Kept) (between : List Kept)

@@ -16,7 +16,7 @@ ghost use Rattle.rb_engine.specs.Kept.{Kept, state_of};
 ghost use Rattle.rb_engine.specs.Source.{Reads, change_request};
 ghost use Rattle.rb_engine.specs.Change.{files_after, Removes};
 ghost use Rattle.rb_engine.specs.Place.{place_of as place_at};
-ghost use Rattle.rb_engine.specs.Steps.{takes_more, takes_more_from};
+ghost use Rattle.rb_engine.specs.Steps.{exceeds, takes_more, takes_more_from};
 ghost use Rattle.rb_engine.specs.Version.{is_current, next_version};
 ghost use Rattle.rb_engine.specs.OpenLocale.{CountsNames, IsOpenLocale, RefusesAll};
 ghost use Rattle.rb_engine.specs.inner.LastChanges.{AreUpTo};
@@ -37,7 +37,7 @@ use crate::handle::{self, Change};
 use crate::hints::{Hints, Upcoming};
 use crate::incoming::IncomingBundle;
 use crate::kept_items::KeptItems;
-use crate::open_locale::{OpenLocale, Stale, find_opened, is_current, look_opened, open_at};
+use crate::open_locale::{OpenLocale, Stale, is_current, look_opened, open_at};
 use crate::open_locales::OpenLocales;
 use crate::place::{Place, hash_of, place_of};
 use crate::request::{LookFault, Payload, Reply, Request, TooManySteps};
@@ -105,13 +105,30 @@ impl Engine {
         ensures refused { IfErr result (IsRefused icudata.items) }
         ensures index { IfErr result (IsIndexed (length icudata.items)) }
     {
-        let version = first_version(&state);
+        let version = first_version(&state, 0);
         let mut packages = Packages::new(alloc, state);
         load_all(alloc, &mut packages, icudata)?;
         Ok(Engine {
             packages,
             parents,
             versions: Versions::first(version),
+            opened: OpenLocales::none(alloc),
+            kept: KeptItems::none(alloc),
+            hints: Hints::none(alloc),
+        })
+    }
+
+    /// Makes another engine with the same bundles and explicit parents, so that one of them can
+    /// change. It takes time for each bundle, and copies no file. `state` seeds its first version, so
+    /// a locale that one of them opened is stale for the other.
+    pub fn snapshot(&self, alloc: Global, state: &RandomState) -> Result<Engine, AllocError>
+        ensures packages { IfOk result (λ engine. engine.packages ≡ self.now.packages) }
+        ensures parents { IfOk result (λ engine. engine.parents ≡ self.now.parents) }
+    {
+        Ok(Engine {
+            packages: self.packages.clone()?,
+            parents: self.parents.clone()?,
+            versions: Versions::first(first_version(state, self.versions.latest)),
             opened: OpenLocales::none(alloc),
             kept: KeptItems::none(alloc),
             hints: Hints::none(alloc),
@@ -372,16 +389,25 @@ impl Engine {
         )
     }
 
-    /// Looks up like `look_kept`, and returns the item alone, which takes less time.
+    /// Looks up like `look_kept`, in at most `left` steps, and returns the item alone, which takes
+    /// less time. `None` is no limit.
     pub fn find_kept(
         &self,
         app: &[u8],
         locale: &[u8],
         path: &[u8],
-    ) -> Option<Result<Item<'_>, LookFault>>
-        ensures { IfSome result (λ item. IsNodeOf item (λ found. look_response tree_seen found
+        left: Option<u64>,
+    ) -> Option<Result<Result<Item<'_>, LookFault>, TooManySteps>>
+        ensures within { IfSome result (λ item. OnOk item (exceeds left
+            (state_of self.now).start ((state_of self.now).lists app.now)
+            (place_at app.now locale.now) path.now ≡ false)) }
+        ensures found { IfSome result (λ item. IfOk item (λ node. IsNodeOf node (λ found.
+            look_response tree_seen found
             ≡ answer_over (state_of self.now).start ((state_of self.now).lists app.now)
-            (Looks app.now locale.now path.now))) }
+            (Looks app.now locale.now path.now)))) }
+        ensures more { IfSome result (λ item. OnErr item (exceeds left
+            (state_of self.now).start ((state_of self.now).lists app.now)
+            (place_at app.now locale.now) path.now ≡ true)) }
     {
         self.opened.find_item(
             &self.packages,
@@ -390,6 +416,7 @@ impl Engine {
             app,
             locale,
             path,
+            left,
         )
     }
 
@@ -638,8 +665,8 @@ impl Engine {
 
     /// Returns true if the locale is open by these names, and the lookup finds a short String.
     fn finds_short_text(&self, app: &[u8], locale: &[u8], path: &[u8]) -> bool {
-        match self.find_kept(app, locale, path) {
-            Some(Ok(item)) => is_short_text(item),
+        match self.find_kept(app, locale, path, None) {
+            Some(Ok(Ok(item))) => is_short_text(item),
             _ => false,
         }
     }
@@ -666,31 +693,15 @@ impl Engine {
         }
         Ok(look_opened(&self.packages, &self.parents, opened, path))
     }
-
-    /// Looks up like `look_at`, and returns the item alone, which takes less time.
-    pub fn find_at(
-        &self,
-        opened: &OpenLocale,
-        path: &[u8],
-    ) -> Result<Result<Item<'_>, LookFault>, Stale>
-        ensures current { OnOk result (is_current opened.now.version self.now.version ≡ true) }
-        ensures stale { OnErr result (is_current opened.now.version self.now.version ≡ false) }
-        ensures answer { IfOk result (λ item. IsNodeOf item (λ found. (app locale : List ℕ)
-            → IsOpenLocale opened.now self.now app locale → look_response tree_seen found
-            ≡ answer_over (state_of self.now).start ((state_of self.now).lists app)
-            (Looks app locale path.now))) }
-    {
-        if is_current(opened.version, self.versions.latest) {
-            return Ok(find_opened(&self.packages, &self.parents, opened, path));
-        }
-        Err(Stale)
-    }
 }
 
-/// Returns the version of a new engine. It is a hash, which differs between engines with different
-/// seeds, so that a locale that one engine opened is stale for the others.
-fn first_version(state: &RandomState) -> u64 {
-    state.build_hasher().finish() >> 1
+/// Returns the version of an engine that is new, or a snapshot of one with a version. It is a hash,
+/// which differs between engines with different seeds and from that of the snapshot's engine, so
+/// that a locale that one engine opened is stale for the others.
+fn first_version(state: &RandomState, before: u64) -> u64 {
+    let mut hasher = state.build_hasher();
+    hasher.write_u64(before);
+    hasher.finish() >> 1
 }
 
 impl From<LookError> for LookFault {

@@ -218,7 +218,7 @@ impl KeptItems {
         ensures within { (parents : ParentsOf) → (versions : List ℕ) → (latest : ℕ)
             → version ≡ version_in versions app.now
             → AreItemsKept self.now.slots.items packages.now parents versions latest
-            → OnSome result (TakesMoreFor false steps packages.now parents app.now locale.now
+            → OnSome result (TakesMoreFor false (Some steps) packages.now parents app.now locale.now
             path.now) }
         ensures found { (parents : ParentsOf) → (versions : List ℕ) → (latest : ℕ)
             → version ≡ version_in versions app.now

@@ -33,7 +33,7 @@ pub fn one_compiled()
 
 /// Proves that an open locale stays one as long as its version is current: if each call in between
 /// changes nothing or raises the version, nothing has changed.
-#[tactic(auto, using(crate::proofs::StayingOpen::stays_open, crate::proofs::StayingOpen::stays_counted))]
+#[tactic(auto, using(crate::proofs::StayingOpen::stays_open))]
 pub fn a_locale_stays_open_until_a_change()
     ensures stops { StaysOpen }
     ensures names { StaysCounted }

@@ -1,6 +1,7 @@
 //! A locale of an application that is read once and looked up from often.
-ghost use Rattle.std.specs.Prelude.{◌≡◌, ◌<◌, ◌≤◌, ◌+◌, ◌∷◌, ◌++◌, [], ℕ, List, Err, IfErr, IfOk};
-ghost use Rattle.std.specs.Prelude.{OnErr, OnOk, false, length, slice_get, true};
+ghost use Rattle.std.specs.Prelude.{◌≡◌, ◌<◌, ◌≤◌, ◌+◌, ◌∷◌, ◌++◌, ◌||◌, [], ℕ, List, Err, IfErr};
+ghost use Rattle.std.specs.Prelude.{IfNone, IfOk, OnErr, OnOk, false, if◌then◌else◌, length, nat_lt};
+ghost use Rattle.std.specs.Prelude.{slice_get, true};
 ghost use Rattle.rb_tree.specs.Path.{is_path};
 ghost use Rattle.rb_parents.specs.Answers.{trail_of};
 ghost use Rattle.rb_parents.specs.Family.{parent_of};
@@ -12,14 +13,13 @@ ghost use Rattle.rb_packages.specs.Positions.{files_at_index};
 ghost use Rattle.rb_packages.specs.Shelf.{bundle_at};
 ghost use Rattle.rb_fallback.specs.FoundNode.{IsNodeOf};
 ghost use Rattle.rb_fallback.specs.Limits.{path_limit};
-ghost use Rattle.rb_fallback.specs.Steps.{trail_length};
-ghost use Rattle.rb_fallback.specs.Stops.{AreStopsOf};
+ghost use Rattle.rb_fallback.specs.Stops.{AreStopsOf, CountsTrail};
 ghost use Rattle.rb_engine.specs.Answer.{Refuses, lookup_in};
 ghost use Rattle.rb_engine.specs.LookResponse.{look_response};
-ghost use Rattle.rb_engine.specs.OpenLocale.{opened_stop, stop_indices};
-ghost use Rattle.rb_engine.specs.Steps.{takes_more_from};
+ghost use Rattle.rb_engine.specs.OpenLocale.{names_of, opened_stop, stop_indices};
+ghost use Rattle.rb_engine.specs.Steps.{exceeds_from, takes_more_from};
 ghost use Rattle.rb_engine.specs.Version.{is_current};
-ghost use Rattle.rb_engine.specs.inner.KeptLocales.{IsOpenOver};
+ghost use Rattle.rb_engine.specs.inner.KeptLocales.{IsOpenOver, IsOpenWithin};
 ghost use Rattle.rb_engine.specs.inner.Opening.{HasStops};
 ghost use Rattle.rb_engine.specs.declared.request.LookFault.TheVariants as Faults;
 
@@ -27,7 +27,7 @@ use crate::item_shelf::ItemShelf;
 use crate::place::Place;
 use crate::request::{LookFault, TooManySteps};
 use crate::same_name::same_name;
-use rb_fallback::{BoundedError, Found, Stops, find_from, look_from, look_from_within};
+use rb_fallback::{BoundedError, Found, Stops, TrailNames, find_from, look_from, look_from_within};
 use rb_locales::Name;
 use rb_packages::{AppShelf, Packages};
 use rb_parents::{Next, Parents, TRAIL_LIMIT, TrailFault, visit};
@@ -49,6 +49,8 @@ pub struct OpenLocale {
     pub stops: [usize; TRAIL_LIMIT],
     /// The number of the trail's names, each of which takes steps under a limit.
     pub names: u8,
+    /// The number of these names from the first stop on.
+    pub from_valid: u8,
 }
 
 /// The engine has changed since the locale was opened, so it has to be opened again.
@@ -64,6 +66,15 @@ pub(crate) fn is_current(read: u64, now: u64) -> bool
 }
 
 impl OpenLocale {
+    fn names(&self) -> TrailNames
+        ensures { result ≡ names_of self.now }
+    {
+        TrailNames {
+            all: self.names,
+            from_valid: self.from_valid,
+        }
+    }
+
     fn stop_index(&self, i: usize) -> Option<usize>
         ensures { result ≡ slice_get (stop_indices self.now) i }
     {
@@ -78,6 +89,7 @@ impl OpenLocale {
         ensures stops { stop_indices self.new ≡ stop_indices self.old ++ index ∷ [] }
         ensures count { self.new.count ≡ self.old.count + 1 }
         ensures version { self.new.version ≡ self.old.version }
+        ensures from_valid { self.new.from_valid ≡ self.old.from_valid }
     {
         self.stops[self.count] = index;
         self.count += 1;
@@ -91,6 +103,7 @@ impl OpenLocale {
             → HasStops self.new (files_in own.entry) (ns ++ name.now ∷ []) }
         ensures count { self.new.count ≤ self.old.count + 1 }
         ensures version { self.new.version ≡ self.old.version }
+        ensures from_valid { self.new.from_valid ≡ self.old.from_valid }
     {
         if !counts {
             return;
@@ -99,6 +112,17 @@ impl OpenLocale {
             self.add_stop(index);
         }
     }
+}
+
+/// Returns the number of names from the first stop on, with one name more.
+fn with_name(from_valid: u8, is_stop: bool) -> u8
+    requires { from_valid < 255 }
+    ensures { result ≡ (if nat_lt 0 from_valid || is_stop then from_valid + 1 else 0) }
+{
+    if from_valid > 0 || is_stop {
+        return from_valid + 1;
+    }
+    0
 }
 
 /// Reads the trail of a name, with the indices of its stops. The application isn't set.
@@ -112,8 +136,8 @@ fn read_stops(
         × (trail (bundles_lent own.entry) (parent_of parents.now) name.now ≡ names ns)
         × HasStops opened (files_in own.entry) ns) }
     ensures version { IfOk result (λ opened. opened.version ≡ version) }
-    ensures names { IfOk result (λ opened. opened.names
-        ≡ trail_length (trail (bundles_lent own.entry) (parent_of parents.now) name.now)) }
+    ensures names { IfOk result (λ opened. CountsTrail (names_of opened)
+        (bundles_lent own.entry) (parent_of parents.now) name.now) }
     ensures fault { IfErr result (λ e. trail (bundles_lent own.entry) (parent_of parents.now)
         name.now ≡ trail_of (Err e)) }
 {
@@ -123,11 +147,14 @@ fn read_stops(
         count: 0,
         stops: [0; TRAIL_LIMIT],
         names: 0,
+        from_valid: 0,
     };
     let mut here = *name;
     for i in 0..TRAIL_LIMIT {
         let (next, stop) = visit(own, parents, &here);
-        opened.add_name(own, &here, stop.is_some());
+        let is_stop = stop.is_some();
+        opened.add_name(own, &here, is_stop);
+        opened.from_valid = with_name(opened.from_valid, is_stop);
         match next {
             Next::Name(name) => here = name,
             Next::End => {
@@ -163,9 +190,8 @@ pub(crate) fn open_at(
         (opened_stop opened (files_of place.now.app packages.now))
         (bundle_at (list_of place.now.app packages.now)) (parent_of parents.now) place.now.name) }
     ensures version { IfOk result (λ opened. opened.version ≡ version) }
-    ensures names { IfOk result (λ opened. opened.names
-        ≡ trail_length (trail (bundle_at (list_of place.now.app packages.now))
-        (parent_of parents.now) place.now.name)) }
+    ensures names { IfOk result (λ opened. CountsTrail (names_of opened)
+        (bundle_at (list_of place.now.app packages.now)) (parent_of parents.now) place.now.name) }
     ensures refused { IfErr result (λ e. (path : List ℕ) → is_path path ≡ true
         → length path ≤ path_limit
         → lookup_in (bundle_at (list_of place.now.app packages.now))
@@ -240,38 +266,44 @@ pub(crate) fn look_over_within<'a>(
 {
     let stops = OpenStops { own, opened };
     let (own, icu) = (ItemShelf { shelf: own }, ItemShelf { shelf: icu });
-    match look_from_within(stops, opened.names, own, icu, parents, path, steps) {
+    match look_from_within(stops, opened.names(), own, icu, parents, path, steps) {
         Ok(found) => Ok(Ok(found)),
         Err(BoundedError::Search(error)) => Ok(Err(LookFault::from(error))),
         Err(BoundedError::TooManySteps) => Err(TooManySteps),
     }
 }
 
-/// Finds the item at a path as `look_over` does, without the names of bundles.
+/// Finds the item at a path as `look_over` does, in at most `left` steps, without the names of
+/// bundles. `None` is no limit; then the numbers of names may be any.
 pub(crate) fn find_over<'a>(
     own: AppShelf<'a>,
     icu: AppShelf<'a>,
     parents: &Parents,
     opened: &OpenLocale,
     path: &[u8],
-) -> Result<Item<'a>, LookFault>
-    ensures { IsNodeOf result (λ found. (name : List ℕ)
-        → AreStopsOf (opened_stop opened.now (files_in own.entry)) (bundles_lent own.entry)
-        (parent_of parents.now) name
-        → look_response tree_seen found ≡ lookup_in (bundles_lent own.entry)
-        (bundles_lent icu.entry) (parent_of parents.now) name path.now) }
+    left: Option<u64>,
+) -> Result<Result<Item<'a>, LookFault>, TooManySteps>
+    ensures few { IfNone left (OnErr result ⊥) }
+    ensures within { (name : List ℕ)
+        → IsOpenWithin left opened.now (files_in own.entry) (parent_of parents.now) name
+        → OnOk result (exceeds_from left (bundles_lent own.entry) (bundles_lent icu.entry)
+        (parent_of parents.now) name path.now ≡ false) }
+    ensures found { (name : List ℕ)
+        → IsOpenWithin left opened.now (files_in own.entry) (parent_of parents.now) name
+        → IfOk result (λ item. IsNodeOf item (λ found. look_response tree_seen found
+        ≡ lookup_in (bundles_lent own.entry) (bundles_lent icu.entry) (parent_of parents.now)
+        name path.now)) }
+    ensures more { (name : List ℕ)
+        → IsOpenWithin left opened.now (files_in own.entry) (parent_of parents.now) name
+        → OnErr result (exceeds_from left (bundles_lent own.entry) (bundles_lent icu.entry)
+        (parent_of parents.now) name path.now ≡ true) }
 {
     let stops = OpenStops { own, opened };
-    let found = find_from(
-        stops,
-        ItemShelf { shelf: own },
-        ItemShelf { shelf: icu },
-        parents,
-        path,
-    );
-    match found {
-        Ok(item) => Ok(item),
-        Err(error) => Err(LookFault::from(error)),
+    let (own, icu) = (ItemShelf { shelf: own }, ItemShelf { shelf: icu });
+    match find_from(stops, opened.names(), own, icu, parents, path, left) {
+        Ok(item) => Ok(Ok(item)),
+        Err(BoundedError::Search(error)) => Ok(Err(LookFault::from(error))),
+        Err(BoundedError::TooManySteps) => Err(TooManySteps),
     }
 }
 
@@ -292,25 +324,6 @@ pub(crate) fn look_opened<'a>(
 {
     let own = packages.shelf_at(opened.app);
     look_over(own, packages.icu_shelf(), parents, opened, path)
-}
-
-/// Finds the item at a path as `look_opened` does, without the names of bundles.
-pub(crate) fn find_opened<'a>(
-    packages: &'a Packages,
-    parents: &Parents,
-    opened: &OpenLocale,
-    path: &[u8],
-) -> Result<Item<'a>, LookFault>
-    ensures { IsNodeOf result (λ found. (name : List ℕ) → AreStopsOf
-        (opened_stop opened.now (files_at_index packages.now opened.now.app))
-        (bundle_at (shelf_of (files_at_index packages.now opened.now.app)))
-        (parent_of parents.now) name
-        → look_response tree_seen found ≡ lookup_in
-        (bundle_at (shelf_of (files_at_index packages.now opened.now.app)))
-        (bundle_at (icudata_of packages.now)) (parent_of parents.now) name path.now) }
-{
-    let own = packages.shelf_at(opened.app);
-    find_over(own, packages.icu_shelf(), parents, opened, path)
 }
 
 /// The stops of an opened locale over some bundles.

@@ -299,7 +299,7 @@ impl OpenLocales {
     ) -> Option<Result<Result<Found<Item<'a>>, LookFault>, TooManySteps>>
         ensures within { (versions : List ℕ) → (latest : ℕ) → version ≡ version_in versions app.now
             → AreKept self.now.slots.items packages.now (parent_of parents.now) versions latest
-            → IfSome result (λ r. OnOk r (TakesMoreFor false steps packages.now
+            → IfSome result (λ r. OnOk r (TakesMoreFor false (Some steps) packages.now
             (parent_of parents.now) app.now locale.now path.now)) }
         ensures found { (versions : List ℕ) → (latest : ℕ) → version ≡ version_in versions app.now
             → AreKept self.now.slots.items packages.now (parent_of parents.now) versions latest
@@ -307,7 +307,7 @@ impl OpenLocales {
             packages.now (parent_of parents.now) app.now locale.now path.now)) }
         ensures more { (versions : List ℕ) → (latest : ℕ) → version ≡ version_in versions app.now
             → AreKept self.now.slots.items packages.now (parent_of parents.now) versions latest
-            → IfSome result (λ r. OnErr r (TakesMoreFor true steps packages.now
+            → IfSome result (λ r. OnErr r (TakesMoreFor true (Some steps) packages.now
             (parent_of parents.now) app.now locale.now path.now)) }
     {
         let slot = self.find(app, locale, version)?;
@@ -316,7 +316,8 @@ impl OpenLocales {
         Some(look_over_within(own, icu, parents, &slot.opened, path, steps))
     }
 
-    /// Finds the item at a path as `look` does, without the names of bundles.
+    /// Finds the item at a path as `look` does, in at most `left` steps, without the names of
+    /// bundles. `None` is no limit.
     pub(crate) fn find_item<'a>(
         &self,
         packages: &'a Packages,
@@ -325,17 +326,26 @@ impl OpenLocales {
         app: &[u8],
         locale: &[u8],
         path: &[u8],
-    ) -> Option<Result<Item<'a>, LookFault>>
-        ensures { (versions : List ℕ) → (latest : ℕ) → version ≡ version_in versions app.now
+        left: Option<u64>,
+    ) -> Option<Result<Result<Item<'a>, LookFault>, TooManySteps>>
+        ensures within { (versions : List ℕ) → (latest : ℕ) → version ≡ version_in versions app.now
             → AreKept self.now.slots.items packages.now (parent_of parents.now) versions latest
-            → IfSome result (λ item. IsNodeOf item (λ found. IsAnsweredFor
+            → IfSome result (λ r. OnOk r (TakesMoreFor false left packages.now
+            (parent_of parents.now) app.now locale.now path.now)) }
+        ensures found { (versions : List ℕ) → (latest : ℕ) → version ≡ version_in versions app.now
+            → AreKept self.now.slots.items packages.now (parent_of parents.now) versions latest
+            → IfSome result (λ r. IfOk r (λ item. IsNodeOf item (λ found. IsAnsweredFor
             (look_response tree_seen found) packages.now (parent_of parents.now) app.now locale.now
-            path.now)) }
+            path.now))) }
+        ensures more { (versions : List ℕ) → (latest : ℕ) → version ≡ version_in versions app.now
+            → AreKept self.now.slots.items packages.now (parent_of parents.now) versions latest
+            → IfSome result (λ r. OnErr r (TakesMoreFor true left packages.now
+            (parent_of parents.now) app.now locale.now path.now)) }
     {
         let slot = self.find(app, locale, version)?;
         let own = slot.shelf(packages);
         let icu = packages.icu_shelf();
-        Some(find_over(own, icu, parents, &slot.opened, path))
+        Some(find_over(own, icu, parents, &slot.opened, path, left))
     }
 
     /// Opens a locale over the bundles of this version, unless it is open. An error leaves the slot

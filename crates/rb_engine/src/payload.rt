@@ -7,7 +7,7 @@ ghost use Rattle.rb_engine.specs.ReadFaults.{IsFirstFault};
 ghost use Rattle.rb_engine.specs.declared.request.Payload.TheVariants.{Text, File};
 
 use crate::request::{BundleSource, Payload, Reply};
-use rb_compiler::compile;
+use rb_compiler::compile_bundle;
 use rb_format::FileFault;
 use rb_lexer::{SourceFault, SourceKind};
 use rb_tree::ByteList;
@@ -53,22 +53,13 @@ impl From<SourceFault> for ReadFault {
     }
 }
 
-/// Parses a text, writes it as a file and accepts that.
 fn text_bundle(alloc: Global, text: &[u8]) -> Result<Bundle, ReadFault>
     ensures bundle { BundleOrFault (Text text.now) result }
     ensures first { IfErr result (IsFirstFault (Text text.now)) }
     ensures file { IfOk result (λ file. IsCompiled text.now file) }
 {
-    rb_format::laws::a_tree_or_a_fault();
-    let file = compile(alloc, text)?;
-    match accept(alloc, file) {
-        Ok(bundle) => Ok(bundle),
-        Err((fault, _)) => {
-            let is_memory = fault == FileFault::Memory;
-            prove!(is_memory);
-            Err(ReadFault::Refused(Reply::Memory))
-        }
-    }
+    let bundle = compile_bundle(alloc, text)?;
+    Ok(bundle)
 }
 
 fn file_bundle(alloc: Global, file: ByteList) -> Result<Bundle, ReadFault>

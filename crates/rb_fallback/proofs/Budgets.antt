@@ -1,14 +1,14 @@
 -- The steps of a search, level by level, and what is left of them.
-use Rattle.std.proofs.Common.{◌≡◌, ◌+◌, ◌*◌, ◌-◌, ◌<◌, ◌≤◌, ◌==◌, ℕ, zero, suc, List, [], ◌∷◌, length, Bool, true, false, cond, nat_lt, Option, Some, None, Result, Ok, Err}
-use Rattle.std.proofs.Common.{refl, ap, ◌∙◌, arith}
+use Rattle.std.proofs.Common.{◌≡◌, IfSome, ◌+◌, ◌*◌, ◌-◌, ◌<◌, ◌≤◌, ◌==◌, ℕ, zero, suc, List, [], ◌∷◌, length, Bool, true, false, cond, nat_lt, Option, Some, None, Result, Ok, Err}
+use Rattle.std.proofs.Common.{refl, ap, subst, ◌∙◌, arith}
 use Rattle.std.proofs.lemmas.Bool.{ltb-true, ltb-false, lt-ltb, le-ltb}
 use Rattle.std.specs.List.{count_by}
 use Rattle.std.proofs.lemmas.List.Splits.{length-slice_split}
 use Rattle.rb_tree.specs.Path.{is_slash, segments}
 use Rattle.rb_parents.specs.Trail.{Trail}
 use Rattle.rb_fallback.specs.Search.{Hit, Setting, Step, bundles_of, is_long, level, step}
-use Rattle.rb_fallback.specs.Steps.{go_steps, level_steps, search_steps, searched, trail_length}
-use Rattle.rb_fallback.specs.inner.Budget.{spend, within}
+use Rattle.rb_fallback.specs.Steps.{go_steps, level_steps, search_steps, searched, trail_length, within}
+use Rattle.rb_fallback.specs.inner.Budget.{spend}
 use Rattle.rb_fallback.specs.declared.fault.BoundedError.{BoundedError}
 use Rattle.rb_fallback.specs.declared.fault.BoundedError.TheVariants as bounded
 use Rattle.rb_fallback.specs.declared.fault.LookError.{LookError}
@@ -46,12 +46,32 @@ pub segments_count : (p : List ℕ) → (length p == 0) ≡ false → length (se
 segments_count [] h = cc
 segments_count (b ∷ bs) h = length-slice_split is_slash (b ∷ bs)
 
-pub spent_at : (left : Option ℕ) (t : Trail) {r : Result (Option ℕ) BoundedError} {names : ℕ} {q p : List ℕ} → names ≡ trail_length t → q ≡ p
+pub always : {A B : Type 0} (o : Option B) → A → IfSome o (λ _. A)
+always None a = tt
+always (Some x) a = a
+
+-- a limit needs the count of the names
+pub spent_at : (left : Option ℕ) (t : Trail) (names : ℕ) {r : Result (Option ℕ) BoundedError} {q p : List ℕ} → IfSome left (λ _. names ≡ trail_length t) → q ≡ p
     → r ≡ spend left (names * (1 + length (segments q))) → r ≡ spend left (trail_length t * (1 + length (segments p)))
-spent_at left t {q = q} counted same e =
+spent_at None t names counted same e = e
+spent_at (Some k) t names {q = q} counted same e =
     e
-    ∙ ap (λ (k : ℕ). spend left (k * (1 + length (segments q)))) counted
-    ∙ ap (λ (x : List ℕ). spend left (trail_length t * (1 + length (segments x)))) same
+    ∙ ap (λ (m : ℕ). spend (Some k) (m * (1 + length (segments q)))) counted
+    ∙ ap (λ (x : List ℕ). spend (Some k) (trail_length t * (1 + length (segments x)))) same
+
+-- what a limit needs it still has after some steps
+pub still : (A : Type 0) (left later : Option ℕ) (steps : ℕ) → Ok later ≡ spend left steps → IfSome left (λ _. A) → IfSome later (λ _. A)
+still A None later steps e a = let same : None ≡ later = cc in subst (λ (o : Option ℕ). IfSome o (λ _. A)) same tt
+still A (Some k) later steps e a = always later a
+
+-- nor is more than that spent
+pub spend_never : (left : Option ℕ) (steps : ℕ) (f : BoundedError) → Err f ≡ spend left steps → f ≡ bounded.TooManySteps
+spend_never None steps f e = cc
+spend_never (Some k) steps f e = by (nat_lt k steps) e
+  where
+    by : (c : Bool) → Err f ≡ cond c (Err bounded.TooManySteps) (Ok (Some (k - steps))) → f ≡ bounded.TooManySteps
+    by true g = cc
+    by false g = cc
 
 -- ---- what is left
 abbrev on : Option ℕ → Result (Option ℕ) BoundedError

@@ -1,20 +1,18 @@
 -- A search, level by level.
 use Rattle.std.proofs.Common.{◌≡◌, ◌≢◌, ◌+◌, ◌*◌, ◌-◌, ◌<◌, ◌≤◌, ◌==◌, ℕ, zero, suc, List, length, Bool, true, false, cond, Option, Result, Ok, Err}
-use Rattle.std.proofs.Common.{IsErrAnd, refl, ap, sym, ◌∙◌, arith}
+use Rattle.std.proofs.Common.{IfSome, IsErrAnd, refl, ap, sym, ◌∙◌, arith}
 use Rattle.std.proofs.lemmas.Bool.{le-ltb, eqb-true, eqb-false}
 use Rattle.rb_tree.specs.Resource.{Resource}
 use Rattle.rb_tree.specs.Path.{segments, IsPath}
 use Rattle.rb_parents.specs.Trail.{Bundles, ParentsOf, trail}
-use Rattle.rb_fallback.specs.Answers.{bounded_answer_of}
 use Rattle.rb_fallback.specs.Search.{Hit, Setting, Step, found, goes, search, is_long, go_on, bundles_of, setting}
-use Rattle.rb_fallback.specs.Steps.{go_steps, search_steps, trail_length}
-use Rattle.rb_fallback.specs.inner.Budget.{after_step, search_within, spend, within}
+use Rattle.rb_fallback.specs.Steps.{go_steps, search_steps, trail_length, within}
+use Rattle.rb_fallback.specs.inner.Budget.{after_step, search_within, spend}
 use Rattle.rb_fallback.specs.inner.Steps.{GoesOn, GoesLong, IsOutcome}
 use Rattle.rb_fallback.specs.declared.fault.BoundedError.{BoundedError}
 use Rattle.rb_fallback.specs.declared.fault.BoundedError.TheVariants as bounded
 use Rattle.rb_fallback.specs.declared.fault.LookError.{LookError}
 use Rattle.rb_fallback.specs.declared.fault.LookError.TheVariants as fault
-use Rattle.rb_fallback.specs.declared.found.Found.{Found}
 use Rattle.rb_fallback.specs.declared.search.SearchState.{SearchState}
 use Rattle.rb_fallback.specs.declared.search.Outcome.{Outcome}
 use Rattle.rb_fallback.proofs.Budgets.{spent_at, step_at, steps_at, steps_end, steps_long, steps_on, within_after, within_less, within_none}
@@ -82,18 +80,18 @@ module _ {left : Option ℕ} {most i : ℕ} {s : Setting} {in_icu : Bool} {n p :
       ∙ at.same
 
   -- if the steps don't suffice
-  pub level_less : {f : BoundedError} {names : ℕ} {q : List ℕ} → names ≡ trail_length (trail (bundles_of s.own s.icu in_icu) s.parents n) → q ≡ p
+  pub level_less : {f : BoundedError} (names : ℕ) {q : List ℕ} → IfSome left (λ _. names ≡ trail_length (trail (bundles_of s.own s.icu in_icu) s.parents n)) → q ≡ p
       → Err f ≡ spend left (names * (1 + length (segments q))) → Err f ≡ answer
-  level_less {f = f} counted same less = sym (within_less left _ _ _ f (spent_at left (trail (bundles_of s.own s.icu in_icu) s.parents n) counted same less)) ∙ level_within
+  level_less {f = f} names counted same less = sym (within_less left _ _ _ f (spent_at left (trail (bundles_of s.own s.icu in_icu) s.parents n) names counted same less)) ∙ level_within
 
   -- and if they do
-  module _ {later : Option ℕ} {names : ℕ} {q : List ℕ} (counted : names ≡ trail_length (trail (bundles_of s.own s.icu in_icu) s.parents n)) (same : q ≡ p)
+  module _ {later : Option ℕ} (names : ℕ) {q : List ℕ} (counted : IfSome left (λ _. names ≡ trail_length (trail (bundles_of s.own s.icu in_icu) s.parents n))) (same : q ≡ p)
       (spent : Ok later ≡ spend left (names * (1 + length (segments q)))) where
     level_answer : {r : Result Step LookError} → step_at s in_icu n (segments p) ≡ r
         → within later (go_steps (λ q m ts. search_steps (most - (i + 1)) s q m ts) r) (go_on (λ q m ts. search (most - (i + 1)) s q m ts) r) ≡ answer
     level_answer e =
         ap (λ x. within later (go_steps (λ q m ts. search_steps (most - (i + 1)) s q m ts) x) (go_on (λ q m ts. search (most - (i + 1)) s q m ts) x)) (sym e)
-        ∙ sym (within_after left later (steps_at s in_icu n (segments p)) _ _ (spent_at left (trail (bundles_of s.own s.icu in_icu) s.parents n) counted same spent))
+        ∙ sym (within_after left later (steps_at s in_icu n (segments p)) _ _ (spent_at left (trail (bundles_of s.own s.icu in_icu) s.parents n) names counted same spent))
         ∙ level_within
 
     pub found_answer : {hit : Hit} → step_at s in_icu n (segments p) ≡ Ok (found hit) → Ok hit ≡ answer
@@ -153,13 +151,11 @@ module _ (left : Option ℕ) (s : Setting) (r : Result Step LookError) where
   after_long g = sym (within_long left 255 254 s g.in_icu g.name g.rest (omega arith) g.long) ∙ ap (after_step left s) (sym g.onto)
 
 -- an error that a `?` returns
-pub answer_err : {N : Type 0} (tree : N → Resource) (x : Result (Found N) BoundedError) (f : BoundedError) → IsErrAnd x (λ e. e ≡ f)
-    → bounded_answer_of tree x ≡ Err f
-answer_err tree (Ok y) f h = absurd h
-answer_err tree (Err e) f h = ap Err h
+pub is_err : {A E : Type 0} (x : Result A E) (f : E) → IsErrAnd x (λ e. e ≡ f) → x ≡ Err f
+is_err (Ok y) f h = absurd h
+is_err (Err e) f h = ap Err h
 
--- an error of a level that a `?` returns
-pub outcome_err : {N : Type 0} (tree : N → Resource) (x : Result (Outcome N) LookError) (f : LookError) (p : SearchState)
-    (r : Result Step LookError) → IsErrAnd x (λ e. e ≡ f) → r ≡ Err f → IsOutcome tree x p r
-outcome_err tree (Ok y) f p r h k = absurd h
-outcome_err tree (Err e) f p r h k = k ∙ ap Err (sym h)
+pub outcome_err : {N : Type 0} (tree : N → Resource) (stop : ℕ → Option (List ℕ × Resource)) (x : Result (Outcome N) LookError) (f : LookError) (p : SearchState)
+    (r : Result Step LookError) → IsErrAnd x (λ e. e ≡ f) → r ≡ Err f → IsOutcome tree stop x p r
+outcome_err tree stop (Ok y) f p r h k = absurd h
+outcome_err tree stop (Err e) f p r h k = k ∙ ap Err (sym h)

@@ -14,6 +14,4 @@ pub mod FewSteps
 pub mod Stretches
 pub mod SameStops
 pub mod PathScans
-pub mod StopEndings
 pub mod AliasScans
-pub mod PathAliases

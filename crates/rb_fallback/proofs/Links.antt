@@ -18,6 +18,8 @@ use Rattle.rb_fallback.specs.declared.fault.LookError.TheVariants as fault
 use Rattle.rb_fallback.specs.declared.level.LevelResult.{LevelResult}
 use Rattle.rb_fallback.specs.declared.search.Outcome.{Outcome}
 use Rattle.rb_fallback.specs.declared.search.SearchState.{SearchState}
+use Rattle.rb_fallback.specs.declared.stops.Reached.{Reached}
+use Rattle.rb_fallback.specs.inner.Reached.{IsReached}
 use Rattle.rb_fallback.specs.inner.Steps.{IsFollowed, IsOutcome}
 use Rattle.rb_fallback.proofs.Paths.{walk_whole}
 
@@ -115,11 +117,11 @@ module _ {N : Type 0} {tree : N → Resource} {h : LevelResult N} {path : List �
       (f l.walked l.rest (l.whole ∙ ap segments (sym same)) (l.left ∙ ap (λ p. segments (drop (behind cut) p)) (sym same)))
 
 -- what ends a level is its step, also if the path is known as another one
-pub outcome_at : {N : Type 0} (tree : N → Resource) (d : LevelResult N) (x : Result (Outcome N) LookError) (to : SearchState) (in_icu : Bool) (valid : List ℕ)
-    (r : Result Decided LookError) (head : Option (List ℕ)) (q p : List ℕ) → q ≡ p
-    → ((r : Result Decided LookError) (head : Option (List ℕ)) → IsLevelResult tree d q r head → IsOutcome tree x to (step in_icu valid r))
-    → IsLevelResult tree d p r head → IsOutcome tree x to (step in_icu valid r)
-outcome_at tree d x to in_icu valid r head q p same f h = f r head (subst (λ (y : List ℕ). IsLevelResult tree d y r head) (sym same) h)
+pub outcome_at : {N : Type 0} (tree : N → Resource) (stop : ℕ → Option (List ℕ × Resource)) (d : Reached N) (x : Result (Outcome N) LookError) (to : SearchState)
+    (in_icu : Bool) (valid : List ℕ) (r : Result Decided LookError) (q p : List ℕ) → q ≡ p
+    → ((stop : ℕ → Option (List ℕ × Resource)) (r : Result Decided LookError) → IsReached tree stop d q r → IsOutcome tree stop x to (step in_icu valid r))
+    → IsReached tree stop d p r → IsOutcome tree stop x to (step in_icu valid r)
+outcome_at tree stop d x to in_icu valid r q p same f h = f stop r (subst (λ (y : List ℕ). IsReached tree stop d y r) (sym same) h)
 
 -- ---- a deciding walk that ends at a tree
 ends_at : (w : Walked) (t : Resource) → end t ≡ stop_of w → w ≡ ends t

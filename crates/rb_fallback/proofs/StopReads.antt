@@ -1,5 +1,5 @@
 -- The stops of a trail, read one by one.
-use Rattle.std.proofs.Common.{◌≡◌, ◌+◌, ◌≤◌, ℕ, zero, suc, List, [], ◌∷◌, length, drop, Bool, true, false, cond, Option, Some, None, Err, refl, ap, sym, ◌∙◌, arith, option_map, drop-cons}
+use Rattle.std.proofs.Common.{◌≡◌, ◌+◌, ◌≤◌, ℕ, zero, suc, List, [], ◌∷◌, length, drop, Bool, true, false, cond, Option, Some, None, Err, refl, ap, sym, ◌∙◌, arith, codes, unwrap_or, option_map, drop-cons}
 use Rattle.std.specs.Option.{ok_or, option_and_then}
 use Rattle.std.specs.List.{filter, slice_get}
 use Rattle.std.proofs.lemmas.Option.{get_or_from_slice_get, slice_get_within}
@@ -163,3 +163,10 @@ pub somewhere : {N : Type 0} (tree : N → Resource) (x : Ending N) → (x ≡ G
 somewhere tree Gone h e = h refl
 somewhere tree (End n) h e = cc
 somewhere tree (Link n k) h e = cc
+
+-- a stop that is there has a name
+pub named_stop : {N : Type 0} (tree : N → Resource) (r : Option N) (o : Option (List ℕ × Resource)) → option_map tree r ≡ tree_read o
+    → (r ≡ None → ⊥) → name_read o ≡ Some (unwrap_or (name_read o) (codes "root"))
+named_stop tree None o e h = absurd (h refl)
+named_stop tree (Some x) None e h = cc
+named_stop tree (Some x) (Some s) e h = refl

@@ -1,6 +1,6 @@
 -- Defines the steps of a search, and what a lookup with a limit on its steps gives.
 use Rattle.std.specs.Prelude.{◌+◌, ◌*◌, ◌≤◌, ℕ, zero, suc, List, length, Bool, false, nat_lt}
-use Rattle.std.specs.Prelude.{Result, Ok, Err, if◌then◌else◌}
+use Rattle.std.specs.Prelude.{Option, Some, None, Result, Ok, Err, if◌then◌else◌}
 use Rattle.rb_tree.specs.Path.{IsPath, segments}
 use Rattle.rb_parents.specs.Trail.{Bundles, ParentsOf, Trail, names, chain, bad_parent, trail}
 use Rattle.rb_fallback.specs.Limits.{level_limit}
@@ -52,6 +52,15 @@ searched (Err e) = Err (bounded.Search e)
 -- an answer, if the steps are enough that it takes
 abbrev pub if_within : ℕ → ℕ → Result Hit LookError → Result Hit BoundedError
 if_within steps taken answer = if nat_lt steps taken then Err bounded.TooManySteps else searched answer
+
+-- an answer, if a limit suffices for the steps that it takes; `None` is no limit
+abbrev pub within : Option ℕ → ℕ → Result Hit LookError → Result Hit BoundedError
+within None taken answer = searched answer
+within (Some steps) taken answer = if_within steps taken answer
+
+-- what a lookup gives under a limit, or without one
+abbrev pub look_up_limited : Option ℕ → Bundles → Bundles → ParentsOf → List ℕ → List (List ℕ) → Result Hit BoundedError
+look_up_limited left own icu parents n ss = within left (look_steps own icu parents n ss) (look_up own icu parents n ss)
 
 abbrev pub look_up_within : ℕ → Bundles → Bundles → ParentsOf → List ℕ → List (List ℕ) → Result Hit BoundedError
 look_up_within steps own icu parents n ss = if_within steps (look_steps own icu parents n ss)

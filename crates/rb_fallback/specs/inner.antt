@@ -4,4 +4,4 @@ pub mod Budget
 pub mod Stretches
 pub mod Visits
 pub mod PathScan
-pub mod StopEnding
+pub mod Reached

@@ -16,13 +16,6 @@ pub struct Found<N> {
 impl<N> Found<N> {
     ghost use Rattle.rb_fallback.specs.Answers.{with_node};
 
-    /// Returns the node alone.
-    pub(crate) fn into_node(self) -> N
-        ensures { result ≡ self.node }
-    {
-        self.node
-    }
-
     /// Returns a copy with another node, such as a view of the one that was found.
     pub fn with_node<M>(&self, node: M) -> Found<M>
         ensures { result ≡ with_node self.now node }

@@ -1,126 +1,188 @@
-//! Searches whose first level has stops that were read before.
-ghost use Rattle.std.specs.Prelude.{◌≡◌, ◌≢◌, ◌≤◌, List, ℕ, Option, Result, Err, IfOk, false, length};
+//! Lookups from the stops of a trail that was read before.
+ghost use Rattle.std.specs.Prelude.{◌≡◌, ◌≢◌, ◌↔◌, ℕ, List, Option, Err, IfOk, IfSome};
+ghost use Rattle.std.specs.Prelude.{None, Some, false};
 ghost use Rattle.rb_tree.specs.Path.{IsPath, segments};
 ghost use Rattle.rb_parents.specs.Family.{parent_of};
-ghost use Rattle.rb_fallback.specs.Answers.{answer_of};
-ghost use Rattle.rb_fallback.specs.Limits.{path_limit};
-ghost use Rattle.rb_fallback.specs.Search.{Decided, bundles_of, first_stop, level, setting_of, step};
-ghost use Rattle.rb_fallback.specs.Steps.{searched};
-ghost use Rattle.rb_fallback.specs.Stops.{AreStopsOf};
-ghost use Rattle.rb_fallback.specs.inner.Budget.{after_step, search_within};
-ghost use Rattle.rb_fallback.specs.inner.LevelResult.{IsLevel, IsLevelResult, IsSomeResult};
-ghost use Rattle.rb_fallback.specs.declared.fault.LookError.{LookError};
+ghost use Rattle.rb_fallback.specs.Answers.{answer_of, bounded_answer_of};
+ghost use Rattle.rb_fallback.specs.FoundNode.{IsNodeOf};
+ghost use Rattle.rb_fallback.specs.Search.{first_stop, look_up, setting};
+ghost use Rattle.rb_fallback.specs.Steps.{look_up_limited, look_up_within};
+ghost use Rattle.rb_fallback.specs.Stops.{AreStopsOf, CountsTrail};
+ghost use Rattle.rb_fallback.specs.inner.Budget.{search_within};
+ghost use Rattle.rb_fallback.specs.inner.Reached.{answer_at, stop_name};
+ghost use Rattle.rb_fallback.specs.declared.fault.BoundedError.TheVariants as Bounded;
 ghost use Rattle.rb_fallback.specs.declared.fault.LookError.TheVariants as Faults;
 
-use crate::fault::LookError;
+use crate::fault::{BoundedError, LookError};
 use crate::found::Found;
-use crate::level::LevelResult;
-use crate::limits::LEVEL_LIMIT;
-use crate::path_buffer::PathBuffer;
-use crate::search::{Outcome, SearchState, end_level, level_at, next_fault};
-use crate::stops::{Stops, level_from};
-use rb_locales::Name;
+use crate::limits::PATH_LIMIT;
+use crate::path::is_path;
+use crate::search::search_after;
+use crate::steps::{TrailNames, left_after};
+use crate::stops::{FoundAt, Stops, first_ending, stop_name};
 use rb_parents::{Parents, Shelf};
 use rb_tree::Ending;
 
-/// Searches the level of a state. The trail of the valid name is the end of the trail whose stops
-/// are given, so its stops are these.
-fn level_given<'a, T: Stops<'a>, S: Shelf<'a, N = T::N>, I: Shelf<'a, N = T::N>>(
-    given: T,
-    own: S,
-    icu: I,
-    parents: &Parents,
-    valid: &Name,
-    state: &SearchState,
-) -> Result<LevelResult<T::N>, LookError>
-    requires { IsPath state.now.path }
-    ensures level { AreStopsOf (T.stop given) (S.bundles own) (parent_of parents.now) valid.now
-        → IsLevel T.N.tree result state.now.path
-        (level (bundles_of (S.bundles own) (I.bundles icu) state.now.icudata)
-        (parent_of parents.now) state.now.name (segments state.now.path))
-        (first_stop (bundles_of (S.bundles own) (I.bundles icu) state.now.icudata)
-        (parent_of parents.now) state.now.name) }
-    ensures walk { IfOk result (λ d. IsSomeResult T.N.tree d state.now.path) }
-    ensures never { result ≢ Err Faults.BadPath }
-    ensures short { length state.now.path ≤ path_limit }
-{
-    let path = state.path.as_slice();
-    if !state.icudata && state.name == *valid {
-        return level_from(given, path);
-    }
-    level_at(own, icu, parents, state, &mut 0, &mut ())
-}
+/// Numbers of names for a lookup without a limit.
+const UNCOUNTED: TrailNames = TrailNames {
+    all: 0,
+    from_valid: 0,
+};
 
-/// Continues a search from where its first alias led.
-fn search_given<'a, T: Stops<'a>, S: Shelf<'a, N = T::N>, I: Shelf<'a, N = T::N>>(
-    given: T,
+/// Looks a path up from the name whose stops are given and whose trail has these numbers of names,
+/// in at most `left` steps. `None` is no limit; then the numbers may be any. A lookup that follows
+/// no alias reads no name.
+#[inline(always)]
+fn search_from<'a, T: Stops<'a>, S: Shelf<'a, N = T::N>, I: Shelf<'a, N = T::N>>(
+    stops: T,
+    names: TrailNames,
     own: S,
     icu: I,
     parents: &Parents,
-    valid: &Name,
-    state: &mut SearchState,
-) -> Result<Found<T::N>, LookError>
-    requires { IsPath state.old.path }
-    ensures answer { AreStopsOf (T.stop given) (S.bundles own) (parent_of parents.now) valid.now
-        → searched (answer_of T.N.tree result) ≡ search_within None 255
-        (setting_of (S.bundles own) (I.bundles icu)
-        (parent_of parents.now) valid.now) state.old.icudata state.old.name
-        (segments state.old.path) }
-    ensures valid { IfOk result (λ f. f.valid ≡ valid.now) }
-    ensures never { result ≢ Err Faults.BadPath }
-{
-    for level in 1..LEVEL_LIMIT {
-        let decided = level_given(given, own, icu, parents, valid, state)?;
-        let outcome = end_level(decided, valid, state, &mut ())?;
-        match outcome {
-            Outcome::Found(found) => return Ok(found),
-            Outcome::Next => {}
-            Outcome::TooLong => return Err(next_fault(level)),
-        }
-    }
-    Err(LookError::TooManyAliases)
-}
-
-/// Ends the first level of a search, and continues where an alias leads.
-pub(crate) fn search_after_given<'a, T: Stops<'a>, S: Shelf<'a, N = T::N>, I: Shelf<'a, N = T::N>>(
-    given: T,
-    own: S,
-    icu: I,
-    parents: &Parents,
-    decided: LevelResult<T::N>,
     path: &[u8],
-) -> Result<Found<T::N>, LookError>
-    requires path { IsPath path.now }
-    requires short { length path.now ≤ path_limit }
-    requires walk { IsSomeResult T.N.tree decided path.now }
-    ensures answer { (r : Result Decided LookError) → (head : Option (List ℕ))
-        → IsLevelResult T.N.tree decided path.now r head
-        → AreStopsOf (T.stop given) (S.bundles own) (parent_of parents.now) decided.first
-        → searched (answer_of T.N.tree result) ≡ after_step None
-        (setting_of (S.bundles own) (I.bundles icu) (parent_of parents.now) decided.first)
-        (step false decided.first r) }
-    ensures valid { IfOk result (λ f. f.valid ≡ decided.first) }
-    ensures never { result ≢ Err Faults.BadPath }
+    left: Option<u64>,
+) -> Result<FoundAt<T::N>, BoundedError>
+    ensures bad_path { (result ≡ Err (Bounded.Search Faults.BadPath)) ↔ (IsPath path.now → ⊥) }
+    ensures answer { (name : List ℕ)
+        → AreStopsOf (T.stop stops) (S.bundles own) (parent_of parents.now) name
+        → IfSome left (λ _. CountsTrail names (S.bundles own) (parent_of parents.now) name)
+        → IsPath path.now → answer_at T.N.tree (T.stop stops) result ≡ search_within left 256
+        (setting (S.bundles own) (I.bundles icu) (parent_of parents.now) name) false name
+        (segments path.now) }
+    ensures valid { (name : List ℕ)
+        → AreStopsOf (T.stop stops) (S.bundles own) (parent_of parents.now) name
+        → IfOk result (λ _. first_stop (S.bundles own) (parent_of parents.now) name
+        ≡ Some (stop_name (T.stop stops) 0)) }
+    ensures few { left ≡ None → result ≢ Err Bounded.TooManySteps }
 {
-    let valid = decided.first;
-    // An item needs no copy of the path.
-    if let Ending::End(node) = decided.ending {
-        let actual = decided.actual;
-        return Ok(Found {
+    if !is_path(path) {
+        return Err(BoundedError::Search(LookError::BadPath));
+    }
+    if path.len() > PATH_LIMIT {
+        return Err(BoundedError::Search(LookError::PathTooLong));
+    }
+    let reached = first_ending(stops, path);
+    let left = left_after(left, names.all, path)?;
+    let reached = reached?;
+    if let Ending::End(node) = reached.ending {
+        return Ok(FoundAt {
             node,
-            actual,
-            valid,
+            at: reached.at,
         });
     }
-    let mut state = SearchState {
-        icudata: false,
-        name: decided.actual,
-        path: PathBuffer::of(path),
-    };
-    let outcome = end_level(decided, &valid, &mut state, &mut ())?;
-    match outcome {
-        Outcome::Found(found) => Ok(found),
-        Outcome::Next => search_given(given, own, icu, parents, &valid, &mut state),
-        Outcome::TooLong => Err(LookError::PathTooLong),
+    let valid = stop_name(stops, 0);
+    search_after(
+        Some(stops),
+        names.from_valid,
+        own,
+        icu,
+        parents,
+        &valid,
+        &reached,
+        path,
+        left,
+        &mut (),
+    )
+}
+
+/// Looks a path up as `look` does from the name whose stops are given. Only the stops up to the one
+/// that decides are read.
+///
+/// The errors are those of `look` from a name whose trail is valid. Allocates nothing.
+///
+/// ```rust
+/// let found = look_from(stops, shelf, shelf, &parents, b"menu/open")?;
+/// // What `look` finds from the name whose stops these are.
+/// ```
+pub fn look_from<'a, T: Stops<'a>, S: Shelf<'a, N = T::N>, I: Shelf<'a, N = T::N>>(
+    stops: T,
+    own: S,
+    icu: I,
+    parents: &Parents,
+    path: &[u8],
+) -> Result<Found<T::N>, LookError>
+    ensures bad_path { (result ≡ Err Faults.BadPath) ↔ (IsPath path.now → ⊥) }
+    ensures answer { (name : List ℕ)
+        → AreStopsOf (T.stop stops) (S.bundles own) (parent_of parents.now) name
+        → IsPath path.now → answer_of T.N.tree result
+        ≡ look_up (S.bundles own) (I.bundles icu) (parent_of parents.now) name
+        (segments path.now) }
+    ensures valid { (name : List ℕ)
+        → AreStopsOf (T.stop stops) (S.bundles own) (parent_of parents.now) name
+        → IfOk result (λ f. first_stop (S.bundles own) (parent_of parents.now) name
+        ≡ Some f.valid) }
+{
+    match search_from(stops, UNCOUNTED, own, icu, parents, path, None) {
+        Ok(found) => Ok(found.named(Some(stops), stop_name(stops, 0))),
+        Err(error) => Err(error.fault()),
     }
+}
+
+/// Looks a path up as `look_from` does, in at most this many steps, from the name whose stops are
+/// given and whose trail has these numbers of names.
+///
+/// The errors are those of `look_within` from a name whose trail is valid. Allocates nothing.
+///
+/// ```rust
+/// let found = look_from_within(stops, names, shelf, shelf, &parents, b"menu/open", 10_000)?;
+/// // What `look_within` finds from the name whose stops these are.
+/// ```
+pub fn look_from_within<'a, T: Stops<'a>, S: Shelf<'a, N = T::N>, I: Shelf<'a, N = T::N>>(
+    stops: T,
+    names: TrailNames,
+    own: S,
+    icu: I,
+    parents: &Parents,
+    path: &[u8],
+    steps: u64,
+) -> Result<Found<T::N>, BoundedError>
+    ensures bad_path { (IsPath path.now → ⊥) → result ≡ Err (Bounded.Search Faults.BadPath) }
+    ensures answer { (name : List ℕ)
+        → AreStopsOf (T.stop stops) (S.bundles own) (parent_of parents.now) name
+        → CountsTrail names (S.bundles own) (parent_of parents.now) name
+        → IsPath path.now → bounded_answer_of T.N.tree result
+        ≡ look_up_within steps (S.bundles own) (I.bundles icu) (parent_of parents.now) name
+        (segments path.now) }
+    ensures valid { (name : List ℕ)
+        → AreStopsOf (T.stop stops) (S.bundles own) (parent_of parents.now) name
+        → IfOk result (λ f. first_stop (S.bundles own) (parent_of parents.now) name
+        ≡ Some f.valid) }
+{
+    let found = search_from(stops, names, own, icu, parents, path, Some(steps))?;
+    Ok(found.named(Some(stops), stop_name(stops, 0)))
+}
+
+/// Looks a path up as `look_from_within` does, in at most `left` steps, and returns the node alone.
+/// `None` is no limit; then the numbers of names may be any. A lookup that follows no alias copies
+/// no name.
+///
+/// ```rust
+/// let node = find_from(stops, names, shelf, shelf, &parents, b"menu/open", Some(10_000))?;
+/// // The node that `look_from_within` finds.
+/// ```
+pub fn find_from<'a, T: Stops<'a>, S: Shelf<'a, N = T::N>, I: Shelf<'a, N = T::N>>(
+    stops: T,
+    names: TrailNames,
+    own: S,
+    icu: I,
+    parents: &Parents,
+    path: &[u8],
+    left: Option<u64>,
+) -> Result<T::N, BoundedError>
+    ensures few { left ≡ None → result ≢ Err Bounded.TooManySteps }
+    ensures found { IsNodeOf result (λ found.
+        ((found ≡ Err (Bounded.Search Faults.BadPath)) ↔ (IsPath path.now → ⊥))
+        × ((name : List ℕ)
+        → AreStopsOf (T.stop stops) (S.bundles own) (parent_of parents.now) name
+        → IfSome left (λ _. CountsTrail names (S.bundles own) (parent_of parents.now) name)
+        → IsPath path.now → bounded_answer_of T.N.tree found
+        ≡ look_up_limited left (S.bundles own) (I.bundles icu) (parent_of parents.now) name
+        (segments path.now))
+        × ((name : List ℕ)
+        → AreStopsOf (T.stop stops) (S.bundles own) (parent_of parents.now) name
+        → IfOk found (λ f. first_stop (S.bundles own) (parent_of parents.now) name
+        ≡ Some f.valid))) }
+{
+    let found = search_from(stops, names, own, icu, parents, path, left)?;
+    Ok(found.node)
 }

@@ -7,9 +7,11 @@ ghost use Rattle.rb_parents.specs.Family.{parent_of};
 ghost use Rattle.rb_fallback.specs.Search.{by_stops, first_of, first_stop, level};
 ghost use Rattle.rb_fallback.specs.Steps.{trail_length};
 ghost use Rattle.rb_fallback.specs.inner.LevelResult.{IsLevel, IsLevelState};
+ghost use Rattle.rb_fallback.specs.inner.Reached.{reached_of};
 ghost use Rattle.rb_fallback.specs.inner.Visits.{visited};
 
 use crate::fault::LookError;
+use crate::stops::{At, Reached};
 use crate::watch::{Visit, Watch};
 use rb_locales::Name;
 use rb_parents::{Next, Parents, Shelf, TRAIL_LIMIT, visit};
@@ -29,6 +31,18 @@ pub(crate) struct LevelResult<N> {
     pub(crate) first: Name,
     pub(crate) actual: Name,
     pub(crate) ending: Ending<N>,
+}
+
+impl<N: Node> LevelResult<N> {
+    /// Returns where the walk that decides ended, and how.
+    pub(crate) fn reached(&self) -> Reached<N>
+        ensures { result ≡ reached_of self.now }
+    {
+        Reached {
+            at: At::Bundle(self.actual),
+            ending: self.ending,
+        }
+    }
 }
 
 /// Adds a stop, whose bundle is walked only if no earlier stop decides.

@@ -3,7 +3,6 @@
 
 mod alias;
 mod fault;
-mod find;
 mod found;
 mod from_stops;
 pub mod laws;
@@ -19,10 +18,11 @@ mod words;
 
 pub use alias::{Target, read_alias};
 pub use fault::{AliasFault, BoundedError, LookError};
-pub use find::find_from;
 pub use found::Found;
+pub use from_stops::{find_from, look_from, look_from_within};
 pub use limits::{LEVEL_LIMIT, PATH_LIMIT};
 pub use path::rest_behind;
-pub use search::{look, look_from, look_from_within, look_watched, look_within};
+pub use search::{look, look_watched, look_within};
+pub use steps::TrailNames;
 pub use stops::Stops;
 pub use watch::{Visit, Watch};

@@ -1,5 +1,7 @@
-ghost use Rattle.std.specs.Prelude.{◌≡◌, ◌≤◌, ◌↔◌, ◌==◌, ◌+◌, ◌++◌, ℕ, List, Option, Result};
-ghost use Rattle.std.specs.Prelude.{Err, IfOk, Some, drop, false, length, if◌then◌else◌};
+ghost use Rattle.std.specs.Prelude.{◌≡◌, ◌≢◌, ◌≤◌, ◌↔◌, ◌==◌, ◌+◌, ◌++◌, ℕ, List, Option, Result};
+ghost use Rattle.std.specs.Prelude.{Err, IfOk, IfSome, None, Some, drop, false, length};
+ghost use Rattle.std.specs.Prelude.{if◌then◌else◌};
+ghost use Rattle.rb_tree.specs.Resource.{Resource};
 ghost use Rattle.rb_tree.specs.Parts.{kind_of, units_of};
 ghost use Rattle.rb_tree.specs.declared.kind.Kind.TheVariants as Kinds;
 ghost use Rattle.rb_tree.specs.Path.{IsPath, segments};
@@ -13,25 +15,25 @@ ghost use Rattle.rb_fallback.specs.Search.{Decided, bundles_of, first_stop, foll
 ghost use Rattle.rb_fallback.specs.Search.{setting, setting_of, step};
 ghost use Rattle.rb_fallback.specs.Steps.{look_up_within, trail_length};
 ghost use Rattle.rb_fallback.specs.Stops.{AreStopsOf};
-ghost use Rattle.rb_fallback.specs.inner.Budget.{after_step, search_within};
-ghost use Rattle.rb_fallback.specs.inner.LevelResult.{IsAliasAt, IsLevel, IsLevelResult};
-ghost use Rattle.rb_fallback.specs.inner.LevelResult.{IsSomeResult};
-ghost use Rattle.rb_fallback.specs.inner.Steps.{IsFollowed, IsFor, IsOutcome};
+ghost use Rattle.rb_fallback.specs.inner.Budget.{AreGiven, after_step, search_within};
+ghost use Rattle.rb_fallback.specs.inner.LevelResult.{IsAliasAt, IsLevel};
+ghost use Rattle.rb_fallback.specs.inner.Reached.{IsReached, IsReachedLevel, IsSomeReached};
+ghost use Rattle.rb_fallback.specs.inner.Reached.{answer_at};
+ghost use Rattle.rb_fallback.specs.inner.Reached.{given_stop};
+ghost use Rattle.rb_fallback.specs.inner.Steps.{IsFollowed, IsOutcome};
 ghost use Rattle.rb_fallback.specs.declared.fault.BoundedError.TheVariants as Bounded;
 ghost use Rattle.rb_fallback.specs.declared.fault.LookError.{LookError};
 ghost use Rattle.rb_fallback.specs.declared.fault.LookError.TheVariants as Faults;
 
 use crate::alias::read_alias;
 use crate::fault::{AliasFault, BoundedError, LookError};
-use crate::find::found_by_paths;
 use crate::found::Found;
-use crate::from_stops::search_after_given;
 use crate::level::{LevelResult, level};
 use crate::limits::{LEVEL_LIMIT, PATH_LIMIT};
 use crate::path::is_path;
 use crate::path_buffer::PathBuffer;
 use crate::steps::left_after;
-use crate::stops::{Stops, first_ending, level_from, with_names};
+use crate::stops::{At, FoundAt, NoStops, Reached, Stops, first_ending};
 use crate::watch::Watch;
 use rb_locales::Name;
 use rb_parents::{Parents, Shelf};
@@ -47,6 +49,7 @@ pub(crate) struct SearchState {
 
 /// Moves a state to where an alias leads that was met after the first `cut` bytes of its path.
 /// Returns false if the path there is too long. The errors are those of `read_alias`.
+#[inline(always)]
 fn follow_alias<N: Node, W: Watch>(
     node: N,
     cut: usize,
@@ -83,33 +86,41 @@ fn follow_alias<N: Node, W: Watch>(
 /// The end of a level: an item, an alias that leads on, or one whose path is too long.
 #[derive(Drop)]
 pub(crate) enum Outcome<N> {
-    Found(Found<N>),
+    Found(FoundAt<N>),
     Next,
     TooLong,
 }
 
+/// Reports an alias to the observer, unless it is in a stop that was given, whose name isn't read.
+fn tell_alias<N: Node, W: Watch>(node: N, at: &At, watch: &mut W)
+    requires { kind_of (N.tree node) ≡ Kinds.Alias }
+{
+    if let At::Bundle(actual) = at {
+        watch.alias(node, actual);
+    }
+}
+
 /// Ends a level with what its stops give, and moves the state to where an alias leads.
-pub(crate) fn end_level<N: Node, W: Watch>(
-    decided: LevelResult<N>,
+#[inline(always)]
+fn end_level<N: Node, W: Watch>(
+    reached: &Reached<N>,
     valid: &Name,
     state: &mut SearchState,
     watch: &mut W,
 ) -> Result<Outcome<N>, LookError>
     requires path { IsPath state.old.path }
-    requires alias { IsAliasAt N.tree decided.ending }
-    ensures outcome { (r : Result Decided LookError) → (head : Option (List ℕ))
-        → IsLevelResult N.tree decided state.old.path r head
-        → IsOutcome N.tree result state.new (step state.old.icudata valid.now r) }
-    ensures valid { IfOk result (IsFor valid.now) }
+    requires alias { IsAliasAt N.tree reached.now.ending }
+    ensures { (stop : ℕ → Option (List ℕ × Resource)) → (r : Result Decided LookError)
+        → IsReached N.tree stop reached.now state.old.path r
+        → IsOutcome N.tree stop result state.new (step state.old.icudata valid.now r) }
 {
-    match decided.ending {
-        Ending::End(node) => Ok(Outcome::Found(Found {
+    match reached.ending {
+        Ending::End(node) => Ok(Outcome::Found(FoundAt {
             node,
-            actual: decided.actual,
-            valid: *valid,
+            at: reached.at,
         })),
         Ending::Link(node, cut) => {
-            watch.alias(node, &decided.actual);
+            tell_alias(node, &reached.at, watch);
             if follow_alias(node, cut, valid, state, watch)? {
                 Ok(Outcome::Next)
             } else {
@@ -121,7 +132,7 @@ pub(crate) fn end_level<N: Node, W: Watch>(
 }
 
 /// Searches the trail of a state, in the bundles of its package.
-pub(crate) fn level_at<'a, S: Shelf<'a>, I: Shelf<'a, N = S::N>, W: Watch>(
+fn level_at<'a, S: Shelf<'a>, I: Shelf<'a, N = S::N>, W: Watch>(
     own: S,
     icu: I,
     parents: &Parents,
@@ -148,7 +159,7 @@ pub(crate) fn level_at<'a, S: Shelf<'a>, I: Shelf<'a, N = S::N>, W: Watch>(
 }
 
 /// Returns the error of a search whose next path is too long.
-pub(crate) fn next_fault(level: u16) -> LookError
+fn next_fault(level: u16) -> LookError
     ensures { result ≡ (if level + 1 == 256 then Faults.TooManyAliases else Faults.PathTooLong) }
 {
     if level as u32 + 1 == LEVEL_LIMIT as u32 {
@@ -158,8 +169,49 @@ pub(crate) fn next_fault(level: u16) -> LookError
     }
 }
 
+/// Searches the level of a state. The trail of the valid name is the end of the trail whose stops
+/// are given, so its stops are these, and it has `from_valid` names.
+#[inline(always)]
+fn level_given<'a, T: Stops<'a>, S: Shelf<'a, N = T::N>, I: Shelf<'a, N = T::N>, W: Watch>(
+    given: Option<T>,
+    from_valid: u8,
+    own: S,
+    icu: I,
+    parents: &Parents,
+    valid: &Name,
+    state: &SearchState,
+    names: &mut u8,
+    watch: &mut W,
+) -> Result<Reached<T::N>, LookError>
+    requires { IsPath state.now.path }
+    ensures level { IfSome given (λ t.
+        AreStopsOf (T.stop t) (S.bundles own) (parent_of parents.now) valid.now)
+        → IsReachedLevel T.N.tree (given_stop T.stop given) result state.now.path
+        (level (bundles_of (S.bundles own) (I.bundles icu) state.now.icudata)
+        (parent_of parents.now) state.now.name (segments state.now.path)) }
+    ensures walk { IfOk result
+        (λ d. IsSomeReached T.N.tree (given_stop T.stop given) d state.now.path) }
+    ensures never { result ≢ Err Faults.BadPath }
+    ensures names { IfSome given (λ _. from_valid
+        ≡ trail_length (trail (S.bundles own) (parent_of parents.now) valid.now)) → names.new
+        ≡ trail_length (trail (bundles_of (S.bundles own) (I.bundles icu) state.now.icudata)
+        (parent_of parents.now) state.now.name) }
+{
+    let path = state.path.as_slice();
+    if !state.icudata && state.name == *valid {
+        if let Some(stops) = given {
+            *names = from_valid;
+            return first_ending(stops, path);
+        }
+    }
+    let decided = level_at(own, icu, parents, state, names, watch)?;
+    Ok(decided.reached())
+}
+
 /// Continues a search from where its first alias led, in at most `left` steps; `None` is no limit.
-fn search_on<'a, S: Shelf<'a>, I: Shelf<'a, N = S::N>, W: Watch>(
+fn search_on<'a, T: Stops<'a>, S: Shelf<'a, N = T::N>, I: Shelf<'a, N = T::N>, W: Watch>(
+    given: Option<T>,
+    from_valid: u8,
     own: S,
     icu: I,
     parents: &Parents,
@@ -167,22 +219,26 @@ fn search_on<'a, S: Shelf<'a>, I: Shelf<'a, N = S::N>, W: Watch>(
     state: &mut SearchState,
     mut left: Option<u64>,
     watch: &mut W,
-) -> Result<Found<S::N>, BoundedError>
+) -> Result<FoundAt<T::N>, BoundedError>
     requires { IsPath state.old.path }
-    ensures answer { bounded_answer_of S.N.tree result ≡ search_within left 255
+    ensures answer { AreGiven T.stop given left from_valid (S.bundles own) (parent_of parents.now)
+        valid.now → answer_at T.N.tree (given_stop T.stop given) result ≡ search_within left 255
         (setting_of (S.bundles own) (I.bundles icu)
         (parent_of parents.now) valid.now) state.old.icudata state.old.name
         (segments state.old.path) }
-    ensures valid { IfOk result (λ f. f.valid ≡ valid.now) }
+    ensures never { result ≢ Err (Bounded.Search Faults.BadPath) }
+    ensures few { left ≡ None → result ≢ Err Bounded.TooManySteps }
 {
     for level in 1..LEVEL_LIMIT {
         watch.level(level + 1, state.icudata, &state.name, state.path.as_slice());
         let mut names = 0;
-        let reached = level_at(own, icu, parents, state, &mut names, watch);
+        let reached = level_given(
+            given, from_valid, own, icu, parents, valid, state, &mut names, watch,
+        );
         let path = state.path.as_slice();
         left = left_after(left, names, path)?;
         let decided = reached?;
-        let outcome = end_level(decided, valid, state, watch)?;
+        let outcome = end_level(&decided, valid, state, watch)?;
         match outcome {
             Outcome::Found(found) => return Ok(found),
             Outcome::Next => {}
@@ -193,45 +249,50 @@ fn search_on<'a, S: Shelf<'a>, I: Shelf<'a, N = S::N>, W: Watch>(
 }
 
 /// Ends the first level of a search, and continues where an alias leads, in at most `left` steps;
-/// `None` is no limit.
-fn search_after<'a, S: Shelf<'a>, I: Shelf<'a, N = S::N>, W: Watch>(
+/// `None` is no limit. Not inlined, so that a search without an alias has no room for a path on its
+/// stack.
+#[inline(never)]
+pub(crate) fn search_after<
+    'a,
+    T: Stops<'a>,
+    S: Shelf<'a, N = T::N>,
+    I: Shelf<'a, N = T::N>,
+    W: Watch,
+>(
+    given: Option<T>,
+    from_valid: u8,
     own: S,
     icu: I,
     parents: &Parents,
-    decided: LevelResult<S::N>,
+    valid: &Name,
+    reached: &Reached<T::N>,
     path: &[u8],
     left: Option<u64>,
     watch: &mut W,
-) -> Result<Found<S::N>, BoundedError>
+) -> Result<FoundAt<T::N>, BoundedError>
     requires path { IsPath path.now }
     requires short { length path.now ≤ path_limit }
-    requires walk { IsSomeResult S.N.tree decided path.now }
-    ensures answer { (r : Result Decided LookError) → (head : Option (List ℕ))
-        → IsLevelResult S.N.tree decided path.now r head
-        → bounded_answer_of S.N.tree result ≡ after_step left
-        (setting_of (S.bundles own) (I.bundles icu) (parent_of parents.now) decided.first)
-        (step false decided.first r) }
-    ensures valid { IfOk result (λ f. f.valid ≡ decided.first) }
+    requires walk { IsSomeReached T.N.tree (given_stop T.stop given) reached.now path.now }
+    ensures answer { (r : Result Decided LookError)
+        → IsReached T.N.tree (given_stop T.stop given) reached.now path.now r
+        → AreGiven T.stop given left from_valid (S.bundles own) (parent_of parents.now) valid.now
+        → answer_at T.N.tree (given_stop T.stop given) result ≡ after_step left
+        (setting_of (S.bundles own) (I.bundles icu) (parent_of parents.now) valid.now)
+        (step false valid.now r) }
+    ensures never { result ≢ Err (Bounded.Search Faults.BadPath) }
+    ensures few { left ≡ None → result ≢ Err Bounded.TooManySteps }
 {
-    let valid = decided.first;
-    // An item needs no copy of the path.
-    if let Ending::End(node) = decided.ending {
-        let actual = decided.actual;
-        return Ok(Found {
-            node,
-            actual,
-            valid,
-        });
-    }
     let mut state = SearchState {
         icudata: false,
-        name: decided.actual,
+        name: *valid,
         path: PathBuffer::of(path),
     };
-    let outcome = end_level(decided, &valid, &mut state, watch)?;
+    let outcome = end_level(reached, valid, &mut state, watch)?;
     match outcome {
         Outcome::Found(found) => Ok(found),
-        Outcome::Next => search_on(own, icu, parents, &valid, &mut state, left, watch),
+        Outcome::Next => search_on(
+            given, from_valid, own, icu, parents, valid, &mut state, left, watch,
+        ),
         Outcome::TooLong => Err(BoundedError::Search(LookError::PathTooLong)),
     }
 }
@@ -265,7 +326,22 @@ fn search_from<'a, S: Shelf<'a>, I: Shelf<'a, N = S::N>, W: Watch>(
     let reached = level(own, parents, name, path, &mut names, watch);
     let left = left_after(left, names, path)?;
     let decided = reached?;
-    search_after(own, icu, parents, decided, path, left, watch)
+    let valid = decided.first;
+    // An item needs no copy of the path.
+    if let Ending::End(node) = decided.ending {
+        let actual = decided.actual;
+        return Ok(Found {
+            node,
+            actual,
+            valid,
+        });
+    }
+    let none: Option<NoStops<S>> = None;
+    let reached = decided.reached();
+    let found = search_after(
+        none, 0, own, icu, parents, &valid, &reached, path, left, watch,
+    )?;
+    Ok(found.named(none, valid))
 }
 
 /// Looks a path up from a name, in the bundles `own` and, where an alias leads there, in `icu`.
@@ -358,89 +434,4 @@ pub fn look_within<'a, S: Shelf<'a>, I: Shelf<'a, N = S::N>>(
         (λ f. first_stop (S.bundles own) (parent_of parents.now) name.now ≡ Some f.valid) }
 {
     search_from(own, icu, parents, name, path, Some(steps), &mut ())
-}
-
-/// Looks a path up as `look` does from the name whose stops are given. Only the stops up to the one
-/// that decides are read.
-///
-/// The errors are those of `look` from a name whose trail is valid. Allocates nothing.
-///
-/// ```rust
-/// let found = look_from(stops, shelf, shelf, &parents, b"menu/open")?;
-/// // What `look` finds from the name whose stops these are.
-/// ```
-pub fn look_from<'a, T: Stops<'a>, S: Shelf<'a, N = T::N>, I: Shelf<'a, N = T::N>>(
-    stops: T,
-    own: S,
-    icu: I,
-    parents: &Parents,
-    path: &[u8],
-) -> Result<Found<T::N>, LookError>
-    ensures bad_path { (result ≡ Err Faults.BadPath) ↔ (IsPath path.now → ⊥) }
-    ensures answer { (name : List ℕ)
-        → AreStopsOf (T.stop stops) (S.bundles own) (parent_of parents.now) name
-        → IsPath path.now → answer_of T.N.tree result
-        ≡ look_up (S.bundles own) (I.bundles icu) (parent_of parents.now) name
-        (segments path.now) }
-    ensures valid { (name : List ℕ)
-        → AreStopsOf (T.stop stops) (S.bundles own) (parent_of parents.now) name
-        → IfOk result (λ f. first_stop (S.bundles own) (parent_of parents.now) name
-        ≡ Some f.valid) }
-{
-    if !is_path(path) {
-        return Err(LookError::BadPath);
-    }
-    if path.len() > PATH_LIMIT {
-        return Err(LookError::PathTooLong);
-    }
-    let reached = first_ending(stops, path)?;
-    if let Ending::Link(_, _) = reached.ending {
-        if let Some(found) = found_by_paths(stops, &reached, path) {
-            return found;
-        }
-    }
-    let decided = with_names(stops, &reached);
-    search_after_given(stops, own, icu, parents, decided, path)
-}
-
-/// Looks a path up as `look_from` does, in at most this many steps, from the name whose stops are
-/// given and whose trail has this many names.
-///
-/// The errors are those of `look_within` from a name whose trail is valid. Allocates nothing.
-///
-/// ```rust
-/// let found = look_from_within(stops, names, shelf, shelf, &parents, b"menu/open", 10_000)?;
-/// // What `look_within` finds from the name whose stops these are.
-/// ```
-pub fn look_from_within<'a, T: Stops<'a>, S: Shelf<'a, N = T::N>, I: Shelf<'a, N = T::N>>(
-    stops: T,
-    names: u8,
-    own: S,
-    icu: I,
-    parents: &Parents,
-    path: &[u8],
-    steps: u64,
-) -> Result<Found<T::N>, BoundedError>
-    ensures bad_path { (IsPath path.now → ⊥) → result ≡ Err (Bounded.Search Faults.BadPath) }
-    ensures answer { (name : List ℕ)
-        → AreStopsOf (T.stop stops) (S.bundles own) (parent_of parents.now) name
-        → names ≡ trail_length (trail (S.bundles own) (parent_of parents.now) name)
-        → IsPath path.now → bounded_answer_of T.N.tree result
-        ≡ look_up_within steps (S.bundles own) (I.bundles icu) (parent_of parents.now) name
-        (segments path.now) }
-    ensures valid { (name : List ℕ)
-        → AreStopsOf (T.stop stops) (S.bundles own) (parent_of parents.now) name
-        → IfOk result (λ f. first_stop (S.bundles own) (parent_of parents.now) name
-        ≡ Some f.valid) }
-{
-    if !is_path(path) {
-        return Err(BoundedError::Search(LookError::BadPath));
-    }
-    if path.len() > PATH_LIMIT {
-        return Err(BoundedError::Search(LookError::PathTooLong));
-    }
-    let reached = level_from(stops, path);
-    let left = left_after(Some(steps), names, path)?;
-    let decided = reached?;
-    search_after(own, icu, parents, decided, path, left, &mut ())
 }

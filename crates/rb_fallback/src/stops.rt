@@ -1,19 +1,13 @@
 //! The stops of a trail that was read before a lookup.
-ghost use Rattle.std.specs.Prelude.{◌≡◌, ◌≢◌, ◌≤◌, ℕ, List, Option, Err, IfOk, length, option_map};
+ghost use Rattle.std.specs.Prelude.{◌≡◌, ℕ, List, None, Option, option_map};
 ghost use Rattle.rb_tree.specs.Resource.{Resource};
-ghost use Rattle.rb_tree.specs.Path.{IsPath, segments};
-ghost use Rattle.rb_parents.specs.Trail.{Bundles, stops};
-ghost use Rattle.rb_fallback.specs.Search.{by_stops, first_of};
-ghost use Rattle.rb_fallback.specs.Stops.{stop_among};
-ghost use Rattle.rb_fallback.specs.inner.LevelResult.{IsLevel, IsSomeResult};
-ghost use Rattle.rb_fallback.specs.inner.StopEnding.{Decides, IsDeciding, IsNamedLevel};
-ghost use Rattle.rb_fallback.specs.inner.StopEnding.{IsSomeDeciding};
-ghost use Rattle.rb_fallback.specs.declared.fault.LookError.TheVariants as Faults;
+ghost use Rattle.rb_tree.specs.Path.{IsPath};
+ghost use Rattle.rb_fallback.specs.inner.Reached.{Decides, found_at, given_stop, name_at, stop_name};
 
 use crate::fault::LookError;
-use crate::level::LevelResult;
+use crate::found::Found;
 use rb_locales::Name;
-use rb_parents::TRAIL_LIMIT;
+use rb_parents::{Shelf, TRAIL_LIMIT};
 use rb_tree::{Ending, Node, walk};
 
 /// The stops of a trail that was read before, in their order.
@@ -32,11 +26,56 @@ pub trait Stops<'a>: Copy {
         ensures { result ≡ option_map (λ s. s.0) (stop self i) };
 }
 
-/// Stores the index of the stop that decides at a level, and how the walk ends there.
+/// Says where a walk ended: at the stop with this index, or in the bundle with this name.
 #[derive(Clone, Copy)]
-pub(crate) struct StopEnding<N> {
-    pub(crate) index: usize,
+pub(crate) enum At {
+    Stop(usize),
+    Bundle(Name),
+}
+
+/// Stores how the walk that decides at a level ends, and where.
+#[derive(Clone, Copy)]
+pub(crate) struct Reached<N> {
+    pub(crate) at: At,
     pub(crate) ending: Ending<N>,
+}
+
+/// Stores an item that was found, and where. Who wants the name of its bundle reads it there.
+#[derive(Clone, Copy)]
+pub(crate) struct FoundAt<N> {
+    pub(crate) node: N,
+    pub(crate) at: At,
+}
+
+impl<N: Node> FoundAt<N> {
+    /// Adds the names of its bundle and of the first stop.
+    pub(crate) fn named<'a, T: Stops<'a>>(self, given: Option<T>, valid: Name) -> Found<N>
+        ensures { result ≡ found_at (given_stop T.stop given) self valid }
+    {
+        Found {
+            node: self.node,
+            actual: name_at(given, self.at),
+            valid,
+        }
+    }
+}
+
+/// The stops of a search from a name, which are not read before: none.
+#[derive(Clone, Copy)]
+pub(crate) struct NoStops<S>(S);
+
+impl<'a, S: Shelf<'a>> Stops<'a> for NoStops<S> {
+    type N = S::N;
+
+    ghost stop = { λ s i. None };
+
+    fn root(self, _i: usize) -> Option<S::N> {
+        None
+    }
+
+    fn name(self, _i: usize) -> Option<Name> {
+        None
+    }
 }
 
 /// Finds the first stop in which the path leads somewhere, or returns `NoBundle` or `Missing`.
@@ -45,7 +84,7 @@ pub(crate) struct StopEnding<N> {
 pub(crate) fn first_ending<'a, T: Stops<'a>>(
     given: T,
     path: &[u8],
-) -> Result<StopEnding<T::N>, LookError>
+) -> Result<Reached<T::N>, LookError>
     requires { IsPath path.now }
     ensures { Decides T.N.tree (T.stop given) path.now result }
 {
@@ -60,48 +99,32 @@ pub(crate) fn first_ending<'a, T: Stops<'a>>(
         if let Ending::Gone = ending {
             continue;
         }
-        return Ok(StopEnding { index: i, ending });
+        let at = At::Stop(i);
+        return Ok(Reached { at, ending });
     }
     Err(LookError::Missing)
 }
 
-/// Adds the names of the first stop and of the one that decides.
-pub(crate) fn with_names<'a, T: Stops<'a>>(
-    given: T,
-    reached: &StopEnding<T::N>,
-) -> LevelResult<T::N>
-    requires { IsSomeDeciding T.N.tree (T.stop given) reached.now }
-    ensures { (path : List ℕ) → IsDeciding T.N.tree (T.stop given) path reached.now
-        → IsNamedLevel T.N.tree (T.stop given) path result }
+/// Returns the name of a stop; of one that isn't there, the root's.
+pub(crate) fn stop_name<'a, T: Stops<'a>>(given: T, i: usize) -> Name
+    ensures { result ≡ stop_name (T.stop given) i }
 {
-    let Some(first) = given.name(0) else {
-        unreachable!();
-    };
-    let Some(actual) = given.name(reached.index) else {
-        unreachable!();
-    };
-    LevelResult {
-        first,
-        actual,
-        ending: reached.ending,
+    match given.name(i) {
+        Some(name) => name,
+        None => Name::root(),
     }
 }
 
-/// Returns what the first stop gives in which the path leads somewhere, or `NoBundle` or `Missing`.
-pub(crate) fn level_from<'a, T: Stops<'a>>(
-    given: T,
-    path: &[u8],
-) -> Result<LevelResult<T::N>, LookError>
-    requires { IsPath path.now }
-    ensures level { (b : Bundles) → (ns : List (List ℕ)) → length ns ≤ 32
-        → ((i : ℕ) → T.stop given i ≡ stop_among b ns i)
-        → IsLevel T.N.tree result path.now (by_stops b (stops b ns) (segments path.now))
-        (first_of (stops b ns)) }
-    ensures walk { IfOk result (λ d. IsSomeResult T.N.tree d path.now) }
-    ensures never { result ≢ Err Faults.BadPath }
+/// Returns the name of the bundle where a walk ended.
+fn name_at<'a, T: Stops<'a>>(given: Option<T>, at: At) -> Name
+    ensures { result ≡ name_at (given_stop T.stop given) at }
 {
-    match first_ending(given, path) {
-        Ok(reached) => Ok(with_names(given, &reached)),
-        Err(error) => Err(error),
+    let i = match at {
+        At::Bundle(name) => return name,
+        At::Stop(i) => i,
+    };
+    match given {
+        Some(stops) => stop_name(stops, i),
+        None => Name::root(),
     }
 }

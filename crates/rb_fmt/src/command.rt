@@ -2,12 +2,12 @@
 use crate::difference::difference;
 use rb_asked::AskedFormat;
 use rb_console::{
-    CommandError, Console, ShownName, StartError, each, failed, not_started_on, print_bytes,
-    printed, read_text, replace_text,
+    CommandError, Console, ShownName, allocated, each, failed, print_bytes, printed, read_text,
+    replace_text,
 };
 use rb_layout::{FormatFault, Style, format_in};
 use rb_lexer::{SourceFault, SourceKind};
-use rb_project::{Modules, Project, Section, Text, names_of, open_project, texts_of};
+use rb_project::{Modules, Section, names_of, open_project, texts_of};
 use std::alloc::{AllocError, Global};
 use std::io;
 use std::process::ExitCode;
@@ -164,17 +164,24 @@ fn style_of(section: Section<'_>) -> Style {
     }
 }
 
-/// Finds the texts of a command. Returns its status if a folder has none, once that is reported.
-fn project_texts<R: Files + AllocGlobal + Eprint>(
+/// Formats the texts of a command in its project. Returns the status of the command also if the
+/// settings are refused, or a folder has no texts, once that is reported.
+fn format_project<R: Files + RandomSource + Clock + Input + AllocGlobal + Print + Eprint>(
     rt: &R,
     console: Console,
-    project: &Project,
-    names: &[&str],
-) -> Result<Vec<Text>, ExitCode> {
-    match Modules::of(rt.alloc(), project) {
-        Ok(modules) => texts_of(rt, console, &modules, names),
-        Err(_) => Err(not_started_on(rt, console, StartError::Memory)),
-    }
+    asked: &AskedFormat<'_>,
+) -> Result<ExitCode, ExitCode> {
+    let project = open_project(rt, console, asked.config, &[])?;
+    let modules = allocated(rt, console, Modules::of(rt.alloc(), &project))?;
+    let texts = texts_of(rt, console, &modules, &asked.texts)?;
+    let names = allocated(rt, console, names_of(rt.alloc(), &texts))?;
+    let (mode, style) = (mode_of(asked), style_of(project.settings.section("fmt")));
+    Ok(each(
+        rt,
+        console,
+        &names,
+        |name| format_one(rt, console, (mode, style), name),
+    ))
 }
 
 /// Formats each bundle text in place, or does with those that formatting changes what the mode
@@ -193,23 +200,7 @@ pub fn format_all<R: Files + RandomSource + Clock + Input + AllocGlobal + Print 
     console: Console,
     asked: &AskedFormat<'_>,
 ) -> ExitCode {
-    let console = console.quieted(asked.is_quiet);
-    let project = match open_project(rt, console, asked.config, &[]) {
-        Ok(project) => project,
-        Err(status) => return status,
-    };
-    let texts = match project_texts(rt, console, &project, &asked.texts) {
-        Ok(texts) => texts,
-        Err(status) => return status,
-    };
-    let Ok(names) = names_of(rt.alloc(), &texts) else {
-        return not_started_on(rt, console, StartError::Memory);
-    };
-    let (mode, style) = (mode_of(asked), style_of(project.settings.section("fmt")));
-    each(
-        rt,
-        console,
-        &names,
-        |name| format_one(rt, console, (mode, style), name),
-    )
+    match format_project(rt, console.quieted(asked.is_quiet), asked) {
+        Ok(status) | Err(status) => status,
+    }
 }

@@ -57,19 +57,20 @@ fn install<'a>(
     }
 }
 
-/// Installs the files. Returns the error of the first that is refused: `Twice` if its locale was
-/// given before.
-fn install_all<'a>(
+/// Installs the files as bundles of an application. Returns the error of the first that is refused:
+/// `Twice` if its locale was given before.
+pub(crate) fn packages_of<'a>(
     alloc: Global,
-    packages: &mut Packages,
+    state: RandomState,
     app: &App,
     bundles: &[Given<'a>],
     files: &[Vec<u8>],
-) -> Result<(), CommandError<'a>> {
-    'files: for (given, file) in bundles.iter().zip(files) {
-        install(alloc, packages, app, given, file)?;
+) -> Result<Packages, CommandError<'a>> {
+    let mut packages = Packages::new(alloc, state);
+    for (given, file) in bundles.iter().zip(files) {
+        install(alloc, &mut packages, app, given, file)?;
     }
-    Ok(())
+    Ok(packages)
 }
 
 /// Writes the tree of an application's bundles, whose length is counted first.
@@ -130,8 +131,7 @@ fn print_over<'a, R: Files + RandomSource + AllocGlobal + Print + Eprint>(
         return Err(CommandError::NotStarted(StartError::Memory));
     };
     let files = made_of_each(rt, bundles, |name, bytes| file_of(alloc, name, bytes))?;
-    let mut packages = Packages::new(alloc, state);
-    install_all(alloc, &mut packages, &app, bundles, &files)?;
+    let packages = packages_of(alloc, state, &app, bundles, &files)?;
     print_inherited(rt, &packages, &app, &parents, asked, escapes)
 }
 

@@ -5,6 +5,7 @@ ghost use Rattle.rb_engine.specs.Kept.{state_of};
 ghost use Rattle.rb_replies.specs.Replied.{reply_line};
 ghost use Rattle.rb_inspect.specs.Looking.{IsFoundWith, is_found, look_status, looked_up};
 
+use crate::inherited::packages_of;
 use crate::trace::{Trace, file_named};
 use rb_asked::AskedLookup;
 use rb_console::{
@@ -20,7 +21,6 @@ use rb_packages::Packages;
 use rb_parents::Parents;
 use rb_replies::put_look;
 use rb_tree::ByteList;
-use rb_validator::accept;
 use std::alloc::{AllocError, Global};
 use std::hash::RandomState;
 use std::io;
@@ -132,33 +132,6 @@ fn answer<R: AllocGlobal + Print + Eprint>(
     status_of(rt, is_found, out.end())
 }
 
-/// Accepts a file and installs it for `APP`; `None` if it is refused or there is no memory.
-fn install_file(
-    alloc: Global,
-    packages: &mut Packages,
-    app: &App,
-    name: Name,
-    file: &[u8],
-) -> Option<()> {
-    let bundle = accept(alloc, file.to_vec(alloc).ok()?).ok()?;
-    packages.install(app, name, bundle).ok()
-}
-
-/// Installs the files as bundles of `APP`; returns `None` if one of them is refused.
-fn packages_of<R: RandomSource + AllocGlobal>(
-    rt: &R,
-    app: &App,
-    bundles: &[Given<'_>],
-    files: &[Vec<u8>],
-) -> Option<Packages> {
-    let alloc = rt.alloc();
-    let mut packages = Packages::new(alloc, RandomState::new(rt).ok()?);
-    for (bundle, file) in bundles.iter().zip(files) {
-        install_file(alloc, &mut packages, app, bundle.name, file)?;
-    }
-    Some(packages)
-}
-
 /// Returns the meaning of a lookup's error code.
 fn meaning(word: &str) -> &'static str {
     for of in [Of::Lookup, Of::Request, Of::Memory] {
@@ -219,7 +192,10 @@ fn say_trace<R: RandomSource + AllocGlobal + Eprint>(
     let Ok(app) = App::read(APP.as_bytes()) else {
         return;
     };
-    let Some(packages) = packages_of(rt, &app, bundles, files) else {
+    let Ok(state) = RandomState::new(rt) else {
+        return;
+    };
+    let Ok(packages) = packages_of(rt.alloc(), state, &app, bundles, files) else {
         return;
     };
     let Ok(name) = Name::read(lookup.locale.as_bytes()) else {

@@ -1,8 +1,7 @@
 //! Decides whether a body is on one line.
-use crate::piece::{Piece, PieceKind};
-use crate::widths::columns;
+use crate::piece::Piece;
 use crate::window::Window;
-use bstr::ByteSlice;
+use rb_lexer::PieceKind;
 use std::alloc::AllocError;
 
 /// The deepest level at which lines are broken by their length.
@@ -42,14 +41,13 @@ impl Body {
     }
 
     /// Adds a piece. Returns false if the body can't be on one line.
-    fn add(&mut self, text: &[u8], piece: &Piece, is_first: bool) -> bool {
-        let bytes = piece.bytes(text);
+    fn add(&mut self, piece: &Piece<'_>, is_first: bool) -> bool {
         match piece.kind {
-            PieceKind::Quoted | PieceKind::Bare => {
+            PieceKind::Quoted | PieceKind::Run => {
                 self.texts = self.texts.saturating_add(1);
             }
             PieceKind::Comma => self.is_list = true,
-            PieceKind::BlockComment if bytes.find_byte(b'\n').is_none() => self.is_list = true,
+            PieceKind::BlockComment if !piece.source.contains('\n') => self.is_list = true,
             _ => return false,
         }
         self.is_other |= matches!(piece.kind, PieceKind::Quoted | PieceKind::BlockComment);
@@ -63,14 +61,14 @@ impl Body {
         let gap = if piece.kind == PieceKind::Comma { 0 } else { 1 };
         self.columns = self
             .columns
-            .saturating_add(columns(bytes))
+            .saturating_add(piece.columns())
             .saturating_add(gap);
         !self.has_break && !(self.is_list && self.begins_line)
     }
 
     /// Decides at the right brace, given the column of the left one, the level inside and the
     /// columns of a line.
-    fn is_inline(&self, end: &Piece, column: usize, level: usize, line: usize) -> bool {
+    fn is_inline(&self, end: &Piece<'_>, column: usize, level: usize, line: usize) -> bool {
         if self.texts > 0 && !self.is_list {
             return true;
         }
@@ -85,7 +83,6 @@ impl Body {
 /// Checks whether the body whose left brace was taken is on one line. Its brace ends at this
 /// column; the level is that inside the body, and `line` the columns of a line.
 pub(crate) fn is_inline(
-    text: &[u8],
     window: &mut Window<'_>,
     column: usize,
     level: usize,
@@ -99,7 +96,7 @@ pub(crate) fn is_inline(
         if piece.kind == PieceKind::RightBrace {
             return Ok(body.is_inline(&piece, column, level, line));
         }
-        if !body.add(text, &piece, i == 0) {
+        if !body.add(&piece, i == 0) {
             return Ok(false);
         }
     }

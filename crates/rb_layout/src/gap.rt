@@ -1,5 +1,6 @@
 //! Chooses the white space between two pieces.
-use crate::piece::{Piece, PieceKind};
+use crate::piece::Piece;
+use rb_lexer::PieceKind;
 
 /// The white space before a piece.
 #[derive(Clone, Copy, PartialEq, Eq)]
@@ -23,11 +24,11 @@ pub(crate) struct Before {
 
 impl Before {
     fn is_text(&self) -> bool {
-        matches!(self.kind, Some(PieceKind::Quoted | PieceKind::Bare))
+        matches!(self.kind, Some(PieceKind::Quoted | PieceKind::Run))
     }
 
     /// Returns a new line, and a blank one before it where the text has one, except after a brace.
-    fn line(&self, breaks: u8) -> Gap {
+    fn line(&self, breaks: usize) -> Gap {
         if breaks > 1 && self.kind != Some(PieceKind::LeftBrace) {
             Gap::BlankLine
         } else {
@@ -35,7 +36,7 @@ impl Before {
         }
     }
 
-    fn line_or(&self, breaks: u8, gap: Gap) -> Gap {
+    fn line_or(&self, breaks: usize, gap: Gap) -> Gap {
         if self.owes_line || breaks > 0 {
             self.line(breaks)
         } else {
@@ -43,7 +44,7 @@ impl Before {
         }
     }
 
-    fn before_comment(&self, breaks: u8) -> Gap {
+    fn before_comment(&self, breaks: usize) -> Gap {
         if breaks > 0 || self.kind == Some(PieceKind::LineComment) {
             self.line(breaks)
         } else {
@@ -60,7 +61,7 @@ impl Before {
     }
 
     /// Returns the gap before a left brace or a colon.
-    fn before_body(&self, breaks: u8, after_text: Gap) -> Gap {
+    fn before_body(&self, breaks: usize, after_text: Gap) -> Gap {
         if self.owes_line || self.kind == Some(PieceKind::Comma) {
             self.line(breaks)
         } else if self.is_text() {
@@ -70,7 +71,7 @@ impl Before {
         }
     }
 
-    fn before_text(&self, breaks: u8) -> Gap {
+    fn before_text(&self, breaks: usize) -> Gap {
         if self.kind == Some(PieceKind::Colon) {
             Gap::Nothing
         } else if self.is_inline {
@@ -81,7 +82,7 @@ impl Before {
     }
 
     /// Returns the gap before a piece, however long its line is.
-    pub(crate) fn gap(&self, piece: &Piece) -> Gap {
+    pub(crate) fn gap(&self, piece: &Piece<'_>) -> Gap {
         if self.kind.is_none() {
             return Gap::Nothing;
         }
@@ -92,7 +93,7 @@ impl Before {
             PieceKind::RightBrace => self.before_right_brace(),
             PieceKind::LeftBrace => self.before_body(piece.breaks, Gap::Space),
             PieceKind::Colon => self.before_body(piece.breaks, Gap::Nothing),
-            PieceKind::Quoted | PieceKind::Bare => self.before_text(piece.breaks),
+            _ => self.before_text(piece.breaks),
         }
     }
 }

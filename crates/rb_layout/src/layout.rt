@@ -5,11 +5,10 @@ ghost use Rattle.rb_layout.specs.Formatted.{IsOwnFault};
 use crate::body::{DEEPEST, is_inline};
 use crate::fault::FormatFault;
 use crate::gap::{Before, Gap};
-use crate::piece::{Piece, PieceKind};
+use crate::piece::Piece;
 use crate::style::Style;
-use crate::widths::columns;
 use crate::window::Window;
-use rb_lexer::SOURCE_LIMIT;
+use rb_lexer::{PieceKind, SOURCE_LIMIT};
 use std::alloc::{AllocError, Global};
 
 /// The most spaces that are written at once.
@@ -19,7 +18,6 @@ static SPACES: [u8; SPAN] = [b' '; SPAN];
 
 #[derive(Drop)]
 struct Layout<'a> {
-    text: &'a [u8],
     style: Style,
     window: Window<'a>,
     out: Vec<u8>,
@@ -33,7 +31,6 @@ impl<'a> Layout<'a> {
     fn new(alloc: Global, text: &'a [u8], style: Style) -> Result<Layout<'a>, AllocError> {
         let capacity = text.len().saturating_add(text.len() / 8).min(SOURCE_LIMIT);
         Ok(Layout {
-            text,
             style,
             window: Window::new(alloc, text),
             out: Vec::with_capacity(alloc, capacity)?,
@@ -72,11 +69,10 @@ impl<'a> Layout<'a> {
     }
 
     /// Returns the gap before a piece of a width.
-    fn gap(&self, piece: &Piece, width: usize) -> Gap {
+    fn gap(&self, piece: &Piece<'_>, width: usize) -> Gap {
         let gap = self.before.gap(piece);
-        let is_text = matches!(piece.kind, PieceKind::Quoted | PieceKind::Bare);
         let is_kept = gap != Gap::Space || self.before.is_inline || self.level == 0;
-        if is_kept || !is_text || self.fits(width) {
+        if is_kept || !piece.is_text() || self.fits(width) {
             gap
         } else {
             Gap::Line
@@ -100,13 +96,13 @@ impl<'a> Layout<'a> {
     }
 
     /// Updates the level and what the next piece comes after.
-    fn pass(&mut self, piece: &Piece) -> Result<(), AllocError> {
+    fn pass(&mut self, piece: &Piece<'_>) -> Result<(), AllocError> {
         self.before.kind = Some(piece.kind);
         match piece.kind {
             PieceKind::LeftBrace => {
                 self.level = self.level.saturating_add(1);
                 let (column, line) = (self.column, self.style.width);
-                let is_inline = is_inline(self.text, &mut self.window, column, self.level, line)?;
+                let is_inline = is_inline(&mut self.window, column, self.level, line)?;
                 self.before.is_inline = is_inline;
                 self.before.owes_line = !is_inline;
             }
@@ -121,19 +117,18 @@ impl<'a> Layout<'a> {
         Ok(())
     }
 
-    fn put(&mut self, piece: &Piece) -> Result<(), AllocError> {
-        let bytes = piece.bytes(self.text);
+    fn put(&mut self, piece: &Piece<'_>) -> Result<(), AllocError> {
         let width = if self.before.is_inline {
             0
         } else {
-            columns(bytes)
+            piece.columns()
         };
         let level = match piece.kind {
             PieceKind::RightBrace => self.level.saturating_sub(1),
             _ => self.level,
         };
         self.put_gap(self.gap(piece, width), level)?;
-        self.out.extend_from_slice(bytes)?;
+        self.out.extend_from_slice(piece.source.as_bytes())?;
         self.column = self.column.saturating_add(width);
         self.pass(piece)
     }

@@ -12,7 +12,6 @@ mod piece;
 mod scan;
 mod style;
 mod tokens;
-mod widths;
 mod window;
 
 pub use fault::FormatFault;

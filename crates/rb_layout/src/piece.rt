@@ -1,48 +1,32 @@
-#[derive(Clone, Copy, PartialEq, Eq)]
-pub(crate) enum PieceKind {
-    LeftBrace,
-    RightBrace,
-    Colon,
-    Comma,
-    Quoted,
-    /// An unquoted piece, with the comments inside it.
-    Bare,
-    LineComment,
-    BlockComment,
-}
+use rb_lexer::PieceKind;
 
-/// A piece of a text, a punctuation character or a comment. A line comment is without its line end.
+/// A piece of a text that isn't white space. An unquoted one has the comments inside it. A line
+/// comment is without its line end and the blanks before that.
 #[derive(Clone, Copy)]
-pub(crate) struct Piece {
+pub(crate) struct Piece<'a> {
     pub(crate) kind: PieceKind,
-    /// The first byte; `past` is the byte after the last.
-    pub(crate) first: usize,
-    pub(crate) past: usize,
-    /// The number of line feeds between the piece before it and this one, at most 2.
-    pub(crate) breaks: u8,
+    pub(crate) source: &'a str,
+    /// The number of line feeds between the piece before it and this one.
+    pub(crate) breaks: usize,
 }
 
-impl Piece {
+impl<'a> Piece<'a> {
     pub(crate) fn is_comment(&self) -> bool {
         matches!(self.kind, PieceKind::LineComment | PieceKind::BlockComment)
     }
 
-    /// Returns the bytes of the piece, a line comment's without the blanks at its end.
-    pub(crate) fn bytes<'a>(&self, text: &'a [u8]) -> &'a [u8] {
-        let bytes = text.get(self.first..self.past).unwrap_or(&[]);
-        match self.kind {
-            PieceKind::LineComment => without_blanks(bytes),
-            _ => bytes,
-        }
+    pub(crate) fn is_text(&self) -> bool {
+        matches!(self.kind, PieceKind::Quoted | PieceKind::Run)
     }
-}
 
-/// Returns bytes without the spaces and tabs at their end.
-fn without_blanks(bytes: &[u8]) -> &[u8] {
-    for end in (0..bytes.len()).rev() {
-        if !matches!(bytes[end], b' ' | b'\t') {
-            return bytes.get(..end.saturating_add(1)).unwrap_or(&[]);
-        }
+    /// Returns the columns of the piece: its characters, of which 400 bytes are counted.
+    pub(crate) fn columns(&self) -> usize {
+        let bytes = self.source.as_bytes();
+        bytes
+            .get(..400)
+            .unwrap_or(bytes)
+            .iter()
+            .filter(|byte| !matches!(**byte, 0x80..=0xBF))
+            .count()
     }
-    &[]
 }

@@ -1,98 +1,107 @@
-//! Splits a text into pieces and comments. The text may have any errors.
-use crate::piece::{Piece, PieceKind};
-use crate::widths::{
-    bare_width, block_width, line_end_width, line_width, quoted_width, span_width, white_width,
-};
+//! Reads the pieces of a text that has no lexical errors.
+use crate::piece::Piece;
+use rb_lexer::{PieceKind, first_piece};
 
-/// The handling of comments inside unquoted pieces.
-#[derive(Clone, Copy, PartialEq, Eq)]
-pub(crate) enum Inside {
-    /// They are part of the piece.
-    Joined,
-    /// Each is a comment, and the piece is split.
-    Split,
-}
-
-/// The part of a text that hasn't been read.
+/// The unread rest of a text.
 #[derive(Clone, Copy)]
 pub(crate) struct Scanner<'a> {
-    text: &'a [u8],
-    at: usize,
-    breaks: u8,
-    inside: Inside,
+    rest: &'a str,
+    /// The line feeds since the last piece.
+    breaks: usize,
+}
+
+/// Returns the part of a text before its rest.
+fn before<'a>(text: &'a str, rest: &str) -> &'a str {
+    let width = text.len().saturating_sub(rest.len());
+    text.get(..width).unwrap_or("")
+}
+
+fn line_feeds(text: &str) -> usize {
+    text.as_bytes()
+        .iter()
+        .filter(|byte| **byte == b'\n')
+        .count()
+}
+
+/// Returns what follows an unquoted piece, given what follows its first run. Comments are inside
+/// the piece if another run follows them.
+fn past_runs(after: &str) -> &str {
+    let mut past = after;
+    let mut ahead = after;
+    for _ in 0..after.len() {
+        match first_piece(ahead) {
+            Some((PieceKind::Run, rest)) => {
+                past = rest;
+                ahead = rest;
+            }
+            Some((PieceKind::LineComment | PieceKind::BlockComment, rest)) => ahead = rest,
+            _ => break,
+        }
+    }
+    past
 }
 
 impl<'a> Scanner<'a> {
-    pub(crate) fn new(text: &'a [u8], inside: Inside) -> Scanner<'a> {
+    /// Returns the pieces of a text, of which one that isn't UTF-8 has none.
+    pub(crate) fn new(text: &'a [u8]) -> Scanner<'a> {
         Scanner {
-            text,
-            at: 0,
+            rest: str::from_utf8(text).unwrap_or(""),
             breaks: 0,
-            inside,
         }
     }
 
-    fn rest(&self) -> &'a [u8] {
-        self.text.get(self.at..).unwrap_or(&[])
+    /// Skips white space. Returns the kind of the next piece, and what follows it.
+    fn first(&mut self) -> Option<(PieceKind, &'a str)> {
+        let (kind, after) = first_piece(self.rest)?;
+        if kind != PieceKind::White {
+            return Some((kind, after));
+        }
+        let white = before(self.rest, after);
+        self.breaks = self.breaks.saturating_add(line_feeds(white));
+        self.rest = after;
+        first_piece(after)
     }
 
-    fn skip_white(&mut self) {
-        for _ in 0..self.text.len() {
-            let rest = self.rest();
-            let width = white_width(rest);
-            if width == 0 {
-                return;
-            }
-            if let Some(b'\n') = rest.first() {
-                self.breaks = self.breaks.saturating_add(1).min(2);
-            }
-            self.at = self.at.saturating_add(width);
+    /// Takes a piece, given what follows it.
+    fn take(&mut self, kind: PieceKind, after: &'a str) -> Piece<'a> {
+        let source = before(self.rest, after);
+        let breaks = self.breaks;
+        self.rest = after;
+        self.breaks = 0;
+        if kind != PieceKind::LineComment {
+            return Piece {
+                kind,
+                source,
+                breaks,
+            };
         }
-    }
-
-    /// Skips the end of the line comment that was read.
-    fn skip_line_end(&mut self) {
-        let rest = self.rest();
-        if let Some(b'\n') = rest.first() {
-            self.breaks = 1;
+        self.breaks = line_feeds(source);
+        Piece {
+            kind,
+            source: source.trim_end_matches(|c| matches!(c, ' ' | '\t' | '\n' | '\r' | '\u{2029}')),
+            breaks,
         }
-        self.at = self.at.saturating_add(line_end_width(rest));
     }
 
     /// Reads the next piece, or returns `None` at the end.
-    pub(crate) fn read(&mut self) -> Option<Piece> {
-        self.skip_white();
-        let rest = self.rest();
-        if rest.is_empty() {
-            return None;
-        }
-        let (kind, width) = self.begun(rest);
-        let piece = Piece {
-            kind,
-            first: self.at,
-            past: self.at.saturating_add(width),
-            breaks: self.breaks,
+    pub(crate) fn read(&mut self) -> Option<Piece<'a>> {
+        let (kind, after) = self.first()?;
+        let past = match kind {
+            PieceKind::Run => past_runs(after),
+            _ => after,
         };
-        self.at = piece.past;
-        self.breaks = 0;
-        if kind == PieceKind::LineComment {
-            self.skip_line_end();
-        }
-        Some(piece)
+        Some(self.take(kind, past))
     }
 
-    /// Returns the kind and the length of the piece that a text begins with.
-    fn begun(&self, rest: &[u8]) -> (PieceKind, usize) {
-        match rest {
-            [b'{', ..] => (PieceKind::LeftBrace, 1),
-            [b'}', ..] => (PieceKind::RightBrace, 1),
-            [b':', ..] => (PieceKind::Colon, 1),
-            [b',', ..] => (PieceKind::Comma, 1),
-            [b'"', ..] => (PieceKind::Quoted, quoted_width(rest)),
-            [b'/', b'/', ..] => (PieceKind::LineComment, line_width(rest)),
-            [b'/', b'*', ..] => (PieceKind::BlockComment, block_width(rest)),
-            _ if self.inside == Inside::Joined => (PieceKind::Bare, bare_width(rest)),
-            _ => (PieceKind::Bare, span_width(rest)),
+    /// Reads the next comment, also inside an unquoted piece, or returns `None` if no more come.
+    pub(crate) fn read_comment(&mut self) -> Option<&'a str> {
+        for _ in 0..=self.rest.len() {
+            let (kind, after) = self.first()?;
+            let piece = self.take(kind, after);
+            if piece.is_comment() {
+                return Some(piece.source);
+            }
         }
+        None
     }
 }

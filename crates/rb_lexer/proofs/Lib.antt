@@ -16,3 +16,4 @@ pub mod Total
 pub mod Passes
 pub mod Coming
 pub mod Pulls
+pub mod Passed

@@ -7,4 +7,5 @@ pub mod Words
 pub mod Atom
 pub mod Escapes
 pub mod Coming
+pub mod Pieces
 pub mod inner

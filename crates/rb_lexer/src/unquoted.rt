@@ -43,7 +43,7 @@ fn begins_comment(c: char, after: &str) -> bool
 
 /// Checks whether a character ends a run. Inlined: it is called for each character of a piece.
 #[inline(always)]
-fn ends_run(c: char, after: &str) -> bool
+pub fn ends_run(c: char, after: &str) -> bool
     ensures { result
         ≡ (is_white c || (c == quote) || is_punctuation c || begins_comment (c ∷ chars after.now)) }
 {

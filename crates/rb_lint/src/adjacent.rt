@@ -1,6 +1,7 @@
 use crate::collector::Collector;
-use crate::piece::{Piece, PieceKind, narrow};
+use crate::piece::{Piece, narrow};
 use crate::warning::Doubt;
+use rb_lexer::PieceKind;
 use std::alloc::Global;
 
 /// The body after an open brace.
@@ -112,7 +113,7 @@ impl AdjacentSearch {
             Some(open) => open.is_vector,
             None => false,
         };
-        if a.kind == PieceKind::Unquoted {
+        if a.kind == PieceKind::Run {
             self.note_loose(a);
         }
         if (a.kind == PieceKind::Quoted || is_vector) && !is_continued(text, a, b) {
@@ -134,7 +135,7 @@ impl AdjacentSearch {
             PieceKind::LeftBrace => self.enter(b"", warnings),
             PieceKind::RightBrace => self.leave(warnings),
             PieceKind::Comma => self.comma(),
-            PieceKind::Quoted | PieceKind::Unquoted if before.is_text() => self.meet(
+            PieceKind::Quoted | PieceKind::Run if before.is_text() => self.meet(
                 text, before, piece, warnings,
             ),
             _ => {}

@@ -1,9 +1,10 @@
 //! Comments that allow warnings: `// resb-lint: allow NAME` before an entry.
 use crate::heap::Heap;
 use crate::lengths::longest_of;
-use crate::piece::{Piece, PieceKind, line_width};
+use crate::piece::Piece;
 use crate::rule::{Rule, RuleSet};
-use crate::scan::{Event, Quoting, Visit, visit_pieces};
+use crate::scan::{Quoting, Visit, visit_pieces};
+use rb_lexer::PieceKind;
 use std::alloc::{AllocError, Global};
 
 /// The rules that are allowed from a byte on.
@@ -59,16 +60,9 @@ struct AllowSearch {
 
 const PREFIX: &str = "resb-lint:";
 
-/// Returns what follows `resb-lint:` in a comment, up to the end of its line. An escape has nothing.
-pub(crate) fn directive(window: &[u8]) -> Option<&str> {
-    if !window.starts_with(b"//") {
-        return None;
-    }
-    let comment = window.get(2..line_width(window))?;
-    match str::from_utf8(comment) {
-        Ok(comment) => comment.trim().strip_prefix(PREFIX),
-        Err(_) => None,
-    }
+/// Returns what follows `resb-lint:` in a comment of one line.
+pub(crate) fn directive(comment: &str) -> Option<&str> {
+    comment.strip_prefix("//")?.trim().strip_prefix(PREFIX)
 }
 
 impl AllowSearch {
@@ -148,12 +142,12 @@ impl Visit for AllowSearch {
                 self.end(self.depth, piece.past);
             }
             PieceKind::Comma => self.end(self.depth, piece.past),
-            PieceKind::Quoted | PieceKind::Unquoted | PieceKind::Colon => self.begin(),
+            _ => self.begin(),
         }
     }
 
-    fn event(&mut self, _event: Event, at: usize, window: &[u8]) {
-        let Some(words) = directive(window) else {
+    fn comment(&mut self, at: usize, comment: &str) {
+        let Some(words) = directive(comment) else {
             return;
         };
         match words.trim().strip_prefix("allow") {

@@ -1,8 +1,9 @@
 //! Finds lost braces by the indentation of lines.
 use crate::collector::Collector;
-use crate::piece::{Piece, PieceKind, narrow};
+use crate::piece::{Piece, narrow};
 use crate::scan::Visit;
 use crate::warning::Doubt;
+use rb_lexer::PieceKind;
 use std::alloc::Global;
 
 /// The column of the entries of a brace whose line has the first one: further lines may be indented
@@ -73,7 +74,7 @@ impl<'a> BraceSearch<'a> {
         let entries = top.entries;
         if entries == 0 {
             top.entries = column;
-        } else if piece.kind == PieceKind::Unquoted && column > entries {
+        } else if piece.kind == PieceKind::Run && column > entries {
             self.warnings.add(piece.first, Doubt::FurtherRight);
             self.open(entries, 0, column);
         }

@@ -5,8 +5,9 @@ use crate::language::Language;
 use crate::messages::{Message, search_message};
 use crate::path::shown_name;
 use crate::pattern::PlacedDoubt;
-use crate::uses::{Named, ValueKind, find_named, without};
-use rb_messages::{Edge, Mark, MarkKind, lacking_ending, marks_lacking, marks_of, other_blanks};
+use rb_messages::{
+    Edge, Mark, MarkKind, Named, ValueKind, lacking_ending, marks_lacking, marks_of, other_blanks,
+};
 
 /// A change of a String, at one of its units or of all of it.
 #[derive(Drop)]
@@ -41,12 +42,31 @@ fn plain_name(text: &[u16], name: &[u16]) -> Option<usize> {
     None
 }
 
+/// Returns the argument with a name, among arguments by ascending names.
+fn find_named<'a>(named: &[Named<'a>], name: &[u16]) -> Option<Named<'a>> {
+    match named.binary_search_by(|other| other.name.cmp(name)) {
+        Ok(i) => named.get(i).copied(),
+        Err(_) => None,
+    }
+}
+
+/// Returns the arguments that are not among others, in the order of the text. Both are by ascending names.
+fn without<'a>(heap: &mut Heap, named: &[Named<'a>], others: &[Named<'_>]) -> Vec<Named<'a>> {
+    let mut found = Vec::new(heap.alloc);
+    for argument in named {
+        if find_named(others, argument.name).is_none() {
+            heap.push(&mut found, *argument);
+        }
+    }
+    heap.note(found.sort_by_key(|argument| argument.first));
+    found
+}
+
 /// Returns the kind of value that the root has for an argument, or the argument's own if one of them says
 /// nothing of it.
 fn root_kind(argument: Named<'_>, root: &[Named<'_>]) -> ValueKind {
     match find_named(root, argument.name) {
-        Some(other) if argument.kind != ValueKind::Any && other.kind != ValueKind::Any =>
-            other.kind,
+        Some(other) if argument.kind.is_other(other.kind) => other.kind,
         _ => argument.kind,
     }
 }

@@ -1,8 +1,7 @@
 use crate::named_text::{shown, write_named};
 use crate::rule::Rule;
-use crate::uses::ValueKind;
 use rb_explain::kind_word;
-use rb_messages::{Edge, Ending, MarkKind, MessageFault};
+use rb_messages::{Edge, Ending, MarkKind, MessageFault, ValueKind};
 use rb_tree::Kind;
 use std::fmt;
 

@@ -16,17 +16,15 @@ impl Direction {
         }
     }
 
-    /// Takes the next byte of a piece, the first of the window.
-    pub(crate) fn step(&mut self, window: &[u8]) {
-        match window {
-            [0xE2, 0x80, 0xAC, ..] => self.embeddings = self.embeddings.saturating_sub(1),
-            [0xE2, 0x80, 0xAA | 0xAB | 0xAD | 0xAE, ..] => {
+    /// Takes the next character of a piece.
+    pub(crate) fn step(&mut self, c: char) {
+        match c {
+            '\u{202C}' => self.embeddings = self.embeddings.saturating_sub(1),
+            '\u{202A}' | '\u{202B}' | '\u{202D}' | '\u{202E}' => {
                 self.embeddings = self.embeddings.saturating_add(1);
             }
-            [0xE2, 0x81, 0xA6 | 0xA7 | 0xA8, ..] => {
-                self.isolates = self.isolates.saturating_add(1);
-            }
-            [0xE2, 0x81, 0xA9, ..] => self.isolates = self.isolates.saturating_sub(1),
+            '\u{2066}'..='\u{2068}' => self.isolates = self.isolates.saturating_add(1),
+            '\u{2069}' => self.isolates = self.isolates.saturating_sub(1),
             _ => {}
         }
     }

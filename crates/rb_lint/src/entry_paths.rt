@@ -1,8 +1,9 @@
 //! The paths of the entries at places of a text.
 use crate::heap::Heap;
-use crate::piece::{Piece, PieceKind, unquoted};
+use crate::piece::{Piece, unquoted};
 use crate::position::Position;
 use crate::scan::{Quoting, Visit, visit_pieces};
+use rb_lexer::PieceKind;
 use std::alloc::{AllocError, Global};
 
 /// A search for the paths of ascending places, each a line and a column.
@@ -76,7 +77,7 @@ impl<'a> Visit for PathSearch<'a> {
         let is_type = self.is_type;
         self.is_type = piece.kind == PieceKind::Colon;
         match piece.kind {
-            PieceKind::Quoted | PieceKind::Unquoted if !is_type => {
+            PieceKind::Quoted | PieceKind::Run if !is_type => {
                 self.flush(piece.first);
                 self.key = Some(*piece);
             }

@@ -7,7 +7,7 @@ fn is_escape_letter(letter: u8) -> bool {
 }
 
 /// Returns the number of hexadecimal digits that bytes begin with, up to a limit.
-pub(crate) fn digit_count(bytes: &[u8], limit: usize) -> usize {
+fn digit_count(bytes: &[u8], limit: usize) -> usize {
     let mut count: usize = 0;
     for byte in bytes {
         if count >= limit || !byte.is_ascii_hexdigit() {

@@ -5,7 +5,7 @@ use crate::path::shown_source;
 use crate::piece::Piece;
 use crate::position::line_of;
 use crate::repeated::first_line_of;
-use crate::scan::{Event, Open, Quoting, Visit, visit_pieces};
+use crate::scan::{Open, Quoting, Visit, visit_pieces};
 use crate::text_tokens::{TextTokens, parse_text};
 use rb_lexer::{SourceFault, SourceKind};
 use std::alloc::{AllocError, Global};
@@ -150,37 +150,20 @@ pub(crate) fn is_utf16(text: &[u8]) -> bool {
     )
 }
 
-/// Collects the places of escapes in a line.
-#[derive(Drop)]
+/// Finds the first backslash that begins no escape.
+#[derive(Clone, Copy)]
 struct EscapeSearch {
-    first: usize,
-    past: usize,
-    found: Vec<usize>,
-    heap: Heap,
+    found: Option<usize>,
 }
 
 impl Visit for EscapeSearch {
     fn piece(&mut self, _piece: &Piece) {}
 
-    fn event(&mut self, event: Event, at: usize, _window: &[u8]) {
-        if event == Event::Escape && self.first <= at && at < self.past {
-            self.heap.push(&mut self.found, at);
+    fn escape(&mut self, at: usize, code: Option<u32>, _rest: &str) {
+        if code.is_none() {
+            self.found = self.found.or(Some(at));
         }
     }
-}
-
-/// Returns the places of the escapes of a line.
-fn escapes_of(heap: &mut Heap, text: &[u8], line: u64) -> Vec<usize> {
-    let (first, bytes) = line_of(text, line);
-    let mut search = EscapeSearch {
-        first,
-        past: first.saturating_add(bytes.len()),
-        found: Vec::new(heap.alloc),
-        heap: *heap,
-    };
-    visit_pieces(text, Quoting::OverLines, &mut search);
-    heap.join(search.heap);
-    search.found
 }
 
 /// Returns the places of the tokens of a line, or none of a text that can't be split into tokens.
@@ -288,10 +271,10 @@ fn fault_at(at: usize, kind: SourceKind, about: About) -> Fault {
 }
 
 /// Finds the escape that has the error of a text.
-fn find_escape(heap: &mut Heap, text: &[u8], fault: SourceFault) -> Fault {
-    let places = escapes_of(heap, text, fault.line);
-    let found = place_of(heap, text, &places, fault);
-    let Some(at) = places.get(found).copied() else {
+fn find_escape(text: &[u8], fault: SourceFault) -> Fault {
+    let mut search = EscapeSearch { found: None };
+    visit_pieces(text, Quoting::OverLines, &mut search);
+    let Some(at) = search.found else {
         return not_found(text, fault);
     };
     let about = match text.get(at.saturating_add(1)) {
@@ -320,7 +303,7 @@ pub(crate) fn find_fault(
             Ok(_) => not_found(text, fault),
             Err(error) => fault_at(error.valid_up_to(), fault.kind, About::Unknown),
         },
-        (SourceKind::BadEscape, _) => find_escape(&mut heap, text, fault),
+        (SourceKind::BadEscape, _) => find_escape(text, fault),
         (SourceKind::TooLong | SourceKind::TooLarge | SourceKind::Memory, _) => {
             fault_at(0, fault.kind, About::Unknown)
         }

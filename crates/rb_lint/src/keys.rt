@@ -1,7 +1,8 @@
 //! Finds keys and values that are valid and seldom meant.
 use crate::collector::Collector;
-use crate::piece::{Piece, PieceKind};
+use crate::piece::Piece;
 use crate::warning::Doubt;
+use rb_lexer::PieceKind;
 use std::alloc::Global;
 
 /// The kind of a body, by its type or by its first entry or item.
@@ -71,7 +72,7 @@ fn is_sign(byte: u8) -> bool {
 
 /// Returns what is doubtful in one piece of a key.
 fn sign_doubt(text: &[u8], piece: &Piece) -> Option<Doubt> {
-    if piece.kind != PieceKind::Unquoted {
+    if piece.kind != PieceKind::Run {
         return None;
     }
     for byte in piece.of(text) {
@@ -113,8 +114,8 @@ fn ends_with_quote(bytes: &[u8]) -> bool {
 fn is_quoted_otherwise(text: &[u8], texts: &Texts) -> bool {
     let (first, last) = (texts.first.of(text), texts.last.of(text));
     let is_long = texts.first.first < texts.last.first || first.len() > 1;
-    texts.first.kind == PieceKind::Unquoted
-        && texts.last.kind == PieceKind::Unquoted
+    texts.first.kind == PieceKind::Run
+        && texts.last.kind == PieceKind::Run
         && is_long
         && begins_with_quote(first)
         && ends_with_quote(last)
@@ -193,7 +194,7 @@ impl KeySearch {
         match self.open.last()? {
             _ if texts.is_conflict => None,
             Body::Array => Some(Doubt::EntryInArray),
-            Body::Table if texts.first.kind == PieceKind::Unquoted => texts.doubt,
+            Body::Table if texts.first.kind == PieceKind::Run => texts.doubt,
             _ => None,
         }
     }
@@ -216,7 +217,7 @@ impl KeySearch {
     /// Takes the next piece.
     pub(crate) fn step(&mut self, text: &[u8], piece: &Piece, warnings: &mut Collector<'_>) {
         match piece.kind {
-            PieceKind::Quoted | PieceKind::Unquoted => {
+            PieceKind::Quoted | PieceKind::Run => {
                 self.text_piece(text, piece);
                 if is_marker(text, piece) {
                     warnings.add(piece.first, Doubt::Conflict);
@@ -235,6 +236,7 @@ impl KeySearch {
                 self.decide(Body::Array);
                 self.value(text, warnings);
             }
+            _ => {}
         }
     }
 }

@@ -1,4 +1,5 @@
-use crate::piece::{Piece, PieceKind};
+use crate::piece::Piece;
+use rb_lexer::PieceKind;
 
 /// A text counts as indented if, of the lines that follow a brace, at least this many are indented
 /// further for each one that is not.

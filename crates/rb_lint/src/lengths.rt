@@ -4,7 +4,7 @@ use crate::entry_paths::paths_of;
 use crate::heap::Heap;
 use crate::piece::Piece;
 use crate::position::Position;
-use crate::scan::{Event, Quoting, Visit, visit_pieces};
+use crate::scan::{Quoting, Visit, visit_pieces};
 use std::alloc::{AllocError, Global};
 
 /// The maximum number of characters of the strings at a path and below.
@@ -45,8 +45,8 @@ impl<'a> Visit for LengthSearch<'a> {
         }
     }
 
-    fn event(&mut self, _event: Event, _at: usize, window: &[u8]) {
-        if let Some(words) = directive(window) {
+    fn comment(&mut self, _at: usize, comment: &str) {
+        if let Some(words) = directive(comment) {
             self.next = longest_of(words).or(self.next);
         }
     }

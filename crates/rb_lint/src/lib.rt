@@ -34,7 +34,6 @@ mod scan;
 mod search;
 mod text_tokens;
 mod unit_walk;
-mod uses;
 mod values;
 mod warning;
 
@@ -46,5 +45,4 @@ pub use lengths::{PathLength, lengths_in};
 pub use pattern::PatternDoubt;
 pub use report::{Report, Settings, WARNING_LIMIT, find_all};
 pub use rule::{Levels, Rule, RuleSet};
-pub use uses::ValueKind;
 pub use warning::Doubt;

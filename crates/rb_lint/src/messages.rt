@@ -4,10 +4,9 @@ use crate::language::Language;
 use crate::path::shown_name;
 use crate::pattern::{PatternDoubt, PlacedDoubt};
 use crate::piece::narrow;
-use crate::uses::{Named, Uses};
 use rb_messages::{
-    Argument, ArgumentType, Categories, Category, MessageError, MessageFault, MessageParser, Part,
-    PatternFault, Span, damage_in, date_fault, number_fault,
+    Argument, ArgumentType, Categories, Category, MessageError, MessageFault, MessageParser, Named,
+    Part, PatternFault, Span, Uses, damage_in, date_fault, number_fault,
 };
 
 /// The maximum number of doubts of one message.
@@ -242,8 +241,8 @@ impl<'a> MessageSearch<'a> {
     fn argument(&mut self, argument: Argument) {
         let around = self.branch_here();
         self.style(argument);
-        self.uses
-            .add(&mut self.heap, argument.name, argument.of_type, around);
+        self.heap
+            .note(self.uses.add(argument.name, argument.of_type, around));
         if argument.of_type.has_messages() {
             self.begin_choosing(argument.of_type, around);
         }
@@ -469,7 +468,7 @@ impl<'a> MessageSearch<'a> {
 
     /// Finds what is doubtful in all of a message. Returns its arguments.
     fn finish(&mut self) -> Vec<Named<'a>> {
-        let named = self.uses.named(&mut self.heap);
+        let named = self.heap.list(self.uses.named());
         self.lonely(&named);
         if let Some(at) = self.stray {
             if !named.is_empty() && !is_set(self.text) {

@@ -1,4 +1,5 @@
-use crate::piece::{Piece, PieceKind};
+use crate::piece::Piece;
+use rb_lexer::PieceKind;
 
 /// Returns the characters of a piece, or None if it has escapes.
 fn characters<'a>(text: &'a [u8], piece: &Piece) -> Option<&'a [u8]> {
@@ -8,7 +9,7 @@ fn characters<'a>(text: &'a [u8], piece: &Piece) -> Option<&'a [u8]> {
     }
     match (piece.kind, bytes) {
         (PieceKind::Quoted, [b'"', inside @ .., b'"']) => Some(inside),
-        (PieceKind::Unquoted, _) => Some(bytes),
+        (PieceKind::Run, _) => Some(bytes),
         _ => None,
     }
 }

@@ -1,27 +1,9 @@
 use crate::heap::Heap;
 use crate::piece::unquoted;
-
-/// The maximum length of a path in a message, in bytes.
-pub(crate) const SHOWN_PATH: usize = 200;
+use rb_compare::shortened;
 
 /// The maximum length of a placeholder's name in a message, in bytes.
 const SHOWN_NAME: usize = 100;
-
-/// Returns a text of ASCII, or its first and its last bytes with `..` between them if it is longer
-/// than `limit`.
-pub(crate) fn shortened(heap: &mut Heap, bytes: &[u8], limit: usize) -> Vec<u8> {
-    let mut short = Vec::new(heap.alloc);
-    if bytes.len() <= limit {
-        heap.extend(&mut short, bytes);
-        return short;
-    }
-    let half = limit.saturating_sub(2) / 2;
-    let last = bytes.len().saturating_sub(half);
-    heap.extend(&mut short, bytes.get(..half).unwrap_or(&[]));
-    heap.extend(&mut short, b"..");
-    heap.extend(&mut short, bytes.get(last..).unwrap_or(&[]));
-    short
-}
 
 /// Returns a unit as it is shown in a name, which may be long.
 fn shown_unit(unit: u16, is_long: bool) -> char {
@@ -40,7 +22,7 @@ pub(crate) fn shown_name(heap: &mut Heap, units: &[u16]) -> Vec<u8> {
         heap.note(name.push(shown_unit(*unit, is_long)));
     }
     if is_long {
-        shortened(heap, name.as_bytes(), SHOWN_NAME)
+        heap.list(shortened(heap.alloc, name.as_bytes(), SHOWN_NAME))
     } else {
         name.into_bytes()
     }

@@ -1,12 +1,4 @@
-#[derive(Clone, Copy, PartialEq, Eq)]
-pub(crate) enum PieceKind {
-    Quoted,
-    Unquoted,
-    LeftBrace,
-    RightBrace,
-    Colon,
-    Comma,
-}
+use rb_lexer::PieceKind;
 
 /// A piece of a text or a punctuation character.
 #[derive(Clone, Copy)]
@@ -29,23 +21,13 @@ pub(crate) struct Piece {
 
 impl Piece {
     pub(crate) fn is_text(&self) -> bool {
-        matches!(self.kind, PieceKind::Quoted | PieceKind::Unquoted)
+        matches!(self.kind, PieceKind::Quoted | PieceKind::Run)
     }
 
     /// Returns the bytes of the piece in its text.
     pub(crate) fn of<'a>(&self, text: &'a [u8]) -> &'a [u8] {
         text.get(self.first..self.past).unwrap_or(&[])
     }
-}
-
-/// Returns the number of bytes before the end of a line.
-pub(crate) fn line_width(bytes: &[u8]) -> usize {
-    for (width, byte) in bytes.iter().enumerate() {
-        if matches!(*byte, b'\n' | b'\r') {
-            return width;
-        }
-    }
-    bytes.len()
 }
 
 /// Returns the bytes between quotes, or all of a text that isn't in quotes.

@@ -7,7 +7,7 @@ use crate::layout::Layout;
 use crate::name::is_other_name;
 use crate::piece::Piece;
 use crate::report::Settings;
-use crate::scan::{Event, Open, Quoting, Visit, visit_pieces};
+use crate::scan::{Open, Quoting, Visit, visit_pieces};
 use crate::warning::Doubt;
 use std::alloc::Global;
 
@@ -54,17 +54,7 @@ impl<'a, 'c> PieceSearch<'a, 'c> {
         self.quoting == Quoting::WithinLine || closes_brace(piece.of(self.text))
     }
 
-    /// Returns what is doubtful in a comment that begins at an offset.
-    fn comment_doubt(&self, at: usize) -> Option<Doubt> {
-        let before = self.text.get(..at)?;
-        if before.ends_with(b"http:") || before.ends_with(b"https:") {
-            Some(Doubt::UnquotedAddress)
-        } else {
-            None
-        }
-    }
-
-    /// Takes a doubtful escape or comment. Doubled backslashes are stored, up to some.
+    /// Takes a doubtful escape. Doubled backslashes are stored, up to some.
     fn doubt(&mut self, at: usize, doubt: Doubt) {
         if !matches!(doubt, Doubt::TwoBackslashes) {
             return self.found.add(at, doubt);
@@ -117,13 +107,16 @@ impl<'a, 'c> Visit for PieceSearch<'a, 'c> {
         self.before = Some(*piece);
     }
 
-    fn event(&mut self, event: Event, at: usize, window: &[u8]) {
-        let doubt = match event {
-            Event::Escape => escape_doubt(window),
-            Event::LineComment => self.comment_doubt(at),
-        };
-        if let Some(doubt) = doubt {
+    fn escape(&mut self, at: usize, _code: Option<u32>, rest: &str) {
+        if let Some(doubt) = escape_doubt(rest.as_bytes()) {
             self.doubt(at, doubt);
+        }
+    }
+
+    fn comment(&mut self, at: usize, _comment: &str) {
+        let before = self.text.get(..at).unwrap_or(&[]);
+        if before.ends_with(b"http:") || before.ends_with(b"https:") {
+            self.found.add(at, Doubt::UnquotedAddress);
         }
     }
 }

@@ -8,13 +8,14 @@ use crate::language::Language;
 use crate::links::{has_units, is_bundle_key, is_misspelled, is_parent, leads_nowhere};
 use crate::messages::read_string;
 use crate::parent::Parent;
-use crate::path::{SHOWN_PATH, shortened, shown_name};
+use crate::path::shown_name;
 use crate::pattern::{PatternDoubt, PlacedDoubt};
 use crate::report::Settings;
 use crate::rule::Rule;
 use crate::text_tokens::TextTokens;
 use crate::unit_walk::UnitWalk;
 use crate::warning::Doubt;
+use rb_compare::{SHOWN_PATH, has_text, is_icu_key, push_shown, shortened};
 use rb_lexer::{Mark, Token};
 use rb_messages::{character_count, find_word};
 use rb_tree::{Entries, Kind, Node, Tree};
@@ -41,15 +42,9 @@ struct Level<'a> {
     is_deferred: bool,
 }
 
-/// Checks whether an item has text to translate. A locale inherits the others, such as numbers, from
-/// the root.
-fn is_translated(tree: &Tree) -> bool {
-    matches!(tree, Tree::String(_) | Tree::Array(_) | Tree::Table(_))
-}
-
-/// Checks whether a key is one of ICU's, such as `%%ALIAS`, which each bundle has for itself.
-fn is_icu_key(key: &[u8]) -> bool {
-    key.starts_with(b"%%")
+/// Checks whether an item has text to translate, or may have it in its entries.
+fn may_have_text(kind: Kind) -> bool {
+    has_text(kind) || kind == Kind::Table
 }
 
 /// Returns the characters of a token in ASCII, with `?` for each other one.
@@ -112,22 +107,13 @@ fn top_key<'a>(levels: &'a [Level<'_>]) -> &'a [u8] {
     }
 }
 
-/// Adds a key to a path, after a slash if it isn't the first one.
-fn add_key(heap: &mut Heap, path: &mut Vec<u8>, key: &[u8]) {
-    if !path.is_empty() {
-        heap.push(path, b'/');
-    }
-    let key = shortened(heap, key, SHOWN_PATH);
-    heap.extend(path, &key);
-}
-
 /// Adds the key or the index of a level to a path.
 fn add_segment(heap: &mut Heap, path: &mut Vec<u8>, segment: &Segment) {
     match segment {
         Segment::Bundle => {}
-        Segment::Key(key) => add_key(heap, path, key),
+        Segment::Key(key) => heap.note(push_shown(heap.alloc, path, key)),
         Segment::Index(index) => match format!(in heap.alloc; "{index}") {
-            Ok(index) => add_key(heap, path, index.as_bytes()),
+            Ok(index) => heap.note(push_shown(heap.alloc, path, index.as_bytes())),
             Err(_) => heap.fail(),
         },
     }
@@ -182,9 +168,9 @@ impl<'a, 'c> ValueSearch<'a, 'c> {
             add_segment(heap, &mut path, &level.segment);
         }
         if let Some(key) = entry {
-            add_key(heap, &mut path, key);
+            heap.note(push_shown(heap.alloc, &mut path, key));
         }
-        shortened(heap, &path, SHOWN_PATH)
+        heap.list(shortened(heap.alloc, &path, SHOWN_PATH))
     }
 
     /// Passes a difference on. Paths are built only of the first ones that aren't allowed.
@@ -211,7 +197,7 @@ impl<'a, 'c> ValueSearch<'a, 'c> {
         }
         for i in 0..root.len() {
             let key = root.key_at(i);
-            if tree.get(key).is_none() && is_translated(root.at(i)) && !is_icu_key(key) {
+            if tree.get(key).is_none() && may_have_text(root.at(i).kind()) && !is_icu_key(key) {
                 self.report(first, Some(key), Change::Absent);
             }
         }

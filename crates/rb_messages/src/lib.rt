@@ -19,6 +19,7 @@ mod plurals;
 mod scan;
 mod skip;
 mod units;
+mod uses;
 mod words;
 
 pub use blanks::{Edge, other_blanks};
@@ -29,7 +30,8 @@ pub use fault::{MessageError, MessageFault};
 pub use mark::{Mark, MarkKind, marks_lacking};
 pub use open::DEPTH_LIMIT;
 pub use parser::MessageParser;
-pub use part::{Argument, ArgumentType, Part, Span};
+pub use part::{Argument, ArgumentType, Part, Span, ValueKind};
 pub use pattern::{PatternFault, date_fault, number_fault};
 pub use scan::marks_of;
+pub use uses::{Named, Use, Uses};
 pub use words::{character_count, find_word};

@@ -50,6 +50,39 @@ impl ArgumentType {
     }
 }
 
+/// The values that an argument can have.
+#[derive(Clone, Copy, PartialEq, Eq)]
+pub enum ValueKind {
+    Any,
+    Number,
+    Date,
+    Text,
+}
+
+impl ValueKind {
+    pub fn of(of_type: ArgumentType) -> ValueKind {
+        match of_type {
+            ArgumentType::Any => ValueKind::Any,
+            ArgumentType::Date | ArgumentType::Time => ValueKind::Date,
+            ArgumentType::Select => ValueKind::Text,
+            _ => ValueKind::Number,
+        }
+    }
+
+    /// Returns this kind, or a later use's if this one says nothing.
+    pub fn or(self, later: ValueKind) -> ValueKind {
+        match self {
+            ValueKind::Any => later,
+            _ => self,
+        }
+    }
+
+    /// Checks whether no value is of both kinds.
+    pub fn is_other(self, other: ValueKind) -> bool {
+        self != other && self != ValueKind::Any && other != ValueKind::Any
+    }
+}
+
 /// An argument's name or number, its type, and its style, if it has one without messages. A style that
 /// begins with `::` is a skeleton.
 #[derive(Clone, Copy)]

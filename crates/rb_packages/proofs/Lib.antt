@@ -1,3 +1,4 @@
+pub mod Clones
 pub mod Drafts
 pub mod Filled
 pub mod Lists

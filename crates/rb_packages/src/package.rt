@@ -45,6 +45,17 @@ impl Model for Package {
     ghost invariant = { λ p. p.bytes ≡ min (bytes_of p.bundles.entries) (2 ^ 64 - 1) };
 }
 
+impl Clone for Package {
+    ghost is_clone = { λ p q. q.entries ≡ p.entries };
+
+    fn clone(&self) -> Result<Package, AllocError> {
+        Ok(Package {
+            bundles: self.bundles.clone()?,
+            bytes: self.bytes,
+        })
+    }
+}
+
 /// Returns the total length after a change of bundles whose total length was `bytes`: files of this
 /// length have gone, and others have come. Only a saturated sum is computed anew.
 fn bytes_after(bundles: &Bundles, bytes: u64, gone: u64, come: u64) -> u64

@@ -57,6 +57,18 @@ impl Model for Packages {
     ghost invariant = { λ p. AllHaveBundles (files_by_app p.owned.entries) };
 }
 
+/// A clone has the same bundles: it takes time for each of them, and copies no file.
+impl Clone for Packages {
+    ghost is_clone = { λ p q. q ≡ p };
+
+    fn clone(&self) -> Result<Packages, AllocError> {
+        Ok(Packages {
+            icudata: self.icudata.clone()?,
+            owned: self.owned.clone()?,
+        })
+    }
+}
+
 impl Packages {
     /// Creates packages without bundles; `state` seeds their hashes. Allocates nothing.
     pub fn new(alloc: Global, state: RandomState) -> Packages

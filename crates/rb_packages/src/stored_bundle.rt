@@ -9,6 +9,7 @@ ghost use Rattle.rb_packages.specs.inner.Names.{names_nothing};
 use crate::lent::{LentItem, below};
 use rb_validator::Bundle;
 use rb_views::{Item, RootPlace, root, root_at, root_place};
+use std::alloc::AllocError;
 use std::marker::Model;
 
 /// A bundle, and what each lookup needs of it: where its root is, whether it has no fallback, and
@@ -35,6 +36,20 @@ impl Model for StoredBundle {
     ghost view = { λ h. h.bundle };
 
     ghost invariant = { λ h. IsStoredBundle h.bundle h.header h.root_word h.no_fallback h.lacks_names };
+}
+
+impl Clone for StoredBundle {
+    ghost is_clone = { λ b c. c ≡ b };
+
+    fn clone(&self) -> Result<StoredBundle, AllocError> {
+        Ok(StoredBundle {
+            bundle: self.bundle.clone()?,
+            root_word: self.root_word,
+            header: self.header,
+            no_fallback: self.no_fallback,
+            lacks_names: self.lacks_names,
+        })
+    }
 }
 
 /// Checks that a table has neither `%%ALIAS` nor `%%Parent`.

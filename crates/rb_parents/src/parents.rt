@@ -14,13 +14,25 @@ use crate::child::child_of_kind;
 use crate::fault::ParentsFault;
 use rb_locales::Name;
 use rb_tree::{Kind, Node, Tree};
-use std::alloc::Global;
+use std::alloc::{AllocError, Global};
 use std::collections::BTreeMap;
 
 /// The explicit parents of names, which a trail prefers to shorter names.
 #[derive(Drop)]
 pub struct Parents {
     by_child: BTreeMap<Name, Name>,
+}
+
+impl Clone for Parents {
+    ghost use Rattle.rb_parents.specs.Family.{family_pairs};
+
+    ghost is_clone = { λ p q. family_pairs q ≡ family_pairs p };
+
+    fn clone(&self) -> Result<Parents, AllocError> {
+        Ok(Parents {
+            by_child: self.by_child.clone()?,
+        })
+    }
 }
 
 impl Parents {

@@ -3,7 +3,7 @@ use crate::fault::SettingsFault;
 use crate::names::whole_name;
 use crate::settings::Settings;
 use rb_asked::Configured;
-use rb_console::{Console, StartError, cannot_read_on, not_started_on, read_file};
+use rb_console::{Console, StartError, allocated, cannot_read_on, not_started_on, read_file};
 use std::alloc::{AllocError, Global};
 use std::process::ExitCode;
 use std::rt::Files;
@@ -120,18 +120,11 @@ fn read_project<R: Files + AllocGlobal + Eprint>(
     name: &str,
     rules: &[&'static str],
 ) -> Result<Project, ExitCode> {
-    let text = match read_file(rt, name) {
-        Ok(text) => text,
-        Err(error) => return Err(cannot_read_on(rt, console, name, "", error)),
-    };
-    let settings = match Settings::read(rt.alloc(), &text, rules) {
-        Ok(settings) => settings,
-        Err(fault) => return Err(refuse(rt, console, name, fault)),
-    };
-    match project_of(rt, settings, name) {
-        Ok(project) => Ok(project),
-        Err(_) => Err(not_started_on(rt, console, StartError::Memory)),
-    }
+    let text = read_file(rt, name).map_err(|error| cannot_read_on(rt, console, name, "", error))?;
+    let settings = Settings::read(rt.alloc(), &text, rules).map_err(|fault| refuse(
+        rt, console, name, fault,
+    ))?;
+    allocated(rt, console, project_of(rt, settings, name))
 }
 
 /// Reads the settings file that the words choose, or else the nearest one upward. Without one, all
@@ -151,8 +144,5 @@ pub fn open_project<R: Files + AllocGlobal + Eprint>(
         Ok(None) => project_of(rt, Settings::none(rt.alloc()), ""),
         Err(error) => Err(error),
     };
-    match project {
-        Ok(project) => Ok(project),
-        Err(_) => Err(not_started_on(rt, console, StartError::Memory)),
-    }
+    allocated(rt, console, project)
 }

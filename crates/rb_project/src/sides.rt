@@ -2,7 +2,7 @@
 use crate::modules::Modules;
 use crate::project::{Project, open_project};
 use rb_asked::Configured;
-use rb_console::{Console, StartError, not_started_on};
+use rb_console::{Console, allocated};
 use std::alloc::{AllocError, Global};
 use std::process::ExitCode;
 use std::rt::Files;
@@ -71,12 +71,6 @@ pub fn sides_of<R: Files + AllocGlobal + Eprint>(
         file: words.file,
         is_none: words.is_none || is_plain,
     };
-    let project = match open_project(rt, console, words, &[]) {
-        Ok(project) => project,
-        Err(status) => return Err(status),
-    };
-    match both_of(rt, &project, (old, new)) {
-        Ok(sides) => Ok(sides),
-        Err(_) => Err(not_started_on(rt, console, StartError::Memory)),
-    }
+    let project = open_project(rt, console, words, &[])?;
+    allocated(rt, console, both_of(rt, &project, (old, new)))
 }

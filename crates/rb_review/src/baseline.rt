@@ -1,5 +1,5 @@
 //! The old warnings of a project, which aren't reported again.
-use rb_console::{Console, JsonText, StartError, cannot_read_on, not_started_on, read_file};
+use rb_console::{Console, JsonText, allocated, cannot_read_on, read_file};
 use rb_lint::{Finding, Rule};
 use rb_project::Project;
 use std::alloc::{AllocError, Global};
@@ -80,17 +80,16 @@ impl Baseline {
         let Some(name) = project.settings.section("lint").text("baseline") else {
             return Ok(Baseline::none(alloc));
         };
-        let Ok(name) = project.opened(alloc, name) else {
-            return Err(not_started_on(rt, console, StartError::Memory));
-        };
-        let lines = match read_file(rt, name.as_str()) {
-            Ok(lines) => lines,
-            Err(error) => return Err(cannot_read_on(rt, console, name.as_str(), "", error)),
-        };
-        match Baseline::of(alloc, str::from_utf8(&lines).unwrap_or("")) {
-            Ok(baseline) => Ok(baseline),
-            Err(_) => Err(not_started_on(rt, console, StartError::Memory)),
-        }
+        let name = allocated(rt, console, project.opened(alloc, name))?;
+        let lines = read_file(rt, name.as_str()).map_err(|error| cannot_read_on(
+            rt,
+            console,
+            name.as_str(),
+            "",
+            error,
+        ))?;
+        let lines = str::from_utf8(&lines).unwrap_or("");
+        allocated(rt, console, Baseline::of(alloc, lines))
     }
 
     /// Checks whether a warning of a file is old, and counts it as met.

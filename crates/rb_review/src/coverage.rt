@@ -3,13 +3,13 @@ use crate::coverage_output::{CoverageFormat, Printed, name_at, put_head};
 use crate::data::read_data;
 use rb_asked::AskedCoverage;
 use rb_console::{
-    CommandError, Console, Form, Given, StartError, all_given, finish, folder_of, not_started_on,
-    printed, read_given, refused_on,
+    CommandError, Console, Form, Given, StartError, all_given, allocated, finish, folder_of,
+    not_started_on, printed, read_given, refused_on, started,
 };
 use rb_coverage::{Counts, Coverage, CoverageFault, Found, ProjectData};
 use rb_locales::Name;
 use rb_parser::{Source, parse};
-use rb_project::{Modules, Project, Section, Text, names_of, open_project, texts_of};
+use rb_project::{Modules, Project, Section, names_of, open_project, texts_of};
 use rb_tree::Tree;
 use std::alloc::{AllocError, Global};
 use std::io;
@@ -74,10 +74,7 @@ fn read_source<'a, R: Files + AllocGlobal>(
     rt: &R,
     file: &'a str,
 ) -> Result<Source, CommandError<'a>> {
-    let text = match read_given(rt, file) {
-        Ok(text) => text,
-        Err(error) => return Err(error),
-    };
+    let text = read_given(rt, file)?;
     match parse(rt.alloc(), &text) {
         Ok(source) => Ok(source),
         Err(fault) => Err(CommandError::TextRefused(file, fault)),
@@ -95,10 +92,7 @@ pub(crate) fn read_module<'a, R: Files + AllocGlobal>(
         let Some(bundle) = bundles.get(i) else {
             break;
         };
-        let source = match read_source(rt, bundle.file) {
-            Ok(source) => source,
-            Err(error) => return Err(error),
-        };
+        let source = read_source(rt, bundle.file)?;
         if trees
             .push((bundle.name, source.tree, source.no_fallback))
             .is_err()
@@ -276,31 +270,6 @@ fn cover_each<R: Files + AllocGlobal + Print + Eprint>(
     status
 }
 
-/// Compares bundles that are in the order of folders and names.
-fn cover_modules<R: Files + AllocGlobal + Print + Eprint>(
-    rt: &R,
-    console: Console,
-    (format, least): (CoverageFormat, u64),
-    data: &ProjectData,
-    bundles: &[Given<'_>],
-) -> ExitCode {
-    let Ok(modules) = modules_of(rt.alloc(), bundles) else {
-        return not_started_on(rt, console, StartError::Memory);
-    };
-    if let Err(error) = put_head(rt, format) {
-        return printed(rt, Err(error));
-    }
-    let common = Common {
-        console,
-        format,
-        data,
-        bundles,
-        has_modules: modules.len() > 1,
-        least,
-    };
-    cover_each(rt, common, &modules)
-}
-
 /// Returns the bundles of a command line in the order of folders and names.
 pub(crate) fn ordered_bundles<'a>(
     alloc: Global,
@@ -323,61 +292,37 @@ fn parents_section(project: &Project) -> Section<'_> {
     }
 }
 
-/// Compares bundles with the data of the settings, or reports why these can't be read.
-fn cover_bundles<R: Files + AllocGlobal + Print + Eprint>(
-    rt: &R,
-    console: Console,
-    format: CoverageFormat,
-    asked: &AskedCoverage<'_>,
-    project: &Project,
-    bundles: &[Given<'_>],
-) -> ExitCode {
-    let least = project
-        .settings
-        .section("coverage")
-        .number("complete")
-        .unwrap_or(0);
-    match read_data(
-        rt,
-        console,
-        project,
-        asked.parents,
-        parents_section(project),
-    ) {
-        Ok(data) => cover_modules(rt, console, (format, least), &data, bundles),
-        Err(status) => status,
-    }
-}
-
-/// Compares the bundles of a command in a project.
+/// Finds the texts of a command, and compares their bundles in the order of folders and names.
+/// Returns the status of the command also if something can't be read or is refused, once that is
+/// reported.
 fn cover_project<R: Files + AllocGlobal + Print + Eprint>(
     rt: &R,
     console: Console,
     format: CoverageFormat,
     asked: &AskedCoverage<'_>,
     project: &Project,
-    texts: &[Text],
-) -> Result<ExitCode, AllocError> {
-    let names = names_of(rt.alloc(), texts)?;
-    match ordered_bundles(rt.alloc(), &names) {
-        Ok(bundles) => Ok(cover_bundles(rt, console, format, asked, project, &bundles)),
-        Err(error) => Ok(not_started_on(rt, console, error)),
+) -> Result<ExitCode, ExitCode> {
+    let alloc = rt.alloc();
+    let modules = allocated(rt, console, Modules::of(alloc, project))?;
+    let texts = texts_of(rt, console, &modules, &asked.texts)?;
+    let names = allocated(rt, console, names_of(alloc, &texts))?;
+    let bundles = started(rt, console, ordered_bundles(alloc, &names))?;
+    let section = parents_section(project);
+    let data = read_data(rt, console, project, asked.parents, section)?;
+    let modules = allocated(rt, console, modules_of(alloc, &bundles))?;
+    if let Err(error) = put_head(rt, format) {
+        return Err(printed(rt, Err(error)));
     }
-}
-
-/// Finds the texts of a command, and compares their bundles.
-fn cover_texts<R: Files + AllocGlobal + Print + Eprint>(
-    rt: &R,
-    console: Console,
-    format: CoverageFormat,
-    asked: &AskedCoverage<'_>,
-    project: &Project,
-) -> Result<ExitCode, AllocError> {
-    let modules = Modules::of(rt.alloc(), project)?;
-    match texts_of(rt, console, &modules, &asked.texts) {
-        Ok(texts) => cover_project(rt, console, format, asked, project, &texts),
-        Err(status) => Ok(status),
-    }
+    let section = project.settings.section("coverage");
+    let common = Common {
+        console,
+        format,
+        data: &data,
+        bundles: &bundles,
+        has_modules: modules.len() > 1,
+        least: section.number("complete").unwrap_or(0),
+    };
+    Ok(cover_each(rt, common, &modules))
 }
 
 /// Compares the locales of bundle texts with what they inherit, and prints what they lack and how
@@ -403,8 +348,7 @@ pub fn cover_all<R: Files + AllocGlobal + Print + Eprint>(
         Ok(project) => project,
         Err(status) => return status,
     };
-    match cover_texts(rt, console, format, asked, &project) {
-        Ok(status) => status,
-        Err(_) => not_started_on(rt, console, StartError::Memory),
+    match cover_project(rt, console, format, asked, &project) {
+        Ok(status) | Err(status) => status,
     }
 }

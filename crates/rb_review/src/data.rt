@@ -2,8 +2,8 @@
 use crate::coverage::{Module, ordered_bundles, read_module, second_file};
 use rb_asked::ParentsSource;
 use rb_console::{
-    Console, Given, StartError, cannot_read_on, finish, in_folder, is_folder, is_text,
-    not_started_on, parents_of, read_names, refused_on, stem,
+    Console, Given, StartError, allocated, cannot_read_on, finish, in_folder, is_folder, is_text,
+    parents_of, read_names, refused_on, started, stem,
 };
 use rb_coverage::ProjectData;
 use rb_locales::Name;
@@ -49,17 +49,16 @@ fn read_parents<R: Files + AllocGlobal + Eprint>(
     asked: Option<ParentsSource<'_>>,
     section: Section<'_>,
 ) -> Result<Parents, ExitCode> {
-    let Ok(file) = opened_name(rt.alloc(), project, section, "parents") else {
-        return Err(not_started_on(rt, console, StartError::Memory));
-    };
+    let file = allocated(
+        rt,
+        console,
+        opened_name(rt.alloc(), project, section, "parents"),
+    )?;
     let source = match asked {
         Some(source) => Some(source),
         None => settings_source(section, file.as_str()),
     };
-    match parents_of(rt, source) {
-        Ok(parents) => Ok(parents),
-        Err(error) => Err(not_started_on(rt, console, error)),
-    }
+    started(rt, console, parents_of(rt, source))
 }
 
 /// Checks whether a file's name is that of a locale's text.
@@ -130,14 +129,9 @@ fn read_icudata<R: Files + AllocGlobal + Eprint>(
     if name.is_empty() {
         return Ok(Vec::new(rt.alloc()));
     }
-    let files = match data_files(rt, name) {
-        Ok(files) => files,
-        Err(error) => return Err(cannot_read_on(rt, console, name, "", error)),
-    };
-    match data_bundles(rt.alloc(), &files) {
-        Ok(bundles) => read_bundles(rt, console, &bundles),
-        Err(error) => Err(not_started_on(rt, console, error)),
-    }
+    let files = data_files(rt, name).map_err(|error| cannot_read_on(rt, console, name, "", error))?;
+    let bundles = started(rt, console, data_bundles(rt.alloc(), &files))?;
+    read_bundles(rt, console, &bundles)
 }
 
 /// Reads the explicit parents of a command line, or else those of a table of the settings, and the
@@ -152,9 +146,11 @@ pub(crate) fn read_data<R: Files + AllocGlobal + Eprint>(
 ) -> Result<ProjectData, ExitCode> {
     let parents = read_parents(rt, console, project, asked, section)?;
     let data = project.settings.section("data");
-    let Ok(name) = opened_name(rt.alloc(), project, data, "icudata") else {
-        return Err(not_started_on(rt, console, StartError::Memory));
-    };
+    let name = allocated(
+        rt,
+        console,
+        opened_name(rt.alloc(), project, data, "icudata"),
+    )?;
     let bundles = read_icudata(rt, console, name.as_str())?;
     Ok(ProjectData::new(parents, bundles))
 }

@@ -31,10 +31,22 @@ pub(crate) fn is_one(patterns: &[&str], name: &str) -> bool {
         .any(|pattern| matches(pattern.as_bytes(), name.as_bytes()))
 }
 
-/// Checks whether a table of the settings is for a text of this name.
-pub(crate) fn is_for(alloc: Global, section: Section<'_>, name: &str) -> Result<bool, AllocError> {
-    let files = section.texts(alloc, "files")?;
-    Ok(files.is_empty() || is_one(&files, name))
+/// Returns the tables of the settings with a name that are for a text.
+pub(crate) fn sections_for<'a>(
+    alloc: Global,
+    project: &'a Project,
+    table: &str,
+    name: &str,
+) -> Result<Vec<Section<'a>>, AllocError> {
+    let relative = project.relative(alloc, name)?;
+    let mut sections = Vec::new(alloc);
+    for section in project.settings.sections(alloc, table)? {
+        let files = section.texts(alloc, "files")?;
+        if files.is_empty() || is_one(&files, relative.as_str()) {
+            sections.push(section)?;
+        }
+    }
+    Ok(sections)
 }
 
 /// Returns the path of a finding, or an empty one if paths aren't known.
@@ -104,16 +116,8 @@ impl<'a> LeftOut<'a> {
         Ok(())
     }
 
-    /// Adds what is allowed in a text of this name.
-    fn add_allowance(
-        &mut self,
-        alloc: Global,
-        section: Section<'a>,
-        name: &str,
-    ) -> Result<(), AllocError> {
-        if !is_for(alloc, section, name)? {
-            return Ok(());
-        }
+    /// Adds what a table allows.
+    fn add_allowance(&mut self, alloc: Global, section: Section<'a>) -> Result<(), AllocError> {
         let paths = section.texts(alloc, "paths")?;
         if paths.is_empty() {
             self.levels.allowed = with_texts(alloc, self.levels.allowed, section, "warnings")?;
@@ -121,20 +125,6 @@ impl<'a> LeftOut<'a> {
         }
         let rules = with_texts(alloc, RuleSet::none(), section, "warnings")?;
         self.add_filter(paths, rules, false)
-    }
-
-    /// Adds what the tables of the settings allow in a text.
-    fn add_allowances(
-        &mut self,
-        alloc: Global,
-        project: &'a Project,
-        name: &str,
-    ) -> Result<(), AllocError> {
-        let relative = project.relative(alloc, name)?;
-        for section in project.settings.sections(alloc, "allow")? {
-            self.add_allowance(alloc, section, relative.as_str())?;
-        }
-        Ok(())
     }
 
     /// Adds the paths of a module that aren't messages.
@@ -162,7 +152,9 @@ impl<'a> LeftOut<'a> {
             levels,
             filters: Vec::new(alloc),
         };
-        left_out.add_allowances(alloc, modules.project, name)?;
+        for section in sections_for(alloc, modules.project, "allow", name)? {
+            left_out.add_allowance(alloc, section)?;
+        }
         if let Some(module) = modules.of_text(alloc, name)? {
             left_out.add_messages(alloc, module.section, ("messages", true))?;
             left_out.add_messages(alloc, module.section, ("no-messages", false))?;

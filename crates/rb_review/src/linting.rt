@@ -9,7 +9,7 @@ use crate::snippet::Lines;
 use crate::string_limits::StringLimits;
 use rb_asked::AskedLint;
 use rb_console::{
-    Console, StartError, cannot_read_on, not_started_on, printed, read_file, read_text, refused_on,
+    CommandError, Console, allocated, failed, finish, printed, read_file, read_text, refused_on,
     stem,
 };
 use rb_coverage::ProjectData;
@@ -18,7 +18,7 @@ use rb_lint::{
     lengths_in,
 };
 use rb_parser::parse;
-use rb_project::{Modules, Project, Text, open_project, root_of, texts_of};
+use rb_project::{Modules, Text, open_project, root_of, texts_of};
 use rb_tree::Tree;
 use std::alloc::{AllocError, Global};
 use std::io;
@@ -62,7 +62,13 @@ impl LastRoot {
         name: &str,
     ) -> Result<(), AllocError> {
         self.name = String::from_str(rt.alloc(), name)?;
-        self.root = read_root_text(rt, console, name);
+        self.root = match read_root_text(rt, name) {
+            Ok(root) => Some(root),
+            Err(error) => {
+                let _ = finish(rt, console, error);
+                None
+            }
+        };
         self.same = match &self.root {
             Some(root) => SameTexts::read(rt, modules, texts, (name, &root.tree))?,
             None => SameTexts::none(rt.alloc()),
@@ -358,8 +364,8 @@ impl<'a> Linter<'a> {
         let bytes = match read_text(rt, file) {
             Ok(bytes) => bytes,
             Err(error) => {
-                let _ = cannot_read_on(rt, self.output.console, name, ":0", error);
-                return ExitCode::from(1);
+                let error = CommandError::Unread(name, ":0", error.kind());
+                return failed(rt, self.output.console, error);
             }
         };
         let Ok(beside) = self.prepare_root(rt, name, texts) else {
@@ -442,43 +448,19 @@ fn text_status<R: Eprint>(
     }
 }
 
-/// Returns the root's text that was parsed, or reports that memory ran out.
-fn root_text<R: AllocGlobal + Eprint>(
+/// Reads the root's text.
+fn read_root_text<'a, R: Files + AllocGlobal>(
     rt: &R,
-    console: Console,
-    (name, text): (&str, &[u8]),
-    tree: Tree,
-) -> Option<RootText> {
-    match lengths_in(rt.alloc(), text) {
-        Ok(lengths) => Some(RootText { tree, lengths }),
-        Err(_) => {
-            let _ = refused_on(rt, console, name, "Memory");
-            None
-        }
-    }
-}
-
-/// Reads the root's text, or reports the error.
-fn read_root_text<R: Files + AllocGlobal + Eprint>(
-    rt: &R,
-    console: Console,
-    name: &str,
-) -> Option<RootText> {
-    let text = match read_file(rt, name) {
-        Ok(text) => text,
-        Err(error) => {
-            let _ = cannot_read_on(rt, console, name, ":0", error);
-            return None;
-        }
-    };
-    match parse(rt.alloc(), &text) {
-        Ok(source) => root_text(rt, console, (name, &text), source.tree),
-        Err(fault) => {
-            let word = fault.kind.word();
-            let (name, line, hint) = (console.on_stderr(name), fault.line, console.hint(word));
-            let _ = eprintln!(rt; "{name}:{line}: {word}{hint}");
-            None
-        }
+    name: &'a str,
+) -> Result<RootText, CommandError<'a>> {
+    let text = read_file(rt, name).map_err(|error| CommandError::Unread(name, ":0", error.kind()))?;
+    let source = parse(rt.alloc(), &text).map_err(|fault| CommandError::TextRefused(name, fault))?;
+    match lengths_in(rt.alloc(), &text) {
+        Ok(lengths) => Ok(RootText {
+            tree: source.tree,
+            lengths,
+        }),
+        Err(_) => Err(CommandError::Refused(name, "Memory")),
     }
 }
 
@@ -489,12 +471,12 @@ fn read_named<R: Files + AllocGlobal + Eprint>(
     console: Console,
     name: Option<&str>,
 ) -> Result<Option<RootText>, ExitCode> {
-    let Some(name) = name else {
-        return Ok(None);
-    };
-    match read_root_text(rt, console, name) {
-        Some(root) => Ok(Some(root)),
-        None => Err(ExitCode::from(1)),
+    match name {
+        Some(name) => match read_root_text(rt, name) {
+            Ok(root) => Ok(Some(root)),
+            Err(error) => Err(failed(rt, console, error)),
+        },
+        None => Ok(None),
     }
 }
 
@@ -518,61 +500,30 @@ fn lint_beside<R: Files + Input + AllocGlobal + Print + Eprint>(
     Ok(linter.lint_texts(rt, &texts))
 }
 
-/// Reads the data of the settings and the root's text of the command line, and prints the findings
-/// of all texts. Returns the status of the command also if something can't be read or is refused,
-/// once that is reported.
-fn lint_modules<R: Files + Input + AllocGlobal + Print + Eprint>(
+/// Opens the project of a command, reads the data of its settings and the root's text of the command
+/// line, and prints the findings of all texts. Returns the status of the command also if something
+/// can't be read or is refused, once that is reported.
+fn lint_project<R: Files + Input + AllocGlobal + Print + Eprint>(
     rt: &R,
     output: LintOutput,
     levels: Levels,
     asked: &AskedLint<'_>,
-    modules: &Modules<'_>,
 ) -> Result<ExitCode, ExitCode> {
-    let section = modules.project.settings.section("data");
-    let data = read_data(rt, output.console, modules.project, None, section)?;
-    let named = read_named(rt, output.console, asked.root)?;
+    let (alloc, console) = (rt.alloc(), output.console);
+    let rules = allocated(rt, console, rule_names(alloc))?;
+    let project = open_project(rt, console, asked.config, &rules)?;
+    let levels = allocated(rt, console, with_settings(alloc, levels, &project))?;
+    let modules = allocated(rt, console, Modules::of(alloc, &project))?;
+    let section = project.settings.section("data");
+    let data = read_data(rt, console, &project, None, section)?;
+    let named = read_named(rt, console, asked.root)?;
     let common = Common {
         levels,
         asked,
-        modules,
+        modules: &modules,
         data: &data,
     };
     lint_beside(rt, output, common, named)
-}
-
-/// Reads the settings and the modules of a project, and prints the findings.
-fn lint_with<R: Files + Input + AllocGlobal + Print + Eprint>(
-    rt: &R,
-    output: LintOutput,
-    levels: Levels,
-    asked: &AskedLint<'_>,
-    project: &Project,
-) -> Result<ExitCode, AllocError> {
-    let levels = with_settings(rt.alloc(), levels, project)?;
-    let modules = Modules::of(rt.alloc(), project)?;
-    Ok(match lint_modules(rt, output, levels, asked, &modules) {
-        Ok(status) | Err(status) => status,
-    })
-}
-
-/// Opens the project of a command, and prints the findings, or reports why it can't be opened.
-fn lint_settings<R: Files + Input + AllocGlobal + Print + Eprint>(
-    rt: &R,
-    output: LintOutput,
-    levels: Levels,
-    asked: &AskedLint<'_>,
-) -> ExitCode {
-    let Ok(rules) = rule_names(rt.alloc()) else {
-        return not_started_on(rt, output.console, StartError::Memory);
-    };
-    let project = match open_project(rt, output.console, asked.config, &rules) {
-        Ok(project) => project,
-        Err(status) => return status,
-    };
-    match lint_with(rt, output, levels, asked, &project) {
-        Ok(status) => status,
-        Err(_) => not_started_on(rt, output.console, StartError::Memory),
-    }
 }
 
 /// Prints the names of all rules, each with what it warns of.
@@ -616,7 +567,9 @@ pub fn lint_all<R: Files + Input + AllocGlobal + Print + Eprint>(
     match levels_of(rt, console, asked) {
         Some(levels) => {
             let output = LintOutput::new(format, console, has_colors);
-            lint_settings(rt, output, levels, asked)
+            match lint_project(rt, output, levels, asked) {
+                Ok(status) | Err(status) => status,
+            }
         }
         None => ExitCode::from(2),
     }

@@ -1,7 +1,7 @@
 //! The words that the strings of a text may not have, and their greatest lengths.
-use crate::left_out::{is_for, is_one, path_at, places_of};
+use crate::left_out::{is_one, path_at, places_of, sections_for};
 use rb_lint::{Finding, Message, PathLength, PatternDoubt, paths_at};
-use rb_project::{Modules, Project, Section};
+use rb_project::{Modules, Section};
 use std::alloc::{AllocError, Global};
 
 /// The greatest length of strings at some paths, or at all if there are none.
@@ -59,36 +59,6 @@ impl<'a> StringLimits<'a> {
         Ok(())
     }
 
-    /// Adds the words of the tables for a text of this name.
-    fn add_forbidden(
-        &mut self,
-        alloc: Global,
-        project: &'a Project,
-        name: &str,
-    ) -> Result<(), AllocError> {
-        for section in project.settings.sections(alloc, "forbid")? {
-            if is_for(alloc, section, name)? {
-                self.add_words(alloc, section)?;
-            }
-        }
-        Ok(())
-    }
-
-    /// Adds the limits of the tables for a text of this name.
-    fn add_limits(
-        &mut self,
-        alloc: Global,
-        project: &'a Project,
-        name: &str,
-    ) -> Result<(), AllocError> {
-        for section in project.settings.sections(alloc, "limit")? {
-            if is_for(alloc, section, name)? {
-                self.add_limit(alloc, section)?;
-            }
-        }
-        Ok(())
-    }
-
     /// Returns the limits of a text's strings, given those of its comments.
     pub(crate) fn of(
         alloc: Global,
@@ -101,9 +71,12 @@ impl<'a> StringLimits<'a> {
             limits: Vec::new(alloc),
             lengths,
         };
-        let relative = modules.project.relative(alloc, name)?;
-        limits.add_forbidden(alloc, modules.project, relative.as_str())?;
-        limits.add_limits(alloc, modules.project, relative.as_str())?;
+        for section in sections_for(alloc, modules.project, "forbid", name)? {
+            limits.add_words(alloc, section)?;
+        }
+        for section in sections_for(alloc, modules.project, "limit", name)? {
+            limits.add_limit(alloc, section)?;
+        }
         Ok(limits)
     }
 

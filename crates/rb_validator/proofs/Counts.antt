@@ -27,7 +27,7 @@ count_marked P cells (suc n) f g = elim (cases_eq (get_or cells n 0) 0) [
   | inr m ↦ inl (f n m, (marked cells n, rw (ne_eqb (get_or cells n 0) 0 m) refl, count_marked P cells n f g))
 ]
 
-inner_count : (body : List ℕ) (k : ItemKind) (o i : ℕ) → i < child_count body k o → has_children k ≡ true
+pub inner_count : (body : List ℕ) (k : ItemKind) (o i : ℕ) → i < child_count body k o → has_children k ≡ true
 inner_count body String o i h = absurd (omega arith)
 inner_count body Binary o i h = absurd (omega arith)
 inner_count body Table o i h = refl

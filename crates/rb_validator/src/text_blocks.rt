@@ -9,7 +9,8 @@ use crate::body::Body;
 use rb_format::{ItemKind, half_at, word_at};
 use std::alloc::{AllocError, Global};
 
-const BLOCK: usize = 1024;
+/// The half words of a block.
+pub const BLOCK: usize = 1024;
 
 pub fn is_long_alias(body: Body<'_>, kind: ItemKind, offset: u32) -> bool
     requires room { 4 * body.layout.now.top ≤ length body.bytes.now }

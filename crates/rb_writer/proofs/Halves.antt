@@ -10,7 +10,7 @@ all_fit [] h = refl
 all_fit (n ∷ ns) h = let low : n < 65536 = h 0 0 (omega arith) in
     rw (lt-ltb n 65536 low) (all_fit ns (λ k d g. h (suc k) d (omega arith)))
 
-first_fits : (n : ℕ) (ns : List ℕ) → are_halves (n ∷ ns) ≡ true → (n < 65536) × (are_halves ns ≡ true)
+pub first_fits : (n : ℕ) (ns : List ℕ) → are_halves (n ∷ ns) ≡ true → (n < 65536) × (are_halves ns ≡ true)
 first_fits n ns e =
     elim (cases_lt n 65536) [
       | inl low ↦ (low, rw (lt-ltb n 65536 low) at e)

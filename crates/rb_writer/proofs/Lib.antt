@@ -14,6 +14,7 @@ pub mod Placing
 pub mod Keyloop
 pub mod Gathered
 pub mod Longer
+pub mod Counting
 pub mod Weighing
 pub mod Room
 pub mod Bytes

@@ -1,3 +1,4 @@
+pub mod Containers
 pub mod Longest
 pub mod Header
 pub mod Bytes

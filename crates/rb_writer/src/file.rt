@@ -11,6 +11,7 @@ ghost use Rattle.rb_writer.specs.Header as specified;
 ghost use Rattle.rb_writer.specs.Written as written;
 ghost use Rattle.rb_writer.specs.inner.Collected.{GathersKeys};
 ghost use Rattle.rb_writer.specs.inner.Whole.{IsFile, IsIndexed, SetsWord};
+ghost use Rattle.rb_writer.specs.Containers.{containers};
 ghost use Rattle.rb_writer.specs.Longest.{longest};
 ghost use Rattle.rb_writer.specs.Written.{IsFileOf, IsWriterFile};
 
@@ -131,27 +132,45 @@ pub fn write(alloc: Global, tree: &Tree, no_fallback: bool) -> Result<Vec<u8>, A
     Ok(file)
 }
 
+/// A file that was written, and what a bundle of it needs to know.
+#[derive(Drop)]
+pub struct Written {
+    pub file: Vec<u8>,
+    /// The number of arrays and tables with data. None of them is shared.
+    pub containers: u32,
+    /// The number of units in the longest alias, or 0.
+    pub longest_alias: usize,
+}
+
 /// Writes a tree of unknown weight, like `write`, or returns `None` if it weighs more than
 /// 33,554,432. The walk that gathers the keys also weighs the tree, which saves the walk of `fits`.
 ///
 /// ```rust
-/// let file = write_if_light(alloc, &source.tree, source.no_fallback)?;
+/// let written = write_if_light(alloc, &source.tree, source.no_fallback)?;
 /// ```
 pub fn write_if_light(
     alloc: Global,
     tree: &Tree,
     no_fallback: bool,
-) -> Result<Option<Vec<u8>>, AllocError>
+) -> Result<Option<Written>, AllocError>
     requires table { kind_of (view_of tree.now) ≡ Kinds.Table }
     requires low { height (view_of tree.now) ≤ 64 }
     ensures fits { IfOk result (λ found. IsSome found ↔ Fits (view_of tree.now)) }
     ensures file { IfOk result
-        (λ found. IfSome found (λ f. IsFileOf (view_of tree.now) no_fallback f.items)) }
+        (λ found. IfSome found (λ w. IsFileOf (view_of tree.now) no_fallback w.file.items)) }
+    ensures containers { IfOk result
+        (λ found. IfSome found (λ w. w.containers ≡ containers (view_of tree.now))) }
 {
     let gathered = gather(alloc, tree)?;
     if gathered.weight > WEIGHT_LIMIT {
         return Ok(None);
     }
+    let containers = gathered.containers as u32;
+    let longest_alias = gathered.longest_alias;
     let file = write_gathered(alloc, tree, gathered, no_fallback)?;
-    Ok(Some(file))
+    Ok(Some(Written {
+        file,
+        containers,
+        longest_alias,
+    }))
 }

@@ -1,6 +1,7 @@
 ghost use Rattle.std.specs.Prelude.{◌≡◌, ◌+◌, ◌-◌, ◌^◌, OnOk, IfOk, IsTrue, [], length, max, min};
 ghost use Rattle.rb_tree.specs.Resource.{weight};
 ghost use Rattle.rb_tree.specs.View.{view_of};
+ghost use Rattle.rb_writer.specs.Containers.{containers};
 ghost use Rattle.rb_writer.specs.Longest.{longest};
 ghost use Rattle.rb_writer.specs.inner.Collected.{Has, Gains, Gathers, GathersKeys};
 
@@ -24,6 +25,10 @@ pub struct Gathered<'a> {
     pub order: Vec<u32>,
     /// The number of entries in the longest table, or 0.
     pub longest: usize,
+    /// The number of units in the longest alias, or 0.
+    pub longest_alias: usize,
+    /// The number of arrays and tables that have items, saturating.
+    pub containers: u64,
     /// The weight of the visited nodes, saturating. It is computed in the walk that gathers the
     /// keys because a large tree doesn't fit in a processor's cache.
     pub weight: u64,
@@ -42,12 +47,15 @@ impl<'a> Gathered<'a> {
     pub fn new(alloc: Global) -> Result<Gathered<'a>, AllocError>
         ensures keys { IfOk result (λ g. g.keys.items ≡ []) }
         ensures longest { IfOk result (λ g. g.longest ≡ 0) }
+        ensures containers { IfOk result (λ g. g.containers ≡ 0) }
         ensures weight { IfOk result (λ g. g.weight ≡ 0) }
     {
         Ok(Gathered {
             keys: Vec::new(alloc),
             order: Vec::new(alloc),
             longest: 0,
+            longest_alias: 0,
+            containers: 0,
             weight: 0,
             slots: vec![in alloc; 0_u32; SLOTS as usize]?,
         })
@@ -65,6 +73,7 @@ impl<'a> Gathered<'a> {
     fn insert(&mut self, key: &'a [u8]) -> Result<u32, AllocError>
         ensures keys { OnOk result (Gains key.now self.old.keys.items self.new.keys.items) }
         ensures longest { self.new.longest ≡ self.old.longest }
+        ensures containers { self.new.containers ≡ self.old.containers }
         ensures weight { self.new.weight ≡ self.old.weight }
     {
         let id = u32::try_from(self.keys.len()).unwrap_or(u32::MAX);
@@ -77,6 +86,7 @@ impl<'a> Gathered<'a> {
     fn place_of(&mut self, key: &'a [u8]) -> Result<u32, AllocError>
         ensures keys { OnOk result (Gains key.now self.old.keys.items self.new.keys.items) }
         ensures longest { self.new.longest ≡ self.old.longest }
+        ensures containers { self.new.containers ≡ self.old.containers }
         ensures weight { self.new.weight ≡ self.old.weight }
     {
         let slot = slot_of(key);
@@ -98,15 +108,28 @@ impl<'a> Gathered<'a> {
     fn weigh(&mut self, more: u64)
         ensures keys { self.new.keys.items ≡ self.old.keys.items }
         ensures longest { self.new.longest ≡ self.old.longest }
+        ensures containers { self.new.containers ≡ self.old.containers }
         ensures weight { self.new.weight ≡ min (self.old.weight + more) (2 ^ 64 - 1) }
     {
         self.weight = self.weight.saturating_add(more);
+    }
+
+    /// Counts an array or a table of this many items.
+    fn count(&mut self, len: usize)
+        ensures keys { self.new.keys.items ≡ self.old.keys.items }
+        ensures longest { self.new.longest ≡ self.old.longest }
+        ensures containers { self.new.containers
+            ≡ min (self.old.containers + min 1 len) (2 ^ 64 - 1) }
+        ensures weight { self.new.weight ≡ self.old.weight }
+    {
+        self.containers = self.containers.saturating_add(len.min(1) as u64);
     }
 
     /// Adds the weight of an entry without its value.
     fn weigh_key(&mut self, key: &[u8])
         ensures keys { self.new.keys.items ≡ self.old.keys.items }
         ensures longest { self.new.longest ≡ self.old.longest }
+        ensures containers { self.new.containers ≡ self.old.containers }
         ensures weight { self.new.weight ≡ min (self.old.weight + (9 + length key.now)) (2 ^ 64 - 1) }
     {
         self.weigh((key.len() as u64).saturating_add(9));
@@ -115,6 +138,7 @@ impl<'a> Gathered<'a> {
     fn add(&mut self, key: &'a [u8]) -> Result<(), AllocError>
         ensures keys { OnOk result (Gains key.now self.old.keys.items self.new.keys.items) }
         ensures longest { self.new.longest ≡ self.old.longest }
+        ensures containers { self.new.containers ≡ self.old.containers }
         ensures weight { self.new.weight ≡ self.old.weight }
     {
         let id = self.place_of(key)?;
@@ -128,6 +152,8 @@ impl<'a> Gathered<'a> {
 pub fn gather(alloc: Global, tree: &Tree) -> Result<Gathered<'_>, AllocError>
     ensures keys { IfOk result (λ g. GathersKeys (view_of tree.now) g.keys.items) }
     ensures longest { IfOk result (λ g. g.longest ≡ longest (view_of tree.now)) }
+    ensures containers { IfOk result
+        (λ g. g.containers ≡ min (containers (view_of tree.now)) (2 ^ 64 - 1)) }
     ensures weight { IfOk result (λ g. g.weight ≡ min (weight (view_of tree.now)) (2 ^ 64 - 1)) }
 {
     let mut gathered = Gathered::new(alloc)?;
@@ -141,11 +167,14 @@ fn collect_keys<'a>(tree: &'a Tree, gathered: &mut Gathered<'a>) -> Result<(), A
         (Gathers (view_of tree.now) gathered.old.keys.items gathered.new.keys.items) }
     ensures longest { OnOk result
         (gathered.new.longest ≡ max gathered.old.longest (longest (view_of tree.now))) }
+    ensures containers { OnOk result (gathered.new.containers
+        ≡ min (gathered.old.containers + containers (view_of tree.now)) (2 ^ 64 - 1)) }
     ensures weight { OnOk result (gathered.new.weight
         ≡ min (gathered.old.weight + weight (view_of tree.now)) (2 ^ 64 - 1)) }
 {
     match tree {
         Tree::Array(trees) => {
+            gathered.count(trees.len());
             gathered.weigh(4);
             for i in 0..trees.len() {
                 gathered.weigh(4);
@@ -154,6 +183,7 @@ fn collect_keys<'a>(tree: &'a Tree, gathered: &mut Gathered<'a>) -> Result<(), A
         }
         Tree::Table(entries) => {
             gathered.longest = gathered.longest.max(entries.len());
+            gathered.count(entries.len());
             gathered.weigh(8);
             for i in 0..entries.len() {
                 gathered.weigh_key(entries.key_at(i));
@@ -162,6 +192,10 @@ fn collect_keys<'a>(tree: &'a Tree, gathered: &mut Gathered<'a>) -> Result<(), A
             for j in 0..entries.len() {
                 gathered.add(entries.key_at(j))?;
             }
+        }
+        Tree::Alias(units) => {
+            gathered.longest_alias = gathered.longest_alias.max(units.as_slice().len());
+            gathered.weigh(tree.weight());
         }
         _ => gathered.weigh(tree.weight()),
     }

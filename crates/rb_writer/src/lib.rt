@@ -17,4 +17,4 @@ mod spare;
 mod table;
 mod tree;
 
-pub use file::{write, write_if_light};
+pub use file::{Written, write, write_if_light};

@@ -4,6 +4,7 @@ pub mod Findings
 pub mod FoundItems
 pub mod LooksBelow
 pub mod Named
+pub mod Nodes
 pub mod OpenAliases
 pub mod Releasing
 pub mod Shown

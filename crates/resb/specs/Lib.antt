@@ -16,6 +16,7 @@ pub mod Open
 pub mod Origins
 pub mod Prepared
 pub mod Releases
+pub mod Snapshots
 pub mod Start
 pub mod Texts
 pub mod Usage

@@ -1,5 +1,5 @@
 -- Defines what a lookup answers in C (kinds: `UResType` of ICU's `ures.h`), a rule of this project.
-use Rattle.std.specs.Prelude.{◌≡◌, ℕ, Bool, List, Option, MatchOption, unwrap_or}
+use Rattle.std.specs.Prelude.{◌≡◌, ℕ, Bool, List, Option, Some, MatchOption, unwrap_or}
 use Rattle.std.specs.Prelude.{encode_utf8_all}
 use Rattle.std.specs.Char.Utf16.{utf16_lossy_chars}
 use Rattle.rb_tree.specs.Parts.{kind_of, len_of}
@@ -11,7 +11,7 @@ use Rattle.rb_engine.specs.Ask.{Looks}
 use Rattle.rb_engine.specs.Answer.{Response, Replies, Finds, Refuses, answer_over}
 use Rattle.rb_engine.specs.Kept.{Kept, state_of}
 use Rattle.rb_engine.specs.Place.{place_of}
-use Rattle.rb_engine.specs.Steps.{takes_more}
+use Rattle.rb_engine.specs.Steps.{exceeds}
 use Rattle.resb.specs.Copied.{CopiesBytes}
 use Rattle.resb.specs.Numbers.{look_number}
 
@@ -19,9 +19,12 @@ use Rattle.resb.specs.Numbers.{look_number}
 abbrev pub answer_in : Kept → List ℕ → List ℕ → List ℕ → Response
 answer_in engine app locale path = answer_over (state_of engine).start ((state_of engine).lists app) (Looks app locale path)
 
--- whether the lookup takes more than this many steps
+-- whether the lookup takes more steps than a limit; `None` is no limit
+abbrev pub exceeds_in : Kept → Option ℕ → List ℕ → List ℕ → List ℕ → Bool
+exceeds_in engine left app locale path = exceeds left (state_of engine).start ((state_of engine).lists app) (place_of app locale) path
+
 abbrev pub takes_more_in : Kept → ℕ → List ℕ → List ℕ → List ℕ → Bool
-takes_more_in engine steps app locale path = takes_more steps (state_of engine).start ((state_of engine).lists app) (place_of app locale) path
+takes_more_in engine steps app locale path = exceeds_in engine (Some steps) app locale path
 
 -- the number of a lookup's error; or what holds of the item that it finds, and of the first name on the locale's trail
 abbrev pub IfFound : Response → ℕ → (Hit → List ℕ → Type 0) → Type 0

@@ -26,6 +26,7 @@ pub mod open_locales;
 pub mod origins;
 pub mod prepared;
 pub mod releases;
+pub mod snapshots;
 mod start;
 mod text;
 pub mod usage;

@@ -1,12 +1,12 @@
 ghost use Rattle.std.specs.Prelude.{◌≡◌, ◌≢◌, ◌≤◌, IfNone, IfSome, length, take, true, false};
 ghost use Rattle.rb_views.specs.Seen.{units_seen};
 ghost use Rattle.rb_handle.specs.Stored.{engine_of};
-ghost use Rattle.resb.specs.Looks.{answer_in, takes_more_in, Describes, Copies};
+ghost use Rattle.resb.specs.Looks.{answer_in, exceeds_in, takes_more_in, Describes, Copies};
 
 use crate::found::Found;
 use crate::held::take;
 use crate::numbers::{CLOSED, NO_ROOM, OTHER_KIND, TOO_MANY_STEPS, look_number};
-use rb_engine::Engine;
+use rb_engine::{Engine, TooManySteps};
 use rb_handle::Handle;
 use rb_views::Units;
 use std::alloc::Global;
@@ -21,7 +21,8 @@ pub(crate) fn keep_open(engine: &mut Arc<Engine>, app: &[u8], locale: &[u8])
     }
 }
 
-fn look_in(engine: &Engine, app: &[u8], locale: &[u8], path: &[u8], found: &mut Found) -> u32
+fn look_unlimited(engine: &Engine, app: &[u8], locale: &[u8], path: &[u8], found: &mut Found) -> u32
+    ensures few { result ≢ 30 }
     ensures answer { Describes (answer_in engine.now app.now locale.now path.now) result
         found.new.kind found.new.count found.new.number }
     ensures unchanged { result ≢ 0 → found.new ≡ found.old }
@@ -33,75 +34,6 @@ fn look_in(engine: &Engine, app: &[u8], locale: &[u8], path: &[u8], found: &mut 
         }
         Err(fault) => look_number(fault),
     }
-}
-
-/// Looks up like `look_in` if the engine keeps the locale open under just these names.
-fn look_kept_in(
-    engine: &Engine,
-    app: &[u8],
-    locale: &[u8],
-    path: &[u8],
-    found: &mut Found,
-) -> Option<u32>
-    ensures answer { IfSome result (λ number. Describes
-        (answer_in engine.now app.now locale.now path.now) number
-        found.new.kind found.new.count found.new.number) }
-    ensures unchanged { IfSome result (λ number. number ≢ 0 → found.new ≡ found.old) }
-    ensures none { IfNone result (found.new ≡ found.old) }
-{
-    match engine.find_kept(app, locale, path) {
-        Some(Ok(item)) => {
-            *found = Found::of(item);
-            Some(0)
-        }
-        Some(Err(fault)) => Some(look_number(fault)),
-        None => None,
-    }
-}
-
-/// Looks up from the locale that the engine keeps open, or keeps it open first.
-fn look_keeping(
-    engine: &mut Arc<Engine>,
-    app: &[u8],
-    locale: &[u8],
-    path: &[u8],
-    found: &mut Found,
-) -> u32
-    ensures stays { engine.new.value ≡ engine.old.value }
-    ensures answer { Describes (answer_in engine.old.value app.now locale.now path.now) result
-        found.new.kind found.new.count found.new.number }
-    ensures unchanged { result ≢ 0 → found.new ≡ found.old }
-{
-    if let Some(number) = look_kept_in(engine, app, locale, path, found) {
-        return number;
-    }
-    keep_open(engine, app, locale);
-    look_in(engine, app, locale, path, found)
-}
-
-/// Looks up the item at a path from a locale, and describes it.
-#[unsafe(no_mangle)]
-pub extern "C" fn resb_look(
-    alloc: Global,
-    handle: &mut Handle,
-    app: &[u8],
-    locale: &[u8],
-    path: &[u8],
-    found: &mut Found,
-) -> u32
-    ensures stays { engine_of handle.new ≡ engine_of handle.old }
-    ensures answer { IfSome (engine_of handle.old) (λ e. Describes
-        (answer_in e app.now locale.now path.now) result
-        found.new.kind found.new.count found.new.number) }
-    ensures unchanged { result ≢ 0 → found.new ≡ found.old }
-    ensures closed { IfNone (engine_of handle.old) (result ≡ 2) }
-{
-    let Some(mut engine) = take(alloc, handle) else {
-        return CLOSED;
-    };
-    let result = look_keeping(&mut engine, app, locale, path, found);
-    *handle = Handle::of(engine);
-    result
 }
 
 fn look_within(
@@ -130,6 +62,108 @@ fn look_within(
     }
 }
 
+/// Looks up by names, in at most `left` steps; `None` is no limit.
+fn look_in(
+    engine: &Engine,
+    app: &[u8],
+    locale: &[u8],
+    path: &[u8],
+    left: Option<u64>,
+    found: &mut Found,
+) -> u32
+    ensures more { result ≡ 30 → exceeds_in engine.now left app.now locale.now path.now ≡ true }
+    ensures within { result ≢ 30
+        → exceeds_in engine.now left app.now locale.now path.now ≡ false }
+    ensures answer { result ≢ 30 → Describes (answer_in engine.now app.now locale.now path.now)
+        result found.new.kind found.new.count found.new.number }
+    ensures unchanged { result ≢ 0 → found.new ≡ found.old }
+{
+    match left {
+        Some(steps) => look_within(engine, app, locale, path, steps, found),
+        None => look_unlimited(engine, app, locale, path, found),
+    }
+}
+
+/// Looks up like `look_in` if the engine keeps the locale open under just these names.
+fn look_kept_in(
+    engine: &Engine,
+    app: &[u8],
+    locale: &[u8],
+    path: &[u8],
+    left: Option<u64>,
+    found: &mut Found,
+) -> Option<u32>
+    ensures within { IfSome result (λ number. number ≢ 30
+        → exceeds_in engine.now left app.now locale.now path.now ≡ false) }
+    ensures more { IfSome result (λ number. number ≡ 30
+        → exceeds_in engine.now left app.now locale.now path.now ≡ true) }
+    ensures answer { IfSome result (λ number. number ≢ 30 → Describes
+        (answer_in engine.now app.now locale.now path.now) number
+        found.new.kind found.new.count found.new.number) }
+    ensures unchanged { IfSome result (λ number. number ≢ 0 → found.new ≡ found.old) }
+    ensures none { IfNone result (found.new ≡ found.old) }
+{
+    match engine.find_kept(app, locale, path, left)? {
+        Ok(Ok(item)) => {
+            *found = Found::of(item);
+            Some(0)
+        }
+        Ok(Err(fault)) => Some(look_number(fault)),
+        Err(TooManySteps) => Some(TOO_MANY_STEPS),
+    }
+}
+
+/// Looks up from the locale that the engine keeps open, or keeps it open first.
+fn look_keeping(
+    engine: &mut Arc<Engine>,
+    app: &[u8],
+    locale: &[u8],
+    path: &[u8],
+    left: Option<u64>,
+    found: &mut Found,
+) -> u32
+    ensures stays { engine.new.value ≡ engine.old.value }
+    ensures within { result ≢ 30
+        → exceeds_in engine.old.value left app.now locale.now path.now ≡ false }
+    ensures more { result ≡ 30
+        → exceeds_in engine.old.value left app.now locale.now path.now ≡ true }
+    ensures answer { result ≢ 30
+        → Describes (answer_in engine.old.value app.now locale.now path.now) result
+        found.new.kind found.new.count found.new.number }
+    ensures unchanged { result ≢ 0 → found.new ≡ found.old }
+{
+    if let Some(number) = look_kept_in(engine, app, locale, path, left, found) {
+        return number;
+    }
+    keep_open(engine, app, locale);
+    look_in(engine, app, locale, path, left, found)
+}
+
+/// Looks up the item at a path from a locale, and describes it.
+#[unsafe(no_mangle)]
+pub extern "C" fn resb_look(
+    alloc: Global,
+    handle: &mut Handle,
+    app: &[u8],
+    locale: &[u8],
+    path: &[u8],
+    found: &mut Found,
+) -> u32
+    ensures stays { engine_of handle.new ≡ engine_of handle.old }
+    ensures answer { IfSome (engine_of handle.old) (λ e. Describes
+        (answer_in e app.now locale.now path.now) result
+        found.new.kind found.new.count found.new.number) }
+    ensures unchanged { result ≢ 0 → found.new ≡ found.old }
+    ensures closed { IfNone (engine_of handle.old) (result ≡ 2) }
+{
+    let Some(mut engine) = take(alloc, handle) else {
+        return CLOSED;
+    };
+    let result = look_keeping(&mut engine, app, locale, path, None, found);
+    *handle = Handle::of(engine);
+    result
+}
+
 /// Looks up like `resb_look`, or returns the number of `TooManySteps` if the lookup takes more than
 /// this many steps.
 #[unsafe(no_mangle)]
@@ -153,10 +187,10 @@ pub extern "C" fn resb_look_within(
     ensures unchanged { result ≢ 0 → found.new ≡ found.old }
     ensures closed { IfNone (engine_of handle.old) (result ≡ 2) }
 {
-    let Some(engine) = take(alloc, handle) else {
+    let Some(mut engine) = take(alloc, handle) else {
         return CLOSED;
     };
-    let result = look_within(&engine, app, locale, path, steps, found);
+    let result = look_keeping(&mut engine, app, locale, path, Some(steps), found);
     *handle = Handle::of(engine);
     result
 }

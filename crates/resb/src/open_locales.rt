@@ -3,7 +3,7 @@ ghost use Rattle.std.specs.Prelude.{◌≡◌, ◌≢◌, ℕ, List, IfNone, IfS
 ghost use Rattle.rb_engine.specs.OpenLocale.{CountsNames, IsOpenLocale};
 ghost use Rattle.rb_engine.specs.Version.{is_current};
 ghost use Rattle.rb_handle.specs.Stored.{engine_of};
-ghost use Rattle.resb.specs.Looks.{answer_in, takes_more_in, Describes};
+ghost use Rattle.resb.specs.Looks.{answer_in, exceeds_in, takes_more_in, Describes};
 ghost use Rattle.resb.specs.OpenLocales.{RefusesWith};
 
 use crate::found::Found;
@@ -59,22 +59,39 @@ pub extern "C" fn resb_open_locale(
     result
 }
 
-fn look_at(engine: &Engine, opened: &OpenLocale, path: &[u8], found: &mut Found) -> u32
+/// Looks up from an open locale, in at most `left` steps; `None` is no limit.
+fn look_at(
+    engine: &Engine,
+    opened: &OpenLocale,
+    path: &[u8],
+    left: Option<u64>,
+    found: &mut Found,
+) -> u32
     ensures stale { result ≡ 8 → is_current opened.now.version engine.now.version ≡ false }
     ensures current { result ≢ 8 → is_current opened.now.version engine.now.version ≡ true }
-    ensures answer { result ≢ 8 → (app locale : List ℕ)
+    ensures within { result ≢ 8 → result ≢ 30 → (app locale : List ℕ)
         → IsOpenLocale opened.now engine.now app locale
+        → IfSome left (λ _. CountsNames opened.now engine.now app locale)
+        → exceeds_in engine.now left app locale path.now ≡ false }
+    ensures more { result ≡ 30 → (app locale : List ℕ)
+        → IsOpenLocale opened.now engine.now app locale
+        → IfSome left (λ _. CountsNames opened.now engine.now app locale)
+        → exceeds_in engine.now left app locale path.now ≡ true }
+    ensures answer { result ≢ 8 → result ≢ 30 → (app locale : List ℕ)
+        → IsOpenLocale opened.now engine.now app locale
+        → IfSome left (λ _. CountsNames opened.now engine.now app locale)
         → Describes (answer_in engine.now app locale path.now) result
         found.new.kind found.new.count found.new.number }
     ensures unchanged { result ≢ 0 → found.new ≡ found.old }
 {
-    match engine.find_at(opened, path) {
-        Ok(Ok(item)) => {
+    match engine.find_at(opened, path, left) {
+        Ok(Ok(Ok(item))) => {
             *found = Found::of(item);
             0
         }
-        Ok(Err(fault)) => look_number(fault),
-        Err(_) => STALE,
+        Ok(Ok(Err(fault))) => look_number(fault),
+        Ok(Err(TooManySteps)) => TOO_MANY_STEPS,
+        Err(Stale) => STALE,
     }
 }
 
@@ -103,44 +120,9 @@ pub extern "C" fn resb_look_at(
     let Some(engine) = take(alloc, handle) else {
         return CLOSED;
     };
-    let result = look_at(&engine, opened, path, found);
+    let result = look_at(&engine, opened, path, None, found);
     *handle = Handle::of(engine);
     result
-}
-
-fn look_at_within(
-    engine: &Engine,
-    opened: &OpenLocale,
-    path: &[u8],
-    steps: u64,
-    found: &mut Found,
-) -> u32
-    ensures stale { result ≡ 8 → is_current opened.now.version engine.now.version ≡ false }
-    ensures current { result ≢ 8 → is_current opened.now.version engine.now.version ≡ true }
-    ensures within { result ≢ 8 → result ≢ 30 → (app locale : List ℕ)
-        → IsOpenLocale opened.now engine.now app locale
-        → CountsNames opened.now engine.now app locale
-        → takes_more_in engine.now steps app locale path.now ≡ false }
-    ensures more { result ≡ 30 → (app locale : List ℕ)
-        → IsOpenLocale opened.now engine.now app locale
-        → CountsNames opened.now engine.now app locale
-        → takes_more_in engine.now steps app locale path.now ≡ true }
-    ensures answer { result ≢ 8 → result ≢ 30 → (app locale : List ℕ)
-        → IsOpenLocale opened.now engine.now app locale
-        → CountsNames opened.now engine.now app locale
-        → Describes (answer_in engine.now app locale path.now) result
-        found.new.kind found.new.count found.new.number }
-    ensures unchanged { result ≢ 0 → found.new ≡ found.old }
-{
-    match engine.look_at_within(opened, path, steps) {
-        Ok(Ok(Ok(it))) => {
-            *found = Found::of(it.node);
-            0
-        }
-        Ok(Ok(Err(fault))) => look_number(fault),
-        Ok(Err(TooManySteps)) => TOO_MANY_STEPS,
-        Err(Stale) => STALE,
-    }
 }
 
 /// Looks up like `resb_look_within` from a locale that was opened before, or returns the number of
@@ -177,7 +159,7 @@ pub extern "C" fn resb_look_at_within(
     let Some(engine) = take(alloc, handle) else {
         return CLOSED;
     };
-    let result = look_at_within(&engine, opened, path, steps, found);
+    let result = look_at(&engine, opened, path, Some(steps), found);
     *handle = Handle::of(engine);
     result
 }

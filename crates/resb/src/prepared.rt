@@ -10,7 +10,7 @@ ghost use Rattle.resb.specs.Numbers.{IsFileError};
 ghost use Rattle.resb.specs.Prepared.{IsPayloadError, IsPrepared};
 
 use crate::numbers::{CLOSED, MEMORY, OPEN, file_number, text_number};
-use rb_engine::compile;
+use rb_compiler::compile_bundle;
 use rb_handle::BundleHandle;
 use rb_lexer::{SourceFault, SourceKind};
 use rb_validator::{Bundle, accept};
@@ -41,16 +41,15 @@ pub(crate) fn checked(alloc: Global, file: Vec<u8>) -> Result<Box<Bundle>, u32>
     }
 }
 
-/// Compiles a text. A compiled file is valid, so checking it fails only for memory.
 fn compiled(alloc: Global, text: &[u8]) -> Result<Box<Bundle>, SourceFault>
     ensures bundle { IfOk result (λ b. IsCompiled text.now b.value) }
     ensures refused { IfErr result (IsRefusal text.now) }
 {
-    let file = match compile(alloc, text) {
-        Ok(file) => file,
+    let bundle = match compile_bundle(alloc, text) {
+        Ok(bundle) => bundle,
         Err(fault) => return Err(fault),
     };
-    match checked(alloc, file) {
+    match Box::new(alloc, bundle) {
         Ok(bundle) => Ok(bundle),
         Err(_) => Err(SourceFault {
             kind: SourceKind::Memory,
@@ -114,12 +113,10 @@ pub extern "C" fn resb_prepare(
     }
 }
 
-/// Copies a bundle. Its file is valid, so checking the copy fails only for memory.
 fn copy_of(alloc: Global, bundle: &Bundle) -> Option<Box<Bundle>>
     ensures { IfSome result (λ b. b.value ≡ bundle.now) }
 {
-    let file = bundle.bytes().to_vec(alloc).ok()?;
-    checked(alloc, file).ok()
+    Box::new(alloc, bundle.clone().ok()?).ok()
 }
 
 fn copy_to(alloc: Global, bundle: &Bundle, other: &mut BundleHandle) -> u32
@@ -142,7 +139,7 @@ fn copy_to(alloc: Global, bundle: &Bundle, other: &mut BundleHandle) -> u32
     }
 }
 
-/// Copies the bundle of a handle to another handle, which has none.
+/// Makes another handle, which has no bundle, one more of the same bundle.
 #[unsafe(no_mangle)]
 pub extern "C" fn resb_copy_bundle(
     alloc: Global,

@@ -1,5 +1,7 @@
 //! Tests sources: the tokens that they give, and their faults.
-use rb_lexer::{Mark, SourceFault, SourceKind, Token, lex};
+use rb_lexer::{
+    Mark, PieceKind, SourceFault, SourceKind, TextPart, Token, first_part, first_piece, lex,
+};
 use std::alloc::Global;
 use std::test::Fail;
 
@@ -218,4 +220,29 @@ fn reads_texts_up_to_the_limit(rt: HostRuntime) -> Result<(), Fail> {
     spaces.push(b' ')?;
     assert!(rt; is_refused(rt.alloc(), &spaces, SourceKind::TooLong, 1));
     Ok(())
+}
+
+/// Checks whether a text begins with a piece of this kind, and this rest follows.
+fn begins_with(text: &str, kind: PieceKind, rest: &str) -> bool {
+    match first_piece(text) {
+        Some((first, after)) => first == kind && after == rest,
+        None => false,
+    }
+}
+
+#[test]
+fn splits_texts_with_errors(rt: HostRuntime) {
+    assert!(rt; begins_with("a\\c/b// c", PieceKind::Run, "// c"));
+    assert!(rt; begins_with("// c\u{2029}\n", PieceKind::LineComment, "\n"));
+    assert!(rt; begins_with("\"\\c\" \"", PieceKind::Quoted, " \""));
+    assert!(rt; begins_with("\"\\\" {", PieceKind::OpenQuote, ""));
+    assert!(rt; begins_with("/*/ a", PieceKind::OpenComment, ""));
+    assert!(rt;
+        matches!(
+            first_part("\\101a"),
+            Some((TextPart::Escape(Some(65)), "a"))
+        )
+    );
+    assert!(rt; matches!(first_part("\\cA"), Some((TextPart::Escape(None), "A"))));
+    assert!(rt; first_piece("").is_none());
 }

@@ -57,10 +57,6 @@ abbrev pub IsLevel : {N : Type 0} → (N → Resource) → Result (LevelResult N
 IsLevel tree (Ok h) path r head = IsLevelResult tree h path r head
 IsLevel tree (Err e) path r head = r ≡ Err e
 
--- some walk of the path ends as the program says
-abbrev pub IsSomeResult : {N : Type 0} → (N → Resource) → LevelResult N → List ℕ → Type 0
-IsSomeResult tree h path = (r : Result Decided LookError) × (head : Option (List ℕ)) × IsLevelResult tree h path r head
-
 -- an ending at an alias has an alias's node
 abbrev pub IsAliasAt : {N : Type 0} → (N → Resource) → Ending N → Type 0
 IsAliasAt tree (End n) = Unit {0}

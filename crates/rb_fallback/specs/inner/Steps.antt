@@ -1,17 +1,13 @@
 -- For proofs only: what the program says of one step of a search.
-use Rattle.std.specs.Prelude.{◌≡◌, ℕ, List, Bool, true, false, Result, Ok, Err}
+use Rattle.std.specs.Prelude.{◌≡◌, ℕ, List, Bool, true, false, Option, Result, Ok, Err}
 use Rattle.rb_tree.specs.Resource.{Resource}
 use Rattle.rb_tree.specs.Path.{segments, IsPath}
 use Rattle.rb_fallback.specs.Search.{Step, found, goes, is_long}
-use Rattle.rb_fallback.specs.Answers.{hit_of}
+use Rattle.rb_fallback.specs.inner.Reached.{hit_at}
 use Rattle.rb_fallback.specs.declared.fault.LookError.{LookError}
 use Rattle.rb_fallback.specs.declared.search.SearchState.{SearchState}
 use Rattle.rb_fallback.specs.declared.search.Outcome.{Outcome}
 use Rattle.rb_fallback.specs.declared.search.Outcome.TheVariants as outcome
-
--- a search continues in its own package, from a name and a path
-abbrev pub own_state : List ℕ → List ℕ → SearchState
-own_state n p = record { icudata = false; name = n; path = p }
 
 -- the search continues from a state
 pub record GoesOn (p : SearchState) (r : Result Step LookError) : Type 0 where
@@ -32,15 +28,9 @@ IsFollowed (Ok false) p r = GoesLong r
 IsFollowed (Err e) p r = r ≡ Err e
 
 -- what a level gives, and the state after it
-abbrev pub IsOutcome : {N : Type 0} → (N → Resource) → Result (Outcome N) LookError → SearchState
-    → Result Step LookError → Type 0
-IsOutcome tree (Ok (outcome.Found f)) p r = r ≡ Ok (found (hit_of tree f))
-IsOutcome tree (Ok outcome.Next) p r = GoesOn p r
-IsOutcome tree (Ok outcome.TooLong) p r = GoesLong r
-IsOutcome tree (Err e) p r = r ≡ Err e
-
--- an item that is found has this valid name
-abbrev pub IsFor : {N : Type 0} → List ℕ → Outcome N → Type 0
-IsFor valid (outcome.Found f) = f.valid ≡ valid
-IsFor valid outcome.Next = Unit {0}
-IsFor valid outcome.TooLong = Unit {0}
+abbrev pub IsOutcome : {N : Type 0} → (N → Resource) → (ℕ → Option (List ℕ × Resource)) → Result (Outcome N) LookError
+    → SearchState → Result Step LookError → Type 0
+IsOutcome tree stop (Ok (outcome.Found f)) p r = r ≡ Ok (found (hit_at tree stop f))
+IsOutcome tree stop (Ok outcome.Next) p r = GoesOn p r
+IsOutcome tree stop (Ok outcome.TooLong) p r = GoesLong r
+IsOutcome tree stop (Err e) p r = r ≡ Err e

@@ -154,6 +154,7 @@ pub struct resb_locale {
     pub count: usize,
     pub stops: [usize; 32],
     pub names: u8,
+    pub from_valid: u8,
 }
 
 extern "C" {
@@ -198,6 +199,12 @@ extern "C" {
     ) -> u32;
     pub fn resb_close(engine: *mut resb);
     pub fn resb_share(engine: *mut resb, other: *mut resb) -> u32;
+    pub fn resb_snapshot(
+        engine: *mut resb,
+        seed: *const u8,
+        seed_len: usize,
+        other: *mut resb,
+    ) -> u32;
     pub fn resb_install(
         engine: *mut resb,
         app: *const u8,

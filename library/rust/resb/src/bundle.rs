@@ -54,7 +54,8 @@ impl Bundle {
         Ok(bundle)
     }
 
-    /// Returns a copy, as for the release of a second engine. RESB_MEMORY.
+    /// Returns the bundle once more, as for the release of a second engine. It copies no bytes.
+    /// RESB_MEMORY.
     pub fn try_clone(&self) -> Result<Bundle, Error> {
         // SAFETY: the handles are in use by this call alone.
         Bundle::of(|handle, _| unsafe { sys::resb_copy_bundle(self.0.get(), handle) })

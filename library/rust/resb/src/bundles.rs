@@ -191,6 +191,16 @@ impl Bundles {
         Ok(other)
     }
 
+    /// Returns bundles of a new engine with the same bundles, which it shares: either changes
+    /// alone. RESB_MEMORY.
+    pub fn snapshot(&self) -> Result<Bundles, Error> {
+        let (other, seed) = (Bundles::closed(), seed());
+        // SAFETY: both handles are in use by this call alone, and the seed has 16 bytes.
+        let number = unsafe { sys::resb_snapshot(self.0.get(), seed.as_ptr(), 16, other.0.get()) };
+        result_of(number)?;
+        Ok(other)
+    }
+
     /// Installs a bundle of an application. Returns the errors of `resb_install`, after which
     /// nothing has changed.
     pub fn install(&mut self, app: &str, locale: &str, content: Content<'_>) -> Result<(), Error> {

@@ -85,6 +85,21 @@ fn changes_and_counts() {
 }
 
 #[test]
+fn changes_a_snapshot() {
+    let bundles = opened();
+    let reader = bundles.share().unwrap();
+    let german = bundles.text("shop", "de", "greeting").unwrap();
+    let here = reader.open_locale("shop", "de").unwrap();
+    let mut next = bundles.snapshot().unwrap();
+    let text = Content::Text("de{greeting{\"Tag\"}}");
+    next.replace("shop", "de", text).unwrap();
+    assert_eq!(reader.text("shop", "de", "greeting").unwrap(), german);
+    drop((bundles, reader));
+    assert_eq!(next.text("shop", "de", "greeting").unwrap(), "Tag");
+    assert_eq!(next.look_at(&here, ""), Err(error(sys::RESB_STALE)));
+}
+
+#[test]
 fn lists_children() {
     let mut bundles = opened();
     let text = "xx{a:alias{\"/LOCALE/b\"} b{\"c\"} l{\"d\",:int{-1}} t:table{}}";

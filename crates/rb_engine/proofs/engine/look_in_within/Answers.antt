@@ -1,4 +1,4 @@
-use Rattle.std.proofs.Common.{Result, Ok, Err, ap, ◌∙◌}
+use Rattle.std.proofs.Common.{Result, Ok, Err, ap, ◌∙◌, Some}
 use Rattle.rb_parents.specs.Family.{parent_of}
 use Rattle.rb_views.specs.Seen.{tree_seen}
 use Rattle.rb_views.specs.declared.item.Item.{Item}
@@ -17,7 +17,7 @@ pub returns-in-Ok-clause-within : goal.returns-in-Ok-clause-within
 returns-in-Ok-clause-within c =
     let w = rw c.in-Ok.is at c.look_within.ensures.answer in
     rw (← c.shelf_near-own.ensures.bundles, ← c.icu_shelf.ensures.bundles)
-    (found_within lent_tree tree_seen c.args.steps (bundles_lent c.shelf_near-own.result) (bundles_lent c.icu_shelf.result) (parent_of c.args.parents.now)
+    (found_within lent_tree tree_seen (Some c.args.steps) (bundles_lent c.shelf_near-own.result) (bundles_lent c.icu_shelf.result) (parent_of c.args.parents.now)
     c.args.place.now.name c.args.path.now c.in-Ok.found w)
 
 pub returns-in-Ok-clause-found : goal.returns-in-Ok-clause-found
@@ -30,14 +30,14 @@ returns-in-Ok-clause-found c =
     let bad = rw c.in-Ok.is at c.look_within.ensures.bad_path.1 in
     let valid = rw c.in-Ok.is at c.look_within.ensures.valid in
     rw (← c.shelf_near-own.ensures.bundles, ← c.icu_shelf.ensures.bundles)
-    (found_is lent_tree tree_seen c.args.steps (bundles_lent c.shelf_near-own.result) (bundles_lent c.icu_shelf.result) (parent_of c.args.parents.now)
+    (found_is lent_tree tree_seen (Some c.args.steps) (bundles_lent c.shelf_near-own.result) (bundles_lent c.icu_shelf.result) (parent_of c.args.parents.now)
     c.args.place.now.name c.args.path.now f m told bad w valid)
 
 pub returns-in-Err-Search-clause-within : goal.returns-in-Err-Search-clause-within
 returns-in-Err-Search-clause-within c =
     let w = rw (c.in-Err-Search.is, c.in-Err-Search.field-0-is) at c.look_within.ensures.answer in
     rw (← c.shelf_near-own.ensures.bundles, ← c.icu_shelf.ensures.bundles)
-    (fault_within lent_tree tree_seen c.args.steps (bundles_lent c.shelf_near-own.result) (bundles_lent c.icu_shelf.result) (parent_of c.args.parents.now)
+    (fault_within lent_tree tree_seen (Some c.args.steps) (bundles_lent c.shelf_near-own.result) (bundles_lent c.icu_shelf.result) (parent_of c.args.parents.now)
     c.args.place.now.name c.args.path.now c.in-Err-Search.error w)
 
 pub returns-in-Err-Search-clause-found : goal.returns-in-Err-Search-clause-found
@@ -48,7 +48,7 @@ returns-in-Err-Search-clause-found c =
     let w = rw (c.in-Err-Search.is, c.in-Err-Search.field-0-is) at c.look_within.ensures.answer in
     let bad = rw (c.in-Err-Search.is, c.in-Err-Search.field-0-is) at c.look_within.ensures.bad_path.1 in
     rw (← c.shelf_near-own.ensures.bundles, ← c.icu_shelf.ensures.bundles)
-    (fault_is lent_tree tree_seen c.args.steps (bundles_lent c.shelf_near-own.result) (bundles_lent c.icu_shelf.result) (parent_of c.args.parents.now)
+    (fault_is lent_tree tree_seen (Some c.args.steps) (bundles_lent c.shelf_near-own.result) (bundles_lent c.icu_shelf.result) (parent_of c.args.parents.now)
     c.args.place.now.name c.args.path.now e m told bad w)
 
 pub returns-in-Err-TooManySteps-clause-more : goal.returns-in-Err-TooManySteps-clause-more
@@ -56,5 +56,5 @@ returns-in-Err-TooManySteps-clause-more c =
     let w = rw (c.in-Err-TooManySteps.is, c.in-Err-TooManySteps.field-0-is) at c.look_within.ensures.answer in
     let bad = rw (c.in-Err-TooManySteps.is, c.in-Err-TooManySteps.field-0-is) at c.look_within.ensures.bad_path.1 in
     rw (← c.shelf_near-own.ensures.bundles, ← c.icu_shelf.ensures.bundles)
-    (more_steps lent_tree tree_seen c.args.steps (bundles_lent c.shelf_near-own.result) (bundles_lent c.icu_shelf.result) (parent_of c.args.parents.now)
+    (more_steps lent_tree tree_seen (Some c.args.steps) (bundles_lent c.shelf_near-own.result) (bundles_lent c.icu_shelf.result) (parent_of c.args.parents.now)
     c.args.place.now.name c.args.path.now bad w)

@@ -1,13 +1,12 @@
 use Rattle.std.proofs.Common.{◌≡◌, [], ap, sym, ◌∙◌, subst}
 use Rattle.rb_parents.specs.Family.{parent_of}
-use Rattle.rb_parents.specs.Trail.{stops, trail}
-use Rattle.rb_fallback.specs.Steps.{trail_length}
-use Rattle.rb_fallback.specs.Stops.{AreStopsOf}
+use Rattle.rb_parents.specs.Trail.{stops}
+use Rattle.rb_fallback.specs.Stops.{AreStopsOf, CountsTrail}
 use Rattle.rb_packages.specs.Lent.{files_in}
 use Rattle.rb_packages.specs.Packages.{Files, files_of, icudata_of, shelf_of}
 use Rattle.rb_packages.specs.Shelf.{bundle_at}
 use Rattle.rb_engine.specs.Answer.{Refuses, lookup_in}
-use Rattle.rb_engine.specs.OpenLocale.{opened_stop}
+use Rattle.rb_engine.specs.OpenLocale.{names_of, opened_stop}
 use Rattle.rb_engine.specs.declared.request.LookFault.TheVariants as fault
 use Rattle.rb_engine.proofs.Opening.{count_none, files_none, none_refused, opens, trail_refused}
 use Rattle.rb_engine.proofs.open_locale.open_at.Goals as goal
@@ -47,7 +46,7 @@ returns-in-Some-clause-names c =
     let ps = parent_of c.args.parents.now in
     let n = c.args.place.now.name in
     let same : files_in c.shelf-own.result ≡ files_of c.args.place.now.app c.args.packages.now = c.shelf-own.ensures.files in
-    subst (λ (fs : Files). c.in-Ok.opened.names ≡ trail_length (trail (bundle_at (shelf_of fs)) ps n)) same c.in-Ok.ensures.names
+    subst (λ (fs : Files). CountsTrail (names_of c.in-Ok.opened) (bundle_at (shelf_of fs)) ps n) same c.in-Ok.ensures.names
 
 pub returns-in-None-clause-refused : goal.returns-in-None-clause-refused
 returns-in-None-clause-refused c = λ path good short.

@@ -3,6 +3,7 @@ use Rattle.rb_parents.specs.Family.{parent_of}
 use Rattle.rb_parents.specs.Trail.{trail, trail_within}
 use Rattle.rb_parents.specs.declared.limits.TheConstants.{TRAIL_LIMIT}
 use Rattle.rb_parents.proofs.Trails.{all_begin}
+use Rattle.rb_fallback.proofs.SameStops.{from_stop}
 use Rattle.rb_packages.specs.Lent.{bundles_lent, files_in}
 use Rattle.rb_engine.specs.inner.Opening.{HasStops}
 use Rattle.rb_engine.proofs.open_locale.read_stops.Given as goal
@@ -16,3 +17,4 @@ invariant-loop-i l =
     × (length ns ≡ l.i)
     × (l.opened.count ≤ l.i)
     × (l.opened.version ≡ l.version)
+    × (l.opened.from_valid ≡ length (from_stop bundles ns))

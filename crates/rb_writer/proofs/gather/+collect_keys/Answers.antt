@@ -5,15 +5,30 @@ use Rattle.rb_tree.specs.View.{view_of}
 use Rattle.rb_tree.specs.Keys.{items, pairs}
 use Rattle.rb_writer.proofs.Collecting.{values_more, owned_none, owned_more, array_gathered, table_gathered}
 use Rattle.rb_writer.proofs.Gathered.{entry_key}
+use Rattle.rb_writer.proofs.Counting.{count_items, count_values, count_turned, count_end, one_of_items, one_of_pairs}
 use Rattle.rb_writer.proofs.Longer.{longest_turned, longest_end, longest_items, longest_values}
 use Rattle.rb_writer.proofs.Weighing.{weight_items, weight_turned, weight_pairs, pair_turned, pair_end}
 use Rattle.rb_writer.proofs.gather.+collect_keys.Goals as goal
 
 pub loop-i-init : goal.loop-i-init
-loop-i-init t c = record { keys = search rules; longest = omega (arith, longest_items c.in-Array.trees); high = search rules; weight = omega (arith, weight_items c.in-Array.trees, c.weigh.ensures.weight) }
+loop-i-init t c = record {
+  keys = search rules;
+  longest = omega (arith, longest_items c.in-Array.trees);
+  few = search rules;
+  containers = omega (arith, count_items c.in-Array.trees, one_of_items c.in-Array.trees, c.count.ensures.containers, c.len.ensures);
+  high = search rules;
+  weight = omega (arith, weight_items c.in-Array.trees, c.weigh.ensures.weight);
+}
 
 pub loop-i-2-init : goal.loop-i-2-init
-loop-i-2-init t c = record { keys = search rules; longest = omega (arith, longest_values c.in-Table.entries, c.len.ensures.value, c.max-gathered.ensures); high = search rules; weight = omega (arith, weight_pairs c.in-Table.entries) }
+loop-i-2-init t c = record {
+  keys = search rules;
+  longest = omega (arith, longest_values c.in-Table.entries, c.len-in-Table.ensures.value, c.max-gathered.ensures);
+  few = search rules;
+  containers = omega (arith, count_values c.in-Table.entries, one_of_pairs c.in-Table.entries, c.count-in-Table.ensures.containers, c.len-in-Table-2.ensures.value);
+  high = search rules;
+  weight = omega (arith, weight_pairs c.in-Table.entries);
+}
 
 pub loop-i-preserved : goal.loop-i-preserved
 loop-i-preserved t c = record {
@@ -21,6 +36,9 @@ loop-i-preserved t c = record {
       (rw c.weigh-in-loop-i.ensures.keys at c.in_ok-collect_keys-in-Array.ensures.keys);
   longest = longest_turned (items c.in-Array.trees) c.loop-i.i c.loop-i.gathered.longest _ (view_of c.at.result.now) _
       (rw c.weigh-in-loop-i.ensures.longest at c.in_ok-collect_keys-in-Array.ensures.longest) c.at.ensures c.loop-i.invariant.longest;
+  few = omega (arith, c.in_ok-collect_keys-in-Array.ensures.containers);
+  containers = count_turned (items c.in-Array.trees) c.loop-i.i c.loop-i.gathered.containers _ (view_of c.at.result.now) _
+      (rw c.weigh-in-loop-i.ensures.containers at c.in_ok-collect_keys-in-Array.ensures.containers) c.at.ensures c.loop-i.invariant.containers;
   high = omega (arith, c.in_ok-collect_keys-in-Array.ensures.weight);
   weight = weight_turned (items c.in-Array.trees) c.loop-i.i c.loop-i.gathered.weight _ _ (view_of c.at.result.now) _ (search rules)
       c.in_ok-collect_keys-in-Array.ensures.weight c.at.ensures c.loop-i.invariant.weight;
@@ -32,6 +50,9 @@ loop-i-2-preserved t c = record {
       c.at-in-loop-i-2.ensures (rw c.weigh_key.ensures.keys at c.in_ok-collect_keys-in-Table.ensures.keys);
   longest = longest_turned (values_of (pairs c.in-Table.entries)) c.loop-i-2.i c.loop-i-2.gathered.longest _ (view_of c.at-in-loop-i-2.result.now) _
       (rw c.weigh_key.ensures.longest at c.in_ok-collect_keys-in-Table.ensures.longest) c.at-in-loop-i-2.ensures c.loop-i-2.invariant.longest;
+  few = omega (arith, c.in_ok-collect_keys-in-Table.ensures.containers);
+  containers = count_turned (values_of (pairs c.in-Table.entries)) c.loop-i-2.i c.loop-i-2.gathered.containers _ (view_of c.at-in-loop-i-2.result.now) _
+      (rw c.weigh_key.ensures.containers at c.in_ok-collect_keys-in-Table.ensures.containers) c.at-in-loop-i-2.ensures c.loop-i-2.invariant.containers;
   high = omega (arith, c.in_ok-collect_keys-in-Table.ensures.weight);
   weight = pair_turned (pairs c.in-Table.entries) c.loop-i-2.i c.loop-i-2.gathered.weight _ _ c.key_at.result.now (view_of c.at-in-loop-i-2.result.now) _
       c.weigh_key.ensures.weight c.in_ok-collect_keys-in-Table.ensures.weight c.key_at.ensures c.at-in-loop-i-2.ensures c.loop-i-2.invariant.weight;
@@ -42,6 +63,8 @@ loop-j-init t c = record {
   keys = owned_none _ _ c.in-Table.entries c.loop-i-2.i c.loop-i-2.invariant.keys (search rules);
   longest = longest_end (values_of (pairs c.in-Table.entries)) c.loop-i-2.i c.loop-i-2.gathered.longest _ c.loop-i-2.invariant.longest
       (omega (arith, length-map (pairs c.in-Table.entries) (λ e. e.1), c.loop-i-2-test.false, c.len-i-end-in-Table.ensures.value));
+  containers = count_end (values_of (pairs c.in-Table.entries)) c.loop-i-2.i c.loop-i-2.gathered.containers _ c.loop-i-2.invariant.few
+      c.loop-i-2.invariant.containers (omega (arith, length-map (pairs c.in-Table.entries) (λ e. e.1), c.loop-i-2-test.false, c.len-i-end-in-Table.ensures.value));
   weight = pair_end (pairs c.in-Table.entries) c.loop-i-2.i c.loop-i-2.gathered.weight _ c.loop-i-2.invariant.high c.loop-i-2.invariant.weight
       (search rules);
 }
@@ -51,6 +74,7 @@ loop-j-preserved t c = record {
   keys = owned_more _ _ _ c.in-Table.entries c.loop-j.j c.key_at-in-loop-j.result.now c.loop-j.invariant.keys c.key_at-in-loop-j.ensures
       (entry_key c.in-Table.entries c.loop-j.j c.key_at-in-loop-j.result.now c.len-j-end.ensures.ordered c.key_at-in-loop-j.ensures) c.in_ok-add-in-Table.ensures.keys;
   longest = c.in_ok-add-in-Table.ensures.longest ∙ c.loop-j.invariant.longest;
+  containers = c.in_ok-add-in-Table.ensures.containers ∙ c.loop-j.invariant.containers;
   weight = c.in_ok-add-in-Table.ensures.weight ∙ c.loop-j.invariant.weight;
 }
 

@@ -1,6 +1,5 @@
 use Rattle.std.proofs.Common.{◌∙◌}
 use Rattle.rb_parents.specs.Family.{family_pairs}
-use Rattle.rb_views.specs.Seen.{tree_seen}
 use Rattle.rb_engine.specs.Answer.{Start}
 use Rattle.rb_engine.specs.Kept.{state_of}
 use Rattle.rb_engine.proofs.KeptOpen.{some_answered}

@@ -1,4 +1,4 @@
-use Rattle.std.proofs.Common.{◌≡◌, ℕ, List, Ok, sym, ◌∙◌, subst}
+use Rattle.std.proofs.Common.{◌≡◌, Ok, sym, ◌∙◌}
 use Rattle.rb_parents.specs.Family.{family_pairs, parent_of}
 use Rattle.rb_views.specs.Seen.{tree_seen}
 use Rattle.rb_engine.specs.Place.{place_of}

@@ -1,4 +1,4 @@
-use Rattle.std.proofs.Common.{◌≡◌, Ok, sym, ◌∙◌}
+use Rattle.std.proofs.Common.{◌≡◌, Ok, sym, ◌∙◌, Some}
 use Rattle.std.proofs.lemmas.Result.{on_ok_weaker, on_err_weaker, IfOk-weaker}
 use Rattle.rb_parents.specs.Family.{family_pairs}
 use Rattle.rb_engine.specs.Place.{place_of}
@@ -22,7 +22,7 @@ returns-in-Ok-clause-within c =
     let start : Start = (state_of (record { packages = c.self.inside.packages; parents = family_pairs c.self.inside.parents; version = c.self.inside.versions.latest })).start in
     rw (← c.self.view_is)
     (on_ok_weaker c.look_in_within.result
-    (λ e. sym (takes_at_place c.args.steps start c.args.app.now c.args.locale.now c.args.path.now c.in-Ok.place c.self.inside.packages h) ∙ e)
+    (λ e. sym (takes_at_place (Some c.args.steps) start c.args.app.now c.args.locale.now c.args.path.now c.in-Ok.place c.self.inside.packages h) ∙ e)
     c.look_in_within.ensures.within)
 
 pub returns-in-Ok-clause-more : goal.returns-in-Ok-clause-more
@@ -31,5 +31,5 @@ returns-in-Ok-clause-more c =
     let start : Start = (state_of (record { packages = c.self.inside.packages; parents = family_pairs c.self.inside.parents; version = c.self.inside.versions.latest })).start in
     rw (← c.self.view_is)
     (on_err_weaker c.look_in_within.result
-    (λ e. sym (takes_at_place c.args.steps start c.args.app.now c.args.locale.now c.args.path.now c.in-Ok.place c.self.inside.packages h) ∙ e)
+    (λ e. sym (takes_at_place (Some c.args.steps) start c.args.app.now c.args.locale.now c.args.path.now c.in-Ok.place c.self.inside.packages h) ∙ e)
     c.look_in_within.ensures.more)

@@ -1,4 +1,4 @@
-use Rattle.std.proofs.Common.{false, true, sym, ◌∙◌}
+use Rattle.std.proofs.Common.{sym, ◌∙◌, Some}
 use Rattle.std.proofs.lemmas.Result.{on_ok_weaker, on_err_weaker, IfOk-weaker}
 use Rattle.rb_parents.specs.Family.{family_pairs, parent_of}
 use Rattle.rb_engine.specs.Answer.{Start}
@@ -18,7 +18,7 @@ returns-in-Some-clause-within c =
     let e = c.self.inside in
     let start : Start = (state_of (record { packages = e.packages; parents = family_pairs e.parents; version = e.versions.latest })).start in
     let a = c.in-Some.ensures.within (parent_of e.parents) e.versions.groups e.versions.latest c.of-version.ensures c.self.invariant.1 in
-    rw (← c.self.view_is) (sym (takes_at_place c.args.steps start c.args.app.now c.args.locale.now c.args.path.now a.place e.packages a.read) ∙ a.takes)
+    rw (← c.self.view_is) (sym (takes_at_place (Some c.args.steps) start c.args.app.now c.args.locale.now c.args.path.now a.place e.packages a.read) ∙ a.takes)
 
 pub returns-in-Some-opened-clause-found : goal.returns-in-Some-opened-clause-found
 returns-in-Some-opened-clause-found c =
@@ -35,7 +35,7 @@ returns-in-Some-opened-clause-within c =
     let start : Start = (state_of (record { packages = e.packages; parents = family_pairs e.parents; version = e.versions.latest })).start in
     rw (← c.self.view_is)
     (on_ok_weaker c.in-Some-opened.found
-    (λ a. sym (takes_at_place c.args.steps start c.args.app.now c.args.locale.now c.args.path.now a.place e.packages a.read) ∙ a.takes)
+    (λ a. sym (takes_at_place (Some c.args.steps) start c.args.app.now c.args.locale.now c.args.path.now a.place e.packages a.read) ∙ a.takes)
     (c.in-Some-opened.ensures.within e.versions.groups e.versions.latest c.of-version.ensures c.self.invariant.0))
 
 pub returns-in-Some-opened-clause-more : goal.returns-in-Some-opened-clause-more
@@ -44,5 +44,5 @@ returns-in-Some-opened-clause-more c =
     let start : Start = (state_of (record { packages = e.packages; parents = family_pairs e.parents; version = e.versions.latest })).start in
     rw (← c.self.view_is)
     (on_err_weaker c.in-Some-opened.found
-    (λ a. sym (takes_at_place c.args.steps start c.args.app.now c.args.locale.now c.args.path.now a.place e.packages a.read) ∙ a.takes)
+    (λ a. sym (takes_at_place (Some c.args.steps) start c.args.app.now c.args.locale.now c.args.path.now a.place e.packages a.read) ∙ a.takes)
     (c.in-Some-opened.ensures.more e.versions.groups e.versions.latest c.of-version.ensures c.self.invariant.0))

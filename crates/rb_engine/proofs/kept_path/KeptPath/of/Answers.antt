@@ -1,4 +1,4 @@
-use Rattle.std.proofs.Common.{◌≡◌, ◌++◌, ℕ, List, drop, length, replicate, take, refl, sym, arith, rules}
+use Rattle.std.proofs.Common.{drop, length, replicate, refl, arith, rules}
 use Rattle.std.proofs.Math.Seq.{take-append_seam}
 use Rattle.rb_locales.specs.inner.Padded.{IsPadded-front}
 use Rattle.rb_engine.proofs.kept_path.KeptPath.of.Goals as goal

@@ -1,4 +1,4 @@
-use Rattle.std.proofs.Common.{true, false, sym, subst}
+use Rattle.std.proofs.Common.{true, false, Some, sym, subst}
 use Rattle.std.proofs.lemmas.Result.{on_ok_weaker, on_err_weaker, IfOk-weaker}
 use Rattle.rb_parents.specs.Family.{parent_of}
 use Rattle.rb_views.specs.Seen.{tree_seen}
@@ -19,7 +19,7 @@ returns-clause-within c = λ versions latest e k.
     let a = c.in_ok-slot.ensures packages ps versions latest e k in
     let over = subst (λ (fs : Files). IsOpenOver slot.opened fs ps slot.place.name) (sym c.shelf-own.ensures.files) a.open_there in
     on_ok_weaker c.look_over_within.result
-    (takes_for slot packages ps c.args.app.now c.args.locale.now c.args.path.now own icu a c.shelf-own.ensures.bundles c.icu_shelf-icu.ensures.bundles false c.args.steps)
+    (takes_for slot packages ps c.args.app.now c.args.locale.now c.args.path.now own icu a c.shelf-own.ensures.bundles c.icu_shelf-icu.ensures.bundles false (Some c.args.steps))
     (c.look_over_within.ensures.within slot.place.name over)
 
 pub returns-clause-more : goal.returns-clause-more
@@ -32,7 +32,7 @@ returns-clause-more c = λ versions latest e k.
     let a = c.in_ok-slot.ensures packages ps versions latest e k in
     let over = subst (λ (fs : Files). IsOpenOver slot.opened fs ps slot.place.name) (sym c.shelf-own.ensures.files) a.open_there in
     on_err_weaker c.look_over_within.result
-    (takes_for slot packages ps c.args.app.now c.args.locale.now c.args.path.now own icu a c.shelf-own.ensures.bundles c.icu_shelf-icu.ensures.bundles true c.args.steps)
+    (takes_for slot packages ps c.args.app.now c.args.locale.now c.args.path.now own icu a c.shelf-own.ensures.bundles c.icu_shelf-icu.ensures.bundles true (Some c.args.steps))
     (c.look_over_within.ensures.more slot.place.name over)
 
 pub returns-clause-found : goal.returns-clause-found
