@@ -21,7 +21,6 @@ import (
 	"github.com/coreos/go-systemd/daemon"
 
 	"luvdregan.example/resb/deploy/internal/api"
-	"luvdregan.example/resb/deploy/internal/convert"
 	"luvdregan.example/resb/deploy/internal/front"
 	"luvdregan.example/resb/deploy/internal/replica"
 	"luvdregan.example/resb/deploy/internal/serve"
@@ -164,8 +163,7 @@ func newGateway(leaving context.Context, s settings.Settings, p settings.Parts) 
 	options := s.Front
 	options.Access, options.Audit = serve.JournalOf(g.access), serve.JournalOf(g.audit)
 	options.Version, options.Commit, options.Leaving = version, commit, leaving
-	g.Handler = api.New(&front.Handler{Backend: replica.Open(of, p.Engine, s.Replica), Engine: p.Engine, Tokens: p.Tokens,
-		Convert: &convert.Runner{Program: s.Program}, Options: options})
+	g.Handler = api.New(&front.Handler{Backend: replica.Open(of, p.Engine, s.Replica), Engine: p.Engine, Tokens: p.Tokens, Options: options})
 	g.Metrics.Counter("log_lines_dropped_total", "Lines of logs that were left out, as nobody took them.", serve.Dropped)
 	g.Metrics.Gauge("certificate_expiry_timestamp_seconds", "When the certificate expires, in seconds since 1970, or 0 without one.", p.Pair.Expires)
 	g.Metrics.Gauge("certificate_bad", "1 if the files of the certificate can't be read again.", p.Pair.Bad)

@@ -8,12 +8,10 @@ if [ -f "$here/bin/gateway" ]; then
     installed=1
     out=$here
     states=${XDG_STATE_HOME:-${HOME:-/root}/.local/state}/resb
-    program=${RESB:-$(CDPATH='' cd -- "$top/../../bin" && pwd)/resb}
 else
     installed=
     out=$here/out
     states=$out
-    program=${RESB:-$top/crates/rb_tool/out/rb_tool}
 fi
 libraries=/usr/share/gocode
 # the folder with libresb, which tools/library writes

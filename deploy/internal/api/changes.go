@@ -275,7 +275,7 @@ func explained(c *call, err error, given payload) error {
 	ctx, cancel := context.WithTimeout(c.R.Context(), explanations)
 	defer cancel()
 	_ = c.Work(ctx, func() error { // without a reason the code remains
-		p.Message = c.Convert.Explain(ctx, fault, given.kind, given.body)
+		p.Message = convert.Explain(fault, given.kind, given.body)
 		return nil
 	})
 	return p

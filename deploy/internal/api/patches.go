@@ -95,7 +95,7 @@ func merge(c *call, edit *replica.Edit, b manifest.Bundle, patch []byte) error {
 	if err != nil {
 		return err
 	}
-	made, same, err := c.Convert.Patched(c.Context(), b, body, patch, c.Hold)
+	made, same, err := convert.Patched(b, body, patch, c.Hold)
 	switch {
 	case err != nil:
 		return err

@@ -166,7 +166,7 @@ func check(c *call) error {
 	}
 	if given.kind == engine.Text {
 		err := c.Work(c.Context(), func() error {
-			more, err := c.Convert.Warnings(c.Context(), given.body)
+			more, err := convert.Warnings(given.body)
 			warnings = append(warnings, more...)
 			return err
 		})

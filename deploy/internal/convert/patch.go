@@ -2,7 +2,7 @@ package convert
 
 import (
 	"bytes"
-	"context"
+	"encoding/binary"
 	"encoding/json"
 	"errors"
 	"fmt"
@@ -115,7 +115,7 @@ func merge(to, old, patch []byte) []byte {
 
 // Patched returns a bundle with a patch of its JSON (docs/JSON.md) in the form in which it was, and whether it has the same items. The error is a
 // *JSONFault if what the patch makes is no bundle. The memory of what is made is given to a function.
-func (r *Runner) Patched(ctx context.Context, b manifest.Bundle, body, patch []byte, hold func(bytes int64) error) (made []byte, same bool, err error) {
+func Patched(b manifest.Bundle, body, patch []byte, hold func(bytes int64) error) (made []byte, same bool, err error) {
 	file, err := To(engine.File, b.Locale, b.Kind, body)
 	if err != nil {
 		return nil, false, err
@@ -128,7 +128,7 @@ func (r *Runner) Patched(ctx context.Context, b manifest.Bundle, body, patch []b
 		return nil, false, err
 	}
 	merged := merge(make([]byte, 0, len(old)+len(patch)), old, bytes.TrimSpace(patch))
-	after, err := r.prepared(ctx, patch, merged, isNoFallback(file))
+	after, err := prepared(patch, merged, isLast(file))
 	if err != nil {
 		return nil, false, err
 	}
@@ -147,21 +147,25 @@ func (r *Runner) Patched(ctx context.Context, b manifest.Bundle, body, patch []b
 	return made, same, engine.FaultOf(err)
 }
 
-// prepared returns the bundle that a patch made. Only the program sets the flag.
-func (r *Runner) prepared(ctx context.Context, patch, merged []byte, noFallback bool) (*resb.Bundle, error) {
+// prepared returns the bundle that a patch made. Only a text says that a lookup stops there.
+func prepared(patch, merged []byte, isLast bool) (*resb.Bundle, error) {
 	b, err := resb.PrepareJSON(merged)
 	if err != nil {
 		return nil, placed(patch, merged, engine.FaultOf(err))
 	}
-	if !noFallback {
+	if !isLast {
 		return b, nil
 	}
-	b.Discard()
-	file, err := r.run(ctx, merged, "compile", "-q", "--json", "--no-fallback", "-", "-")
+	defer b.Discard()
+	text, err := b.Text("root")
 	if err != nil {
-		return nil, err
+		return nil, engine.FaultOf(err)
 	}
-	return resb.Prepare(file, false)
+	_, entries, _ := strings.Cut(text, "{")
+	if b, err = resb.Prepare([]byte("root:table(nofallback) {"+entries), true); err != nil {
+		return nil, &engine.Fault{Code: "TooLarge"}
+	}
+	return b, nil
 }
 
 // placed returns where in a patch the error of what it made is. The library names the line of an error, so each item gets one; the place in the
@@ -209,15 +213,9 @@ func placeOf(patch []byte, path []string) (at int) {
 	return at
 }
 
-// isNoFallback returns true if a file has the flag that a lookup stops at its bundle (docs/FORMAT.md).
-func isNoFallback(file []byte) bool {
-	number := func(at, bytes int) (n int) {
-		for i := bytes - 1; i >= 0 && at+bytes <= len(file); i-- {
-			n = n<<8 | int(file[at+i])
-		}
-		return n
-	}
-	data := number(0, 2)
+// isLast returns true if a valid file has the flag that a lookup stops at its bundle (docs/FORMAT.md).
+func isLast(file []byte) bool {
 	const minor, length, attributes = 17, 4, 6 * 4
-	return number(minor, 1) >= 2 && number(data+length, 4)&0xff >= 6 && number(data+attributes, 4)&1 == 1
+	data := file[binary.LittleEndian.Uint16(file):]
+	return file[minor] >= 2 && data[length] >= 6 && data[attributes]&1 == 1
 }

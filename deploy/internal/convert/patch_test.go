@@ -5,10 +5,13 @@ import (
 	"encoding/json"
 	"errors"
 	"fmt"
+	"os"
 	"reflect"
 	"runtime"
 	"strings"
 	"testing"
+
+	"luvdregan.example/resb/deploy/internal/engine"
 )
 
 func holdAll(int64) error { return nil }
@@ -120,5 +123,24 @@ func TestDifferencesOfTrees(t *testing.T) {
 	}
 	if _, err := Differences(context.Background(), json.RawMessage(`{"a":"0123456789"}`), nil, 20); !errors.Is(err, ErrOutput) {
 		t.Error(err)
+	}
+}
+
+// TestMeanings are those of rb_explain, all of files and of JSON.
+func TestMeanings(t *testing.T) {
+	words, err := os.ReadFile("../../../crates/rb_explain/src/words.rt")
+	if err != nil {
+		t.Fatal(err)
+	}
+	for kind, name := range map[string]string{engine.File: "OF_FILE", JSON: "OF_JSON"} {
+		_, explained, _ := strings.Cut(string(words), name+": &str = \"\\\n")
+		explained, _, _ = strings.Cut(explained, "\";\n")
+		for _, row := range strings.Split(strings.ReplaceAll(explained, "\\t\\\n", "\t"), "\n") {
+			code, meaning, _ := strings.Cut(row, "\t")
+			meaning, _, _ = strings.Cut(meaning, "\t")
+			if got := Explain(&engine.Fault{Code: code}, kind, nil); got != meaning || meaning == "" {
+				t.Errorf("%s %s: %q, and not %q", kind, code, got, meaning)
+			}
+		}
 	}
 }

@@ -1,7 +1,6 @@
 package convert
 
 import (
-	"context"
 	"strings"
 	"testing"
 	"time"
@@ -13,7 +12,7 @@ import (
 // patched returns a text with a patch.
 func patched(t *testing.T, text, patch string) string {
 	t.Helper()
-	made, _, err := (&Runner{}).Patched(context.Background(), manifest.Bundle{Locale: "de", Kind: engine.Text}, []byte(text), []byte(patch), holdAll)
+	made, _, err := Patched(manifest.Bundle{Locale: "de", Kind: engine.Text}, []byte(text), []byte(patch), holdAll)
 	if err != nil {
 		t.Errorf("%.80q with %.80s: %v", text, patch, err)
 	}

@@ -41,7 +41,6 @@ type Handler struct {
 	Backend *replica.Replica
 	Engine  *engine.Engine
 	Tokens  *auth.Tokens
-	Convert *convert.Runner
 	Options Options
 	OpenAPI []byte
 	Metrics *Metrics

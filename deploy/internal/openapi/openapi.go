@@ -91,7 +91,7 @@ func operationItem(o *front.Operation, id string, gives []string) object {
 		given = append(given, reference("parameters", "acceptLanguage"))
 	}
 	all := object{}
-	for _, status := range append([]int{400, 401, 403, 429, 500, 501, 503, 504}, o.Statuses...) {
+	for _, status := range append([]int{400, 401, 403, 429, 500, 503, 504}, o.Statuses...) {
 		all[strconv.Itoa(status)] = reference("responses", nameOf(status))
 		if status == http.StatusNotModified {
 			given = append(given, reference("parameters", "ifNoneMatch"))

@@ -2,10 +2,8 @@ package replica
 
 import (
 	"context"
-	"database/sql"
 	"errors"
 	"fmt"
-	"path/filepath"
 	"strings"
 	"sync"
 	"testing"
@@ -138,30 +136,6 @@ func TestAStalledStart(t *testing.T) {
 	may <- true
 	harness.Eventually(t, "it is ready", func() bool { return g.Ready() == nil })
 	g.is(t, "shop", "de", "a", "shop")
-}
-
-// TestADamagedFile damages a stored compiled file in SQLite: the next start compiles the text again.
-func TestADamagedFile(t *testing.T) {
-	folder := t.TempDir()
-	g := open(t, folder, asIs)
-	m, err := g.put("shop", "de", long("A"))
-	if err != nil {
-		t.Fatal(err)
-	}
-	g.Close()
-	db, err := sql.Open("sqlite3", filepath.Join(folder, "manifests.db"))
-	if err == nil {
-		_, err = db.Exec("update bodies set body = zeroblob(length(body)) where digest = ?", m.Bundles[0].File)
-	}
-	if err == nil {
-		err = db.Close()
-	}
-	if err != nil {
-		t.Fatal(err)
-	}
-	g = open(t, folder, asIs)
-	defer g.Close()
-	g.is(t, "shop", "de_AT", "a", "A")
 }
 
 // TestCollectsAfterAStart has a gateway that ends long before the time between two collections is over.

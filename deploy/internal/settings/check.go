@@ -8,7 +8,6 @@ import (
 	"fmt"
 	"net"
 	"os"
-	"os/exec"
 	"path/filepath"
 	"strings"
 	"syscall"
@@ -25,7 +24,7 @@ import (
 	"luvdregan.example/resb/deploy/internal/store/sqlite"
 )
 
-// checkTime is how long a name, a program or etcd may take to answer.
+// checkTime is how long etcd may take to answer.
 const checkTime = 5 * time.Second
 
 // Parts are what the files of the settings give to a gateway.
@@ -39,7 +38,7 @@ type Parts struct {
 // ports, so a gateway may run meanwhile. A start and -check-config have the same errors from it.
 func (s *Settings) Open() (p Parts, err error) {
 	for _, step := range []func(*Parts) error{
-		s.checkUses, s.openTokens, s.openPair, s.checkAddresses, s.checkLogs, s.openEngine, s.checkProgram, s.checkStore} {
+		s.checkUses, s.openTokens, s.openPair, s.checkAddresses, s.checkLogs, s.openEngine, s.checkStore} {
 		if err := step(&p); err != nil {
 			return p, err
 		}
@@ -169,26 +168,14 @@ func (s *Settings) checkAddresses(*Parts) error {
 
 // address returns where an option has the gateway listen.
 func (s *Settings) address(name, text string) (*net.TCPAddr, error) {
-	ctx, cancel := context.WithTimeout(context.Background(), checkTime)
-	defer cancel()
-	at := &net.TCPAddr{}
-	host, port, err := net.SplitHostPort(text)
-	if err == nil {
-		at.Port, err = net.DefaultResolver.LookupPort(ctx, "tcp", port)
-	}
-	if err == nil && host != "" {
-		var found []net.IPAddr
-		if found, err = net.DefaultResolver.LookupIPAddr(ctx, host); err == nil {
-			at.IP = found[0].IP
-		}
-	}
+	at, err := net.ResolveTCPAddr("tcp", text)
 	if err == nil && !isLocal(at.IP) {
 		err = errors.New("this machine hasn't the address")
 	}
 	if err != nil {
-		return nil, s.Wrong(name, " can't be %q: %w", text, err)
+		err = s.Wrong(name, " can't be %q: %w", text, err)
 	}
-	return at, nil
+	return at, err
 }
 
 // isLocal returns true unless the machine can't listen at an address because it doesn't have it. It tries that at a port that nobody uses.
@@ -228,44 +215,6 @@ func (s *Settings) openEngine(p *Parts) (err error) {
 		return s.Wrong("icudata", ": %w", err)
 	}
 	return err
-}
-
-// checkProgram has the program print its version. A gateway starts without the one that is looked for if no option names one, and explains
-// nothing then.
-func (s *Settings) checkProgram(*Parts) error {
-	path, err := exec.LookPath(s.Program)
-	if err == nil {
-		err = printsVersion(path)
-	}
-	if err == nil || !s.CheckOnly && !s.given["program"] && s.lines["program"] == 0 {
-		return nil
-	}
-	return s.Wrong("program", ": %w", err)
-}
-
-// printsVersion returns an error unless a program is resb. It waits for no process that the program leaves.
-func printsVersion(path string) error {
-	out, to, err := os.Pipe()
-	if err != nil {
-		return err
-	}
-	defer out.Close()
-	command := exec.Command(path, "--version")
-	command.Stdout = to
-	err = command.Start()
-	_ = to.Close()
-	if err != nil {
-		return err
-	}
-	_ = out.SetReadDeadline(time.Now().Add(checkTime))
-	said := make([]byte, 100)
-	n, _ := out.Read(said)
-	_ = command.Process.Kill()
-	_ = command.Wait()
-	if !strings.HasPrefix(string(said[:n]), "resb ") {
-		return fmt.Errorf("%s isn't resb: with --version it prints %.40q", path, said[:n])
-	}
-	return nil
 }
 
 // checkStore looks at the folder of the store, or reads the files for etcd. Whether etcd answers, a start finds out by itself: it waits for it.

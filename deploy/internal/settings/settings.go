@@ -26,7 +26,7 @@ type Settings struct {
 	Version, CheckOnly                            bool
 	Log, AccessLog, AuditLog                      string
 	Listen, Inside, AddTokens                     string
-	State, Etcd, Program                          string
+	State, Etcd                                   string
 	Create                                        bool
 	Replica                                       replica.Options
 	Front                                         front.Options
@@ -98,7 +98,6 @@ func (s *Settings) table() []option {
 		{"history-each", &s.Replica.Keep.Each, 3, atLeast(0), "how many of the last versions of each bundle stay, whatever -history and -history-bytes say"},
 		{"erase-after", &o.EraseAfter, 7 * 24 * time.Hour, atLeast(0), "how long the erasure of an application can be undone; then what it removed is deleted"},
 
-		{"program", &s.Program, "resb", nil, "the `program`, which explains errors and warns of doubtful texts"},
 		{"icudata", &s.icuData, nil, reads, "a `bundle` of ICUDATA, which all applications see, as LOCALE=FILE; may be there several times"},
 		{"parents", &s.parents, "", reads, "a `file` with the explicit parents of locales"},
 

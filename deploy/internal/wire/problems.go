@@ -48,7 +48,6 @@ var Codes = map[int][]string{
 	http.StatusUnsupportedMediaType:  {"BadType"},
 	http.StatusTooManyRequests:       {"OverRate", "TooMany"},
 	http.StatusInternalServerError:   {"Failed"},
-	http.StatusNotImplemented:        {"NotOffered"},
 	http.StatusServiceUnavailable:    {"Behind", "Busy", "Memory", "NotKept", "Replaying", "Unreached"},
 	http.StatusGatewayTimeout:        {"Timeout"},
 	http.StatusInsufficientStorage:   {"NoRoom", manifest.OverQuota, "TooManyApps"},
@@ -103,7 +102,7 @@ var problems = []struct {
 	{replica.ErrGone, "Timeout"}, {replica.ErrReplaying, "Replaying"}, {replica.ErrBehind, "Behind"}, {replica.ErrTooManyApps, "TooManyApps"},
 	{store.ErrNoVersion, "NoVersion"}, {store.ErrNoBody, "NoVersion"}, {store.ErrTooLong, "TooLarge"}, {store.ErrUnreached, "Unreached"},
 	{store.ErrUnsettled, "Timeout"}, {store.ErrBroken, "NotKept"}, {store.ErrConflict, "Busy"}, {store.ErrNoRoom, "NoRoom"},
-	{convert.ErrTime, "Timeout"}, {convert.ErrOutput, "ReplyTooLong"}, {convert.ErrRun, "NotOffered"},
+	{convert.ErrTime, "Timeout"}, {convert.ErrOutput, "ReplyTooLong"},
 }
 
 // ProblemOf returns the problem of an error.

@@ -110,9 +110,6 @@ func New(t testing.TB, s Setup) *Gateway {
 	} else {
 		g.Args = append(g.Args, "-state", g.State, "-init")
 	}
-	if resb := os.Getenv("RESB"); resb != "" {
-		g.Args = append(g.Args, "-program", resb)
-	}
 	g.Args = append(g.Args, s.Options...)
 	t.Cleanup(func() {
 		g.Kill()

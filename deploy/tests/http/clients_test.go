@@ -18,8 +18,14 @@ import (
 
 const clients = "../../../examples/clients/"
 
-// client runs a program of a language with a token, where the language is there.
+// client runs a program of a language, where the language is there.
 func client(t *testing.T, language string, arguments ...string) (string, error) {
+	t.Helper()
+	return clientOf(t, shopWrites, language, arguments...)
+}
+
+// clientOf runs a program with a token.
+func clientOf(t *testing.T, token, language string, arguments ...string) (string, error) {
 	t.Helper()
 	path, err := exec.LookPath(language)
 	if err != nil {
@@ -28,7 +34,7 @@ func client(t *testing.T, language string, arguments ...string) (string, error) 
 	ctx, cancel := context.WithTimeout(context.Background(), generous)
 	defer cancel()
 	command := exec.CommandContext(ctx, path, arguments...)
-	command.Env = append(os.Environ(), "PYTHONIOENCODING=utf-8", "PYTHONDONTWRITEBYTECODE=1", "RESB_TOKEN="+shopWrites)
+	command.Env = append(os.Environ(), "PYTHONIOENCODING=utf-8", "PYTHONDONTWRITEBYTECODE=1", "RESB_TOKEN="+token)
 	text, err := command.CombinedOutput()
 	return string(text), err
 }
@@ -201,80 +207,6 @@ func (f *folder) file(name, want string) {
 func (f *folder) write(name, text string) {
 	f.t.Helper()
 	must(f.t, os.WriteFile(filepath.Join(f.path, name), []byte(text), 0o600))
-}
-
-// TestAFolderAndATranslator sends a folder while a translator changes bundles: neither loses a change, and each sees the other's.
-func TestAFolderAndATranslator(t *testing.T) {
-	f := &folder{beside(t), t.TempDir()}
-	f.write("de.txt", "de{\n a{\"A\"}\n}\n")
-	f.write("fr-ca.txt", "fr_CA{}")
-	f.run(0, "resb-put --help", "RESB_TOKEN")
-	f.run(0, "resb-put --dry-run", "de.txt\nfr-ca.txt\n")
-	f.names()
-	f.run(0, "resb-put", "sent 2 of 2 bundles: revision 1; POST "+f.URL+"/v1/shop/_history/4096/undo takes it back\n")
-	f.run(0, "resb-put", "nothing differs\n")
-	f.run(0, "resb-get")
-	f.write("de.txt", "de{\n a{\"B\"}\n}\n")
-	f.run(0, "resb-get")
-	f.run(0, "resb-put", "sent 1 of 2 bundles: revision 2;")
-	f.put("de", "de{\n a{\"T\"}\n}\n")
-	for _, text := range []string{"de{\n a{\"B\"}\n}\n", "de{\n a{\"C\"}\n}\n"} {
-		f.write("de.txt", text)
-		f.run(1, "resb-put", "--- installed/de.txt\n+++ folder/de.txt\n", "\n- a{\"T\"}\n+ a{\"", "nothing is sent")
-		f.is("de/a", "T")
-	}
-	f.run(1, "resb-get", "\n- a{\"T\"}\n+ a{\"C\"}\n", "stay")
-	f.file("de.txt", "de{\n a{\"C\"}\n}\n")
-	f.run(0, "resb-get --replace", "de.txt\n")
-	f.file("de.txt", "de{\n a{\"T\"}\n}\n")
-	f.put("it", "it{}")
-	file := f.get("/v1/shop/it.res").Body
-	f.ask("PUT", "/v1/shop/es.res", shopWrites, file)
-	f.ask("DELETE", "/v1/shop/fr_CA", shopWrites, "")
-	f.run(1, "resb-put", "fr-ca.txt: somebody removed")
-	f.run(1, "resb-put --remove", "it.txt: somebody added", "es.txt: somebody added")
-	f.run(0, "resb-get", "es.res\nfr-ca.txt\nit.txt\n")
-	f.file("it.txt", "it{}")
-	f.file("es.res", file)
-	f.file("fr-ca.txt", "")
-	f.run(0, "resb-put --remove", "nothing differs\n")
-	must(t, os.Remove(filepath.Join(f.path, "it.txt")))
-	f.run(0, "resb-put --remove", "sent 0 of 2 bundles, removed 1: revision 7;")
-	f.names("de", "es")
-	f.write("de.txt", "de{")
-	f.run(1, "resb-put", "resb-put: "+f.path+"/de.txt:1: ")
-	f.write("DE.txt", "de{}")
-	f.run(2, "resb-put", "have the same locale")
-	must(t, os.Remove(filepath.Join(f.path, "DE.txt")))
-	f.write("de.txt", "de{\n a{\"D\"}\n}\n")
-	must(t, os.Remove(filepath.Join(f.path, ".resb-sent.json")))
-	f.run(1, "resb-put", "- a{\"T\"}\n+ a{\"D\"}\n", "doesn't say which one was sent", "replaces these changes\n")
-	f.run(1, "resb-get", "- a{\"T\"}\n+ a{\"D\"}\n", "doesn't say which one was sent", "by the installed bundles\n")
-	f.run(0, "resb-put --replace", "sent 1 of 2 bundles: revision 8;")
-	f.is("de/a", "D")
-}
-
-// TestAFolderWithoutBundles isn't sent, and the code of a refusal is printed. A text that is no bundle stays.
-func TestAFolderWithoutBundles(t *testing.T) {
-	f := &folder{beside(t), t.TempDir()}
-	f.put("fr", "fr{}")
-	for _, words := range []string{"resb-put", "resb-put --remove --replace", "resb-put --dry-run"} {
-		f.run(2, words, f.path+" has no bundle")
-		f.file(".resb-sent.json", "")
-		f.write("README.txt", "Read me: {}\n")
-	}
-	f.names("fr")
-	f.run(0, "resb-get --replace", "fr.txt\n")
-	f.write("metadata.txt", "// a bundle that is named after no language\nmetadata:table(nofallback) {}")
-	f.run(0, "resb-put", "sent 1 of 2 bundles: ")
-	f.names("fr", "metadata")
-	f.file("README.txt", "Read me: {}\n")
-	for token, want := range map[string]string{"nobody-0123456789-0123456789": ": 401 Unauthorized\n", bankWrites: ": 403 Forbidden\n"} {
-		for _, program := range []string{"resb-put", "resb-get"} {
-			text, err := client(t, "env", "RESB_TOKEN="+token, "python3", clients+program, f.path, f.URL+"/v1/shop")
-			errorIf(t, err == nil || text != program+want, "%v %s", err, text)
-		}
-	}
 }
 
 // TestGitMergesBothSides by the commands that resb-put and resb-get print.

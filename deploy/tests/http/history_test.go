@@ -71,36 +71,6 @@ func TestTheHistory(t *testing.T) {
 	}
 }
 
-// TestDifferences lists what changed between two versions of a bundle, also of its removal and of another locale.
-func TestDifferences(t *testing.T) {
-	s := beside(t)
-	s.put("de", `de{a{"A"}}`)
-	s.put("de", `de{/* a comment */ a{"B"}}`)
-	s.ask("DELETE", "/v1/shop/de", shopWrites, "")
-	all := s.past("")
-	first, second, removal := fmt.Sprint(all[2].ID), fmt.Sprint(all[1].ID), fmt.Sprint(all[0].ID)
-	s.script("Differences", "first", first, "second", second, "removal", removal)
-}
-
-// TestErase gives a new owner nothing of an application: no bundles, and no history.
-func TestErase(t *testing.T) {
-	s := beside(t)
-	for _, text := range []string{"A", "B", "C"} {
-		s.put("de", `de{a{"a-secret-`+text+`"}}`)
-		s.put(text+text, `x{a{"a-secret-`+text+`"}}`)
-	}
-	s.script("Erase")
-	if all := s.past(""); len(all) != 0 {
-		t.Errorf("%+v", all)
-	}
-	if files := s.filesWith("a-secret"); len(files) > 0 {
-		t.Errorf("%s have a part of it", files)
-	}
-	if got := s.put("de", `de{a{"N"}}`); got.Revision() != 8 || len(s.past("")) != 1 {
-		t.Errorf("%v %+v", got.Header, s.past(""))
-	}
-}
-
 // filesWith returns the files of the state that have a text.
 func (s *site) filesWith(text string) (all []string) {
 	_ = filepath.Walk(s.State, func(path string, _ os.FileInfo, _ error) error {
@@ -116,55 +86,6 @@ func (s *site) filesWith(text string) (all []string) {
 func (s *site) patch(path, body string, headers ...string) harness.Answer {
 	s.t.Helper()
 	return s.ask("PATCH", path, shopWrites, body, append([]string{"Content-Type", asPatch}, headers...)...)
-}
-
-// TestPatches change single items of a bundle, which keeps its form.
-func TestPatches(t *testing.T) {
-	s := beside(t)
-	s.put("de", `de{menu{open{"A"} close{"B"}} title{"T"}}`)
-	s.run(step{"w PUT /v1/shop/fr.res", "", s.get("/v1/shop/de.res").Body, 201, "", ""})
-	for locale, form := range map[string]string{"de": ".txt", "fr": ".res"} {
-		before := s.get("/v1/shop/" + locale + ".json")
-		got := s.patch("/v1/shop/"+locale, `{"menu":{"open":"Ö \"","close":null,"new":"N"},"title":null}`)
-		if got.Status != 200 || got.Body != yes || got.Revision() < 0 || got.Tag() == before.Tag() {
-			t.Errorf("%s: %d %s %v", locale, got.Status, got.Body, got.Header)
-		}
-		s.run(step{"r GET /v1/shop/" + locale + ".json", "", "", 200, "={\"menu\":{\"new\":\"N\",\"open\":\"Ö \\\"\"}}\n", ""})
-		kept := s.get("/v1/shop/" + locale + form)
-		if kept.Tag() != got.Tag() || strings.HasPrefix(kept.Body, "de") != (locale == "de") {
-			t.Errorf("%s: %v %q", locale, kept.Header, kept.Body)
-		}
-		again := s.patch("/v1/shop/"+locale+".json", `{"menu":{"new":"N","close":null}}`)
-		if n := len(s.past("?locale=" + locale)); again.Status != 200 || again.Tag() != got.Tag() || n != 2 {
-			t.Errorf("%s: nothing is changed, and %d %v, %d versions", locale, again.Status, again.Header, n)
-		}
-	}
-	if one := s.past("?locale=de")[0]; one.Op != "replace" {
-		t.Errorf("%+v", one)
-	}
-}
-
-// TestJSON has bundles as JSON, and addresses with the name of a form.
-func TestJSON(t *testing.T) {
-	beside(t, "-text-bytes", "2000").script("JSON", "blanks", "{"+strings.Repeat(" ", 2000)+"}")
-}
-
-// TestPatchesKeepComments of a text, its layout and its order, unless items are removed.
-func TestPatchesKeepComments(t *testing.T) { beside(t).script("PatchesKeepComments") }
-
-// TestPatchesThatAreRefused change nothing.
-func TestPatchesThatAreRefused(t *testing.T) {
-	s := beside(t, "-text-bytes", "2000")
-	tag := s.put("de", `de{a{"A"}}`).Tag()
-	s.script("PatchesThatAreRefused", "tag", tag, "blanks", strings.Repeat(" ", 2001),
-		"long", `{"a":"`+strings.Repeat("x", 1992)+`"}`)
-	s = open(t, "-body-bytes", "300000")
-	long := `de{a{"` + strings.Repeat("x", 80000) + `"}}`
-	s.put("de", long)
-	for i := 0; i < 3; i++ { // over what an application may have of the memory
-		s.run(step{"w PATCH /v1/shop/de", "Content-Type: " + asPatch, `{"b":"B"}`, 429, "!TooMany", ""})
-	}
-	s.put("de", long)
 }
 
 // TestPatchesAtOnce has 8 callers patch a key each at the same time, five times: no patch is lost.

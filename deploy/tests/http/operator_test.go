@@ -45,9 +45,6 @@ func fileOf(t *testing.T, text string) string {
 	return path
 }
 
-// version is a program that prints its version as resb does.
-const version = "#!/bin/sh\necho resb 1.0.0\n"
-
 // configured makes the files that rows of testdata/config name, and returns their folder.
 func configured(t *testing.T) string {
 	t.Helper()
@@ -56,14 +53,12 @@ func configured(t *testing.T) string {
 	for name, text := range map[string]string{"tokens": harness.Tokens, "words": "shop", "words.txt": "shop", "empty": "", "login": "gateway password",
 		"tokens.words": "shop", "tokens.right": "\nshop sing" + hash, "tokens.hash": "shop read 12", "tokens.name": "shop read" + hash + " name=a/b",
 		"tokens.expires": "shop read" + hash + " expires=soon", "tokens.app": "sh*p read" + hash, "tokens.open": "", "de.txt": `de{a{"A"}}`,
-		"resb": version, "sleeps": "#!/bin/sh\nsleep 1000 &\nsleep 1000\n", "earlier/changes.db": "x", "folder/file": ""} {
+		"earlier/changes.db": "x", "folder/file": ""} {
 		path := filepath.Join(dir, name)
 		_ = os.Mkdir(filepath.Dir(path), 0o700)
 		must(t, os.WriteFile(path, []byte(text), 0o600))
 	}
-	for name, mode := range map[string]os.FileMode{"tokens.open": 0o666, "resb": 0o700, "sleeps": 0o700} {
-		must(t, os.Chmod(filepath.Join(dir, name), mode))
-	}
+	must(t, os.Chmod(filepath.Join(dir, "tokens.open"), 0o666))
 	must(t, os.Symlink("tokens", filepath.Join(dir, "link")))
 	must(t, syscall.Mkfifo(filepath.Join(dir, "fifo"), 0o600))
 	writePair(t, dir, 1, time.Now())
@@ -74,7 +69,7 @@ func configured(t *testing.T) string {
 
 // whole returns a file of the configuration that has some members, and what else a usable one has.
 func whole(members string) string {
-	for _, member := range []string{`"tokens": "DIR/tokens"`, `"state": "DIR/state"`, `"listen": "127.0.0.1:0"`, `"program": "DIR/resb"`, `"init": true`} {
+	for _, member := range []string{`"tokens": "DIR/tokens"`, `"state": "DIR/state"`, `"listen": "127.0.0.1:0"`, `"init": true`} {
 		if name, _, _ := strings.Cut(member, " "); !strings.Contains(members, name) {
 			members += ",\n " + member
 		}
@@ -141,11 +136,9 @@ func contentOf(t *testing.T, folder string) map[string]string {
 func TestCheckConfig(t *testing.T) {
 	t.Parallel()
 	state, tokens, wrong := filepath.Join(t.TempDir(), "state"), fileOf(t, harness.Tokens), fileOf(t, "shop")
-	program := fileOf(t, version)
-	must(t, os.Chmod(program, 0o700))
 	check := func(status int, want string, more ...string) {
 		t.Helper()
-		command(t, status, want, append([]string{"-check-config", "-init", "-state", state, "-tokens", tokens, "-program", program}, more...)...)
+		command(t, status, want, append([]string{"-check-config", "-init", "-state", state, "-tokens", tokens}, more...)...)
 	}
 	check(0, "can be used")
 	check(0, "can be used", "-config", fileOf(t, `{"each": 4}`))
@@ -154,7 +147,6 @@ func TestCheckConfig(t *testing.T) {
 	check(2, "no such file", "-tokens", filepath.Join(state, "none"))
 	check(2, "line 1", "-tokens", wrong)
 	check(2, "no such file", "-init=false")
-	check(2, "/nonexistent/resb", "-program", "/nonexistent/resb")
 	check(2, "nowhere", "-listen", "nowhere")
 	check(2, "tls", "-cert", wrong, "-key", wrong)
 	check(2, "-each", "-each", "x")
@@ -168,7 +160,7 @@ func TestCheckConfig(t *testing.T) {
 	s.put("de", `de{a{"A"}}`)
 	eventually(t, "the change is logged", func() bool { return len(journal(t, filepath.Join(s.State, "audit"))) == 1 })
 	before := contentOf(t, s.State) // while the gateway runs
-	command(t, 0, "can be used", append([]string{"-check-config", "-program", program}, s.Args[1:]...)...)
+	command(t, 0, "can be used", append([]string{"-check-config"}, s.Args[1:]...)...)
 	equal(t, contentOf(t, s.State), before)
 	s.put("de", `de{a{"B"}}`)
 	command(t, 0, "resb-gateway ", "-version")
@@ -192,36 +184,6 @@ func TestTheExampleHasEveryOption(t *testing.T) {
 		delete(all, name)
 	}
 	errorIf(t, len(all) > 0, "more than the options: %v", all)
-}
-
-// TestTokenCommands make, list and revoke tokens under a running gateway.
-func TestTokenCommands(t *testing.T) {
-	s := beside(t)
-	made := strings.TrimSpace(command(t, 0, "", "token", "add", "-tokens", s.Tokens, "-name", "ci", "-expires", "90d", "shop", "read,release"))
-	status := func(token string) int { return s.ask("GET", "/v1/shop", token, "").Status }
-	eventually(t, "the token is known", func() bool { return status(made) == 200 })
-	if text := command(t, 0, "ci\t", "token", "list", "-tokens", s.Tokens); len(made) != 48 || !strings.Contains(text, "\tshop\tread,release\texpires 20") || strings.Contains(text, made) {
-		t.Error(made, text)
-	}
-	command(t, 0, "1 removed", "token", "revoke", "-tokens", s.Tokens, "ci")
-	owner := strings.TrimSpace(command(t, 0, "", "token", "add", "-tokens", s.Tokens, "-name", "anna", "shop", "own"))
-	eventually(t, "the owner's token is known", func() bool { return s.ask("GET", "/v1/shop/_tokens", owner, "").Status == 200 })
-	eventually(t, "the token is revoked", func() bool { return status(made) == 401 })
-	const fresh = "fresh-0123456789-0123456789"
-	lines := harness.TokenLine("shop", "read", fresh) + "shop read abc\n"
-	must(t, os.WriteFile(s.Tokens, []byte(lines), 0o600))
-	eventually(t, "the line without a fault is read", func() bool { return status(fresh) == 200 })
-	errorIf(t, status(shopReads) != 401 || s.measured()["resb_tokens_file_bad"] != 1,
-		"after a wrong line")
-	for _, wrong := range []string{"revoke|ci", "add|shop|sing", "add|sh/o|read", "add|shop|read,", "add|-expires|2001-01-01|shop|read", "add|-name|a b|shop|read", "add|shop read|read", "add|#shop|read"} {
-		words := strings.Split(wrong, "|")
-		command(t, 1, "", append([]string{"token", words[0], "-tokens", s.Tokens}, words[1:]...)...)
-	}
-	other := fileOf(t, "-----BEGIN CERTIFICATE-----\n")
-	command(t, 1, "line 1: not APP RIGHTS HASH", "token", "add", "-tokens", other, "shop", "read")
-	for _, wrong := range []string{"", "add", "list", "sing -tokens " + s.Tokens, "add -tokens " + s.Tokens + " shop"} {
-		command(t, 2, "usage:", append([]string{"token"}, strings.Fields(wrong)...)...)
-	}
 }
 
 // TestAGatewayThatFailsLeavesNoToken starts a gateway with a further token: at an address that is taken, and well.
@@ -461,45 +423,11 @@ func TestEnds(t *testing.T) {
 	s.leave()
 }
 
-// TestBackups restores a copy that was made beside changes, and refuses to replace anything.
-func TestBackups(t *testing.T) {
-	s := beside(t)
-	for i := 0; i < 20; i++ {
-		s.put("de", fmt.Sprintf(`de{a{"%d"}}`, i))
-	}
-	s.put("fr", `fr{a{"F"}}`)
-	folder, again := t.TempDir(), t.TempDir()
-	file := filepath.Join(folder, "copy")
-	command(t, 0, "", "backup", "-state", s.State, "--", file)
-	s.put("de", `de{a{"later"}}`)
-	command(t, 1, "", "backup", "-state", s.State, "--", file)
-	command(t, 1, "", "restore", "-state", s.State, "--", file)
-	command(t, 1, "it is a file of the store", "backup", "-state", s.State, "--", s.State+"/manifests.db-journal")
-	command(t, 0, "", "restore", "-state", filepath.Join(again, "state"), "--", file)
-	if text := command(t, 0, "shop\tde\t", "list", "-state", filepath.Join(again, "state")); strings.Count(text, "\n") != 2 {
-		t.Error(text)
-	}
-	other := &site{harness.Open(t, harness.Setup{Folder: again}), t}
-	other.is("de/a", "19")
-	other.is("fr/a", "F")
-	if got := other.get("/v1/shop"); got.Revision() != 21 || len(other.past("?last=1000")) != 21 {
-		t.Errorf("%v", got.Header)
-	}
-	s.is("de/a", "later")
-	must(t, os.WriteFile(file, []byte("no copy"), 0o600))
-	text := command(t, 1, "what is stored is damaged", "restore", "-state", filepath.Join(folder, "third"), "--", file)
-	_, err := os.Stat(filepath.Join(folder, "third"))
-	errorIf(t, err == nil || strings.Contains(text, "restore a backup"), "a refused copy leaves a folder: %v, %s", err, text)
-	command(t, 2, "resb-gateway restore: there are 0 arguments in place of 1\nusage:", "restore", "-state", folder)
-	command(t, 2, "resb-gateway backup: -state is missing\nusage:", "backup", file)
-}
-
 // TestALostFolder has the settings of the example, which take no folder without a store, be it new or emptied, until `init` makes one.
 func TestALostFolder(t *testing.T) {
 	t.Parallel()
-	dir, program := t.TempDir(), fileOf(t, version)
-	must(t, os.Chmod(program, 0o700))
-	given := []string{"-config", harness.Top("deploy/gateway.example.json"), "-state", dir, "-tokens", fileOf(t, harness.Tokens), "-program", program,
+	dir := t.TempDir()
+	given := []string{"-config", harness.Top("deploy/gateway.example.json"), "-state", dir, "-tokens", fileOf(t, harness.Tokens),
 		"-listen", "127.0.0.1:0", "-inside", "127.0.0.1:0", "-log=text"}
 	lost := func() {
 		t.Helper()
@@ -519,53 +447,6 @@ func TestALostFolder(t *testing.T) {
 	lost()
 	command(t, 2, "resb-gateway init: -state is missing\nusage:", "init")
 	command(t, 2, "resb-gateway init: there are 1 arguments in place of 0\nusage:", "init", "-state", dir, "more")
-}
-
-// TestExport writes each bundle as a text, in the form in which it was submitted or converted, which resb-put would send, and replaces nothing.
-func TestExport(t *testing.T) {
-	s := beside(t)
-	const text = "// a comment\nde{a{\"A\"}}\n"
-	s.put("de", text)
-	file := s.get("/v1/shop/de.res").Body
-	s.run([]step{{"w PUT /v1/shop/fr.res", "", file, 201, "", ""}, {"b PUT /v1/bank/de_AT.txt", "", `de_AT{a{"B"}}`, 201, "", ""}}...)
-	converted := s.get("/v1/shop/fr.txt").Body
-	s.leave()
-	to := t.TempDir()
-	command(t, 0, to+": 3 bundles", "export", "-state", s.State, "--", to)
-	equal(t, contentOf(t, to), map[string]string{to + "/shop/de.txt": text, to + "/shop/fr.txt": converted, to + "/bank/de_AT.txt": `de_AT{a{"B"}}`})
-	command(t, 1, "file exists", "export", "-state", s.State, "--", to)
-	command(t, 1, "no store", "export", "-state", t.TempDir(), "--", to)
-	command(t, 2, "usage:", "export", "-state", s.State)
-}
-
-// TestACopyToEtcd copies a store to etcd and back into a folder, with the revisions, while a gateway runs over etcd. A backup of that folder is
-// restored on one machine, and into a new etcd.
-func TestACopyToEtcd(t *testing.T) {
-	c, anew := harness.NewCluster(t, t.TempDir(), 1, nil), harness.NewCluster(t, t.TempDir(), 1, nil)
-	harness.StartAll(append(c.Members, anew.Members...))
-	members, folder := c.From(0), t.TempDir()
-	other, copied := filepath.Join(folder, "state"), filepath.Join(t.TempDir(), "copy")
-	s := beside(t)
-	s.put("de", `de{a{"A"}}`)
-	s.put("de", `de{a{"B"}}`)
-	s.leave()
-	command(t, 0, "", "copy", "-state", s.State, "-etcd", members, "to")
-	command(t, 0, "shop\tde\t", "list", "-etcd", members)
-	shared := &site{harness.Open(t, harness.Setup{Etcd: members}), t}
-	command(t, 0, "", "copy", "-state", other, "-etcd", members, "from")
-	shared.put("de", `de{a{"later"}}`)
-	command(t, 0, "", "backup", "-state", other, "--", copied)
-	third := t.TempDir()
-	command(t, 0, "", "restore", "-state", filepath.Join(third, "state"), "--", copied)
-	command(t, 0, "", "copy", "-state", filepath.Join(third, "state"), "-etcd", anew.From(0), "to")
-	for _, of := range []harness.Setup{{Folder: folder}, {Folder: third}, {Etcd: anew.From(0)}} {
-		again := &site{harness.Open(t, of), t}
-		again.run(step{"r GET /v1/shop/de/a", "", "", 200, `"B"`, "Resb-Revision: 2"})
-		again.run(step{"w PUT /v1/shop/de.txt", "", `de{a{"C"}}`, 200, "", "Resb-Revision: 3"})
-	}
-	to := filepath.Join(folder, "out")
-	command(t, 0, "1 bundles", "export", "-etcd", members, to)
-	equal(t, contentOf(t, to), map[string]string{to + "/shop/de.txt": `de{a{"later"}}`})
 }
 
 // TestTheLoginOfEtcd has etcd ask who one is: -check-config says what a start says, of a wrong password, of a user without rights, and of an

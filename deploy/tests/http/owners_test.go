@@ -3,12 +3,9 @@ package http
 import (
 	"encoding/json"
 	"fmt"
-	"net/url"
 	"os"
-	"path/filepath"
 	"strings"
 	"testing"
-	"time"
 
 	"luvdregan.example/resb/deploy/tests/harness"
 )
@@ -64,7 +61,7 @@ func TestEachRight(t *testing.T) {
 			got := s.ask(c.method, "/v1/shop"+c.path, token(right), c.body, "Content-Type", asLines)
 			name := strings.TrimPrefix(strings.Replace(right, "shop/de", "/", 1), "shop")
 			may := strings.Contains(" "+c.may+" ", " "+name+" ")
-			if is := got.Status != 403; is != may || got.Status == 401 || got.Status >= 500 && got.Error() != "NotOffered" {
+			if is := got.Status != 403; is != may || got.Status == 401 || got.Status >= 500 {
 				t.Errorf("%s: %s %s: %d %s", right, c.method, c.path, got.Status, got.Body)
 			}
 		}
@@ -83,70 +80,6 @@ func (s *site) makeToken(query string) (m madeToken) {
 		s.t.Fatalf("%v: %d %s", err, got.Status, got.Body)
 	}
 	return m
-}
-
-// TestOwnersMakeTokens has an owner make, list and revoke tokens, which are there after a start and in a backup, and no one else.
-func TestOwnersMakeTokens(t *testing.T) {
-	audit := filepath.Join(t.TempDir(), "audit")
-	s := granting(t, "", "-audit-log", audit)
-	s.put("de", `de{a{"A"}}`)
-	reads, edits := s.makeToken("rights=read&name=app&expires=90d"), s.makeToken("rights=read,edit&locale=de-at&name=anna&expires=90d")
-	status := func(method, path, token string) int { return s.ask(method, path, token, "x{}").Status }
-	equal(t, []int{status("GET", "/v1/shop/de/a", reads.Token), status("PUT", "/v1/shop/de.txt", reads.Token), status("GET", "/v1/bank", reads.Token)}, []int{200, 403, 401})
-	equal(t, []int{status("PUT", "/v1/shop/de_AT.txt", edits.Token), status("PUT", "/v1/shop/de.txt", edits.Token), status("GET", "/v1/shop/de_AT/a", edits.Token)}, []int{201, 403, 200})
-	var listed struct{ Tokens []madeToken }
-	list := func() []madeToken {
-		t.Helper()
-		got := s.ask("GET", "/v1/shop/_tokens", shopOwner, "")
-		if err := json.Unmarshal([]byte(got.Body), &listed); err != nil || strings.Contains(got.Body, reads.Token) {
-			t.Fatalf("%v: %s", err, got.Body)
-		}
-		return listed.Tokens
-	}
-	if all := list(); len(all) != 2 || all[0].Name != "app" || all[0].Rights != "read" || all[0].Expires == "" || all[0].ID != reads.ID || all[1].Locale != "de_AT" ||
-		all[1].Rights != "read,edit" || len(all[1].By) != 8 {
-		t.Errorf("%+v", all)
-	}
-	equal(t, s.past("?locale=de_AT")[0].Token, "anna")
-	for query, want := range map[string]string{"": "rights", "right=read": "right", "rights=read&expire=90d": "expire", "rights=read&rights=edit": "twice", "rights=sing": "\"sing\\\"", "rights=read%20x": "rights", "rights=read&name=a%20b": "is no name: one has",
-		"rights=read&name=a%20expires=2090-01-01": "is no name: one has", "rights=read&locale=d": "no locale's name", "rights=own&locale=de": "the owner",
-		"rights=read&expires=2001-01-01": "is past", "rights=read&expires=soon": "no time"} {
-		if got := s.ask("POST", "/v1/shop/_tokens?"+query, shopOwner, ""); got.Error() != "BadQuery" || !strings.Contains(got.Body, want) {
-			t.Errorf("%q: %d %s", query, got.Status, got.Body)
-		}
-	}
-	if got := s.ask("POST", "/v1/shop/_tokens?rights=read&name=app", shopOwner, ""); got.Status != 409 || got.Error() != "Exists" {
-		t.Errorf("%d %s", got.Status, got.Body)
-	}
-	for _, other := range []string{shopWrites, reads.Token, bankWrites} {
-		equal(t, status("POST", "/v1/shop/_tokens?rights=read", other), 403, other)
-	}
-	file := filepath.Join(t.TempDir(), "copy")
-	command(t, 0, "", "backup", "-state", s.State, "--", file)
-	s.Restart()
-	equal(t, []int{status("GET", "/v1/shop/de/a", reads.Token), len(list())}, []int{200, 2})
-	equal(t, []int{status("DELETE", "/v1/shop/_tokens/"+reads.ID, shopOwner), status("DELETE", "/v1/shop/_tokens/"+reads.ID, shopOwner),
-		status("GET", "/v1/shop/de/a", reads.Token), len(list())}, []int{200, 404, 401, 1})
-	owner := s.makeToken("rights=own")
-	equal(t, status("DELETE", "/v1/shop/_tokens/"+edits.ID, owner.Token), 200)
-	soon := s.makeToken("rights=read&expires=" + url.QueryEscape(time.Now().Add(2*time.Second).UTC().Format(time.RFC3339Nano)))
-	eventually(t, "the token has expired", func() bool { return status("GET", "/v1/shop", soon.Token) == 401 })
-	for i := len(list()); i < 100; i++ {
-		s.makeToken("rights=read")
-	}
-	if got := s.ask("POST", "/v1/shop/_tokens?rights=read", shopOwner, ""); got.Status != 409 || got.Error() != "Full" {
-		t.Errorf("%d %s", got.Status, got.Body)
-	}
-	lines, _ := os.ReadFile(audit)
-	if text := string(lines); !strings.Contains(text, `"action":"token","id":"`+reads.ID+`","note":"shop read app"`) ||
-		!strings.Contains(text, `"action":"token","locale":"de_AT","id":"`+edits.ID+`","note":"shop/de-at read,edit anna"`) || !strings.Contains(text, `"action":"revoke","id":"`+reads.ID) || strings.Contains(text, reads.Token) {
-		t.Errorf("%.3000s", text)
-	}
-	must(t, os.WriteFile(s.Tokens, []byte(harness.TokenLine("shop", "own", shopOwner)), 0o600))
-	again := t.TempDir()
-	command(t, 0, "", "restore", "-state", filepath.Join(again, "state"), "--", file)
-	other := &site{harness.Open(t, harness.Setup{Folder: again}), t}
-	equal(t, other.ask("GET", "/v1/shop/de/a", reads.Token, "").Status, 200)
 }
 
 // TestMadeTokensAtOtherGateways has a token made at one gateway and revoked at another one.
@@ -189,57 +122,4 @@ func TestMadeTokensShareLimits(t *testing.T) {
 	}
 	errorIf(t, refused < 16, "%d of 64 applications are refused", refused)
 	s.run(step{"b PUT /v1/bank/de.txt", "", "de{}", 201, "", ""})
-}
-
-// TestAnErasureIsUndone has the bundles come back, except one that is there again; the history doesn't. What is erased for good doesn't come back either.
-func TestAnErasureIsUndone(t *testing.T) {
-	s := granting(t, "")
-	undo := func(status int, code string) harness.Answer {
-		t.Helper()
-		got := s.ask("POST", "/v1/shop/_erasure/undo", shopOwner, "")
-		if got.Status != status || code != "" && got.Error() != code {
-			t.Errorf("%d %s", got.Status, got.Body)
-		}
-		return got
-	}
-	errorIf(t, !strings.Contains(undo(404, "NoVersion").Body, "no erasure"), "no message")
-	long := harness.Noise(20000)
-	s.put("de", `de{a{"earlier-secret"}}`)
-	tag := s.put("de", `de{a{"A"}}`).Tag()
-	s.put("fr", `fr{a{"`+long+`"}}`)
-	reads := s.makeToken("rights=read")
-	for i := 0; i < 2; i++ { // a request that is repeated
-		equal(t, s.ask("DELETE", "/v1/shop?erase", shopWrites, "").Body, yes)
-	}
-	s.names()
-	equal(t, len(s.past("")), 0)
-	s.put("fr", `fr{a{"F"}}`)
-	s.Restart()
-	equal(t, s.ask("GET", "/v1/shop/fr/a", reads.Token, "").Value(), "F")
-	equal(t, undo(200, "").Revision(), int64(8))
-	s.is("de/a", "A")
-	s.is("fr/a", "F")
-	equal(t, s.get("/v1/shop/de.txt").Tag(), tag)
-	undo(404, "NoVersion")
-	if all := s.past(""); len(all) != 2 || all[0].Op != "install" || all[0].Locale != "de" || all[0].Token == "" {
-		t.Errorf("%+v", all)
-	}
-	s.Restart()
-	s.is("de/a", "A")
-	s.put("it", `it{a{"a-secret"}}`)
-	equal(t, s.ask("DELETE", "/v1/shop?erase=now", shopWrites, "").Body, yes)
-	undo(404, "NoVersion")
-	s.names()
-	if files := s.filesWith("a-secret"); len(files) > 0 {
-		t.Errorf("%s have a part of it", files)
-	}
-	s = open(t, "-erase-after", "1s")
-	s.put("de", `de{a{"A"}}`)
-	equal(t, s.ask("DELETE", "/v1/shop?erase", shopWrites, "").Status, 200)
-	time.Sleep(1200 * time.Millisecond)
-	equal(t, s.ask("POST", "/v1/shop/_erasure/undo", shopWrites, "").Status, 404)
-	s = open(t, "-erase-after", "0s")
-	s.put("de", `de{a{"a-secret"}}`)
-	equal(t, s.ask("DELETE", "/v1/shop?erase", shopWrites, "").Status, 200)
-	errorIf(t, len(s.filesWith("a-secret")) > 0, "it is still there")
 }

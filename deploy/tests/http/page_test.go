@@ -28,29 +28,14 @@ func TestThePageByItsRequests(t *testing.T) {
 	s.script("ThePageByItsRequests", "policy", page.Policy, "url", s.URL)
 }
 
-// TestBrowserEdit works as a translator does who has no mouse: signs in, types a text, goes to its error, installs it, meets another's
-// change, compares, and restores an earlier version.
-func TestBrowserEdit(t *testing.T) {
-	b, s := visit(t)
-	b.play(s, "Edit")
-}
-
-// TestBrowserCauses leads from an error at the end of a text to the quote, brace or comment that isn't closed.
-func TestBrowserCauses(t *testing.T) {
-	b, s := visit(t)
-	b.play(s, "Causes")
-}
-
-// TestBrowserDrafts closes a tab with a text that isn't installed, which is there again later, beside what another one has changed.
-func TestBrowserDrafts(t *testing.T) {
-	b, s := visit(t, "de", "de{\n  a{\"A\"}\n  b{\"B\"}\n}\n")
-	b.play(s, "Drafts")
-}
-
-// TestBrowserSearch searches all bundles, and opens what it finds.
-func TestBrowserSearch(t *testing.T) {
-	b, s := visit(t, "en", `en{menu{open{"Open file"}}}`, "de", `de{menu{open{"Datei öffnen"}}}`, "fr", `fr{datei{"Fichier"}}`)
-	b.play(s, "Search")
+// TestBrowser plays scenes of testdata/browser.
+func TestBrowser(t *testing.T) {
+	for _, section := range []string{"Edit", "Causes", "Drafts", "Search", "LateAnswers", "Translate", "Save"} {
+		t.Run(section, func(t *testing.T) {
+			b, s := visit(t)
+			b.play(s, section)
+		})
+	}
 }
 
 // TestBrowserLongSearch searches 4,096 bundles: the page can be used meanwhile, and the search ends after 200 hits. How long a frame takes at most is
@@ -156,13 +141,6 @@ func TestBrowserRules(t *testing.T) {
 	}
 }
 
-// TestBrowserLateAnswers types, opens and forgets while answers are on their way: no text is lost or taken for another one, and a token
-// that is forgotten is used no more.
-func TestBrowserLateAnswers(t *testing.T) {
-	b, s := visit(t, "de", `de{a{"A"}}`, "fr", `fr{a{"F"}}`)
-	b.play(s, "LateAnswers")
-}
-
 // TestBrowserTakesBack takes a release back, which has one button for all of its bundles, unless one was changed since.
 func TestBrowserTakesBack(t *testing.T) {
 	b, s := visit(t, "de", `de{a{"A"}}`)
@@ -212,14 +190,6 @@ func TestBrowserHostile(t *testing.T) {
 	}
 }
 
-// TestBrowserTranslate shows a source beside translations into Arabic and Hindi, each in its own direction and language.
-func TestBrowserTranslate(t *testing.T) {
-	b, s := visit(t, "en", `en{menu{open{"Open file {0}"} close{"Close"} ok{"OK"}} list{"one", "two"} n:int{5} empty:table{}}`,
-		"ar", `ar{menu{open{"فتح الملف {0} (PDF)"} ok{"OK"}} list:array{"واحد"} extra{"{n, plural, other {زائد}}"}}`,
-		"hi", `hi{menu{open{"फ़ाइल {0} खोलें"} close{"बंद करें"} ok{"ठीक है"}} list{"एक", "दो"} n:int{5} empty:table{}}`)
-	b.play(s, "Translate")
-}
-
 // TestBrowserManyRows translates one of 10,000 strings: a hundred rows are drawn, a key is answered at once, and search and filters find rows of
 // other pages.
 func TestBrowserManyRows(t *testing.T) {
@@ -260,17 +230,6 @@ func TestBrowserManyRows(t *testing.T) {
 	b.until("pairs", "1")
 	b.until("both", "k9876")
 	b.fine()
-}
-
-// TestBrowserSave translates without a mouse: checked while it is typed, saved by a patch, kept while the page is away, and never
-// over another's change.
-func TestBrowserSave(t *testing.T) {
-	b, s := visit(t, "en", `en{
-  // a greeting
-  z{"Hello {name}"} list{"one","two"}
-  a{"{n, plural, one {# file} other {# files}}"}
-}`, "ru", `ru{m{"M"}}`)
-	b.play(s, "Save")
 }
 
 // TestBrowserFiles drops files: a text keeps its line ends, and one that isn't UTF-8 is refused.

@@ -129,46 +129,6 @@ func TestReleasesThatCantBeRead(t *testing.T) {
 	s.rest()
 }
 
-// TestConditionsOfReleases makes releases under conditions: of a line, of the application's revision. One that is made already needs none.
-func TestConditionsOfReleases(t *testing.T) {
-	s := beside(t)
-	s.script("ConditionsOfReleases", "tag", strconv.Quote(s.put("de", `de{a{"A"}}`).Tag()))
-}
-
-// TestUndo takes a release back in one request, unless a bundle of it was changed since. The history lists it as one change.
-func TestUndo(t *testing.T) {
-	s := beside(t)
-	s.put("de", `de{a{"A"}}`)
-	s.put("fr", `fr{}`)
-	const most = 4096 // changes of a revision
-	s.script("Undo", "release", fmt.Sprint(3*most+1), "undo", fmt.Sprint(4*most), "first", fmt.Sprint(most))
-	got := s.ask("GET", "/v1/shop/_history?by=change&last=3", shopWrites, "")
-	var reply struct {
-		History []struct {
-			ID, Revision int
-			Change       string
-			Bundles      []struct {
-				past
-				Change string
-			}
-		}
-	}
-	must(t, json.Unmarshal([]byte(got.Body), &reply))
-	text := ""
-	for _, of := range reply.History {
-		text += fmt.Sprint(of.Change, " ", of.Revision, " ", of.ID-of.Revision*most)
-		for _, b := range of.Bundles {
-			text += fmt.Sprint(" ", b.Op, " ", b.Locale)
-			errorIf(t, b.Change != of.Change || b.Revision != of.Revision, "%+v in %+v", b, of)
-		}
-		text += ", "
-	}
-	equal(t, text, "put 5 0 replace de, undo 4 0 install fr remove it replace de, release 3 0 remove fr install it replace de, ")
-	if some := s.past("?locale=it"); len(some) != 2 || some[1].Revision != 3 {
-		t.Errorf("%+v", some)
-	}
-}
-
 // TestAReleaseIsSeenWhole releases 900 bundles, and then few of them many times, while readers look: each
 // tree is of one release, and no reader sees an earlier release than before.
 func TestAReleaseIsSeenWhole(t *testing.T) {

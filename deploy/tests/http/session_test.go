@@ -15,9 +15,6 @@ import (
 	"luvdregan.example/resb/deploy/tests/harness"
 )
 
-// TestOneSession asks one thing after the other, as a user would.
-func TestOneSession(t *testing.T) { beside(t).script("OneSession") }
-
 // TestTokensPart tries each token at each application, to read and to write.
 func TestTokensPart(t *testing.T) {
 	s := beside(t)
@@ -125,42 +122,6 @@ func TestRevisions(t *testing.T) {
 	if got := <-done; got.Status != 200 || got.Revision() != 3 || got.Value() != "C" {
 		t.Errorf("a waiter got %d %s", got.Status, got.Body)
 	}
-}
-
-// TestOtherOrigins has scripts of allowed origins ask, and no others.
-func TestOtherOrigins(t *testing.T) {
-	s := beside(t, "-origins", "https://shop.example, http://localhost:3000")
-	for _, origin := range []string{"https://shop.example", "http://localhost:3000"} {
-		s.script("OtherOrigins allowed", "origin", origin)
-	}
-	for _, origin := range []string{"https://evil.example", "null", "http://shop.example",
-		"https://shop.example.evil"} {
-		s.script("OtherOrigins denied", "origin", origin)
-	}
-	s.run(step{"- GET /v1/shop", "Origin: https://shop.example", "", 401, "", "Access-Control-Allow-Origin: https://shop.example"})
-	open(t).run(step{"r GET /v1/shop", "Origin: https://shop.example", "", 200, "", "-Access-Control-Allow-Origin"})
-}
-
-// TestLanguagesOfACaller choose the locale.
-func TestLanguagesOfACaller(t *testing.T) {
-	s := beside(t)
-	for locale, text := range map[string]string{"root": `root{a{"R"} b{"B"}}`, "de": `de{a{"D"}}`, "de_AT": `de_AT{a{"A"}}`, "fr": `fr{a{"F"}}`} {
-		s.put(locale, text)
-	}
-	s.script("LanguagesOfACaller")
-}
-
-// TestLanguagesByTheTrail chooses a locale by the same trail as a lookup, with explicit parents and aliases, or else the application's default.
-func TestLanguagesByTheTrail(t *testing.T) {
-	s := beside(t, "-parents", "../../../examples/parents/cldr.txt")
-	all := []string{"en", "zh", "zh_Hant", "no", "he"}
-	for _, locale := range all {
-		s.put(locale, fmt.Sprintf(`%s{a{"%[1]s"}}`, locale))
-	}
-	s.put("iw", `iw{%%ALIAS{"he"}}`)
-	s.script("LanguagesByTheTrail", "default", fmt.Sprint(len(all)+2))
-	s.put("root", `root{a{"R"}}`)
-	s.run(step{"r GET /v1/shop/-/a", "Accept-Language: fr, nb", "", 200, `"no"`, ""}, step{"r GET /v1/shop/-/a", "Accept-Language: fr", "", 200, `"R"`, "-Content-Language"})
 }
 
 // TestRatesOfAnApplication end with 429, and others are answered.

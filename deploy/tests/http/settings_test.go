@@ -34,7 +34,7 @@ func TestAReadOnlyRoot(t *testing.T) {
 	if got := s.ask("POST", "/v1/shop/_releases", shopWrites, zipOf(t, namedText{"fr.txt", `fr{a{"F"}}`}), "Content-Type", asZip); got.Status != 200 {
 		t.Errorf("%d %s", got.Status, got.Body)
 	}
-	if got := s.ask("POST", "/v1/shop/_check/de.txt", shopWrites, "de{"); got.Status != 200 && got.Error() != "NotOffered" {
+	if got := s.ask("POST", "/v1/shop/_check/de.txt", shopWrites, "de{"); got.Status != 200 {
 		t.Errorf("%d %s", got.Status, got.Body)
 	}
 }
@@ -101,10 +101,8 @@ func TestKubernetes(t *testing.T) {
 		at[p.Name] = map[int]string{6422: "http://" + s.Address, 6423: s.Inside}[p.ContainerPort]
 	}
 	errorIf(t, at[service.Ports[0].TargetPort] != s.URL, "the service leads to %v", service.Ports)
-	program := fileOf(t, version)
-	must(t, os.Chmod(program, 0o700))
 	given := strings.NewReplacer("0.0.0.0:6422", s.Address, "0.0.0.0:6423", strings.TrimPrefix(s.Inside, "http://"), "/etc/resb/tokens", s.Tokens,
-		"/var/lib/resb-gateway", s.State, "/usr/bin/resb\n", program+"\n").Replace(strings.Join(append(entrypoint(t), container.Args...), "\n"))
+		"/var/lib/resb-gateway", s.State).Replace(strings.Join(append(entrypoint(t), container.Args...), "\n"))
 	s.Args = append([]string{s.Args[0]}, strings.Split(given, "\n")[1:]...)
 	s.Start()
 	s.Await(generous)

@@ -123,47 +123,23 @@ func (s *site) names(names ...string) {
 
 // A step is a request and what must come back.
 type step struct {
-	do      string // a token, a method and a path: w and r write and read shop, b writes bank, both reads both, a writes app.*, - is none
+	do      string // a token, a method and a path: w and r write and read shop, o owns it, b writes bank, both reads both, a writes app.*, - is none
 	headers string // Name: value | ..
 	body    string
 	status  int
-	want    string // =body, !error code, or a part of the body; "" is anything
-	reply   string // Name: value | .. of the reply; Name is there, -Name isn't, Name~part has the part, Name>x is stored for {x}
+	want    string // =body, !error code, ~expression, or a part of the body; "" is anything
+	reply   string // Name: value | .. of the reply; Name is there, -Name isn't, Name~part has the part, Name>x is stored for {x}, body>x the body, .name>x its member
 }
 
-var tokens = map[string]string{"w": shopWrites, "r": shopReads, "b": bankWrites, "both": bothRead, "a": appsWrite, "-": ""}
+var tokens = map[string]string{"w": shopWrites, "r": shopReads, "b": bankWrites, "both": bothRead, "a": appsWrite, "o": shopOwner, "-": ""}
 
-// script makes the steps of a section of testdata/steps, where {name} stands for the text after name.
+// script plays a section of testdata/steps, where {name} stands for the text after name.
 func (s *site) script(section string, pairs ...string) {
 	s.t.Helper()
-	var lines []string
-	for _, line := range sectionOf(s.t, "steps", section) {
-		if strings.Contains(line, " ⇒ ") { // a whole step
-			line = strings.NewReplacer(" > ", "\n> ", " + ", "\n+ ", " ⇒ ", "\n", " < ", "\n< ").Replace(line)
-		}
-		lines = append(lines, strings.Split(line, "\n")...)
-	}
-	var steps []step
-	begun, isOver := 0, false // those from begun on share the next lines, up to a status and headers
-	for _, line := range lines {
-		kind, rest, _ := strings.Cut(line, " ")
-		status, _ := strconv.Atoi(kind)
-		if status == 0 && !strings.Contains(">+<", kind) {
-			if isOver {
-				begun, isOver = len(steps), false
-			}
-			steps = append(steps, step{do: line})
-			continue
-		}
-		isOver = isOver || status > 0
-		for i := begun; i < len(steps); i++ {
-			steps[i].add(kind, status, rest)
-		}
-	}
 	for i := 0; i < len(pairs); i += 2 {
 		pairs[i] = "{" + pairs[i] + "}"
 	}
-	s.perform(pairs, steps)
+	(&scene{site: s, given: pairs}).play("steps", section)
 }
 
 // sectionOf returns the lines of a section of a file in testdata, without those that begin with #.
@@ -193,7 +169,7 @@ func (one *step) add(kind string, status int, text string) {
 	case "+":
 		one.body = unescaped(text)
 	default:
-		plain := strings.TrimLeft(text, "=!")
+		plain := strings.TrimLeft(text, "=!~")
 		one.status, one.want = status, text[:len(text)-len(plain)]+unescaped(plain)
 	}
 }
@@ -209,32 +185,44 @@ func unescaped(text string) string {
 // run makes steps, one after the other.
 func (s *site) run(steps ...step) {
 	s.t.Helper()
-	s.perform(nil, steps)
+	(&scene{site: s}).perform(steps)
 }
 
-// perform makes steps with texts for names, which is what it stores of replies too.
-func (s *site) perform(pairs []string, steps []step) {
-	s.t.Helper()
-	stored := strings.NewReplacer(pairs...)
+// perform makes steps, and stores what is asked for of replies.
+func (c *scene) perform(steps []step) {
+	c.t.Helper()
 	for n, one := range steps {
-		words := strings.SplitN(stored.Replace(one.do), " ", 3)
+		words := strings.SplitN(c.fill(one.do), " ", 3)
 		var headers []string
-		for _, h := range strings.Split(stored.Replace(one.headers), " | ") {
+		for _, h := range strings.Split(c.fill(one.headers), " | ") {
 			if name, value, found := strings.Cut(h, ": "); found {
 				headers = append(headers, name, value)
 			}
 		}
-		got := s.ask(words[1], words[2], tokens[words[0]], stored.Replace(one.body), headers...)
+		token, known := tokens[words[0]]
+		if !known {
+			token = words[0]
+		}
+		got := c.ask(words[1], words[2], token, c.fill(one.body), headers...)
 		what := fmt.Sprintf("%d: %s [%s] %.60q", n, one.do, one.headers, one.body)
-		errorIf(s.t, got.Status != one.status || !wanted(stored.Replace(one.want), got),
+		errorIf(c.t, got.Status != one.status || !wanted(c.fill(one.want), got),
 			"%s: %d %.300s, and not %d %.300s", what, got.Status, got.Body, one.status, one.want)
-		for _, spec := range strings.Split(stored.Replace(one.reply), " | ") {
-			if name, variable, store := strings.Cut(spec, ">"); store {
-				pairs = append(pairs, "{"+variable+"}", got.Header.Get(name))
-				stored = strings.NewReplacer(pairs...)
-				spec = name
+		for _, spec := range strings.Split(c.fill(one.reply), " | ") {
+			name, variable, isStored := strings.Cut(spec, ">")
+			if !isStored {
+				errorIf(c.t, !headed(spec, got.Header), "%s: no %q in %v", what, spec, got.Header)
+				continue
 			}
-			errorIf(s.t, !headed(spec, got.Header), "%s: no %q in %v", what, spec, got.Header)
+			value := got.Header.Get(name)
+			if name == "body" {
+				value = got.Body
+			} else if name[0] == '.' {
+				var reply map[string]any
+				_ = json.Unmarshal([]byte(got.Body), &reply)
+				value = fmt.Sprint(reply[name[1:]])
+			}
+			errorIf(c.t, value == "", "%s: no %s in %v %s", what, name, got.Header, got.Body)
+			c.store(variable, value)
 		}
 	}
 }
@@ -246,6 +234,9 @@ func wanted(want string, got harness.Answer) bool {
 		return got.Body == want[1:]
 	case strings.HasPrefix(want, "!"):
 		return got.Error() == want[1:]
+	}
+	if pattern := strings.TrimPrefix(want, "~"); pattern != want {
+		return regexp.MustCompile(pattern).MatchString(got.Body)
 	}
 	return strings.Contains(got.Body, want)
 }

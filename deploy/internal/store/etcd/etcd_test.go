@@ -20,10 +20,17 @@ func open(t testing.TB, endpoints string) *Store {
 	return s
 }
 
+// TestSuite has clients of three servers, in turn.
 func TestSuite(t *testing.T) {
+	_, endpoints := storetest.Etcd(t, storetest.Memory(t), 3)
+	all, opened := strings.Split(endpoints, ","), 0
 	storetest.Suite(t, func(t *testing.T) storetest.Kind {
-		_, endpoints := storetest.Etcd(t, storetest.Memory(t), 1)
-		return storetest.Kind{Shared: true, Open: func(t *testing.T) store.Store { return open(t, endpoints) }, Other: func(t *testing.T) store.Store {
+		_, err := open(t, endpoints).Delete(storetest.Ctx, "\x00", clientv3.WithFromKey())
+		storetest.Must(t, err)
+		return storetest.Kind{Shared: true, Open: func(t *testing.T) store.Store {
+			opened++
+			return open(t, all[opened%3])
+		}, Other: func(t *testing.T) store.Store {
 			s, err := sqlite.Open(sqlite.Options{Folder: t.TempDir(), Create: true})
 			storetest.Must(t, err)
 			t.Cleanup(func() { _ = s.Close() })

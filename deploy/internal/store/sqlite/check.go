@@ -101,7 +101,7 @@ var errChecksum = errors.New("it has another checksum")
 type checked struct {
 	state
 	mu      sync.Mutex
-	damaged []blob // without which all bundles can be read
+	damaged []string // rows of the table bodies without which all bundles can be read
 }
 
 // check returns an error if the database is damaged. It reads all bodies of each application, and compares them with what the newest manifest
@@ -174,7 +174,7 @@ func (c *checked) checkApp(from reader, whole bool) error {
 	defer c.mu.Unlock()
 	for d, is := range sound {
 		if !is {
-			c.damaged = append(c.damaged, blob{from.app, d})
+			c.damaged = append(c.damaged, fmt.Sprint([]any{from.app, d}))
 		}
 	}
 	return err

@@ -7,6 +7,7 @@ import (
 	"fmt"
 	"os"
 	"path/filepath"
+	"strings"
 	"testing"
 	"time"
 
@@ -110,4 +111,31 @@ func TestACollectionThatIsCutOff(t *testing.T) {
 	for _, m := range all {
 		Check(t, s, m)
 	}
+}
+
+// TestALongRelease stores 20 MB in one change beside collections, which find bodies that no manifest names yet.
+func TestALongRelease(t *testing.T) {
+	s := opened(t, t.TempDir())
+	ctx, stop := context.WithCancel(Ctx)
+	ended := make(chan struct{})
+	go func() {
+		defer close(ended)
+		for ctx.Err() == nil {
+			if _, err := s.Collect(Ctx, store.Keep{Manifests: 1}); err != nil {
+				t.Error(err)
+			}
+		}
+	}()
+	now := Empty("a")
+	for round := 0; round < 3; round++ {
+		var edits []manifest.Edit
+		for i := 0; i < 40; i++ {
+			edits = append(edits, Put(fmt.Sprint("l", i), strings.Repeat(fmt.Sprint(round%2, i), 1<<17)))
+		}
+		now = Make(t, s, now, edits...)
+		Check(t, s, now)
+	}
+	stop()
+	<-ended
+	Check(t, s, now)
 }

@@ -220,62 +220,14 @@ func TestTheWALOfKilledProcesses(t *testing.T) {
 	Check(t, again, now)
 }
 
-// TestBackup copies a store beside writers, and restores it.
-func TestBackup(t *testing.T) {
+// TestOneProcessHasAFolder opens a store twice, and has the folder of another one copied.
+func TestOneProcessHasAFolder(t *testing.T) {
 	folder, other := t.TempDir(), t.TempDir()
-	s := opened(t, folder)
-	now := Make(t, s, Empty("a"), Put("de", random(1<<20)), Put("fr", "x"))
-	stop := make(chan struct{})
-	var all sync.WaitGroup
-	all.Add(1)
-	beside := Make(t, s, Empty("b"), Put("de", "first"))
-	go func() {
-		defer all.Done()
-		for i := 0; ; i++ {
-			select {
-			case <-stop:
-				return
-			default:
-				beside = Make(t, s, beside, Put("de", fmt.Sprint(i)))
-			}
-		}
-	}()
-	file := filepath.Join(other, "copy.db")
-	sum, err := Backup(folder, file)
-	close(stop)
-	all.Wait()
-	if err != nil || sum.Apps != 2 {
-		t.Fatal(sum, err)
+	opened(t, folder)
+	if _, err := Open(Options{Folder: folder}); err == nil || !strings.Contains(err.Error(), "another gateway has this folder") {
+		t.Error("two have it: ", err)
 	}
-	if _, err := Backup(folder, file); !errors.Is(err, ErrExists) {
-		t.Error(err)
-	}
-	if _, err := Backup(other, file+"2"); !errors.Is(err, ErrMissing) {
-		t.Error(err)
-	}
-	if _, err := Restore(folder, file); err == nil {
-		t.Error("restored into a folder that has a store")
-	}
-	into := filepath.Join(other, "new")
-	if again, err := Restore(into, file); err != nil || again.Changes != sum.Changes {
-		t.Fatal(again, err)
-	}
-	Check(t, opened(t, into), now)
-	content, err := os.ReadFile(file)
-	Must(t, err)
-	content[len(content)/2] ^= 1
-	Must(t, os.WriteFile(file, content, 0o600))
-	if _, err := Restore(filepath.Join(other, "bad"), file); !errors.Is(err, store.ErrDamaged) {
-		t.Error(err)
-	}
-	if _, err := Open(Options{Folder: filepath.Join(other, "none")}); !errors.Is(err, ErrMissing) {
-		t.Error(err)
-	}
-	if _, err := Open(Options{Folder: folder}); err == nil {
-		t.Error("two have it")
-	}
-	Must(t, os.WriteFile(filepath.Join(other, earlier), nil, 0o600))
-	if _, err := Open(Options{Folder: other, Create: true}); err == nil || !strings.Contains(err.Error(), "an earlier version") {
+	if _, err := Backup(other, filepath.Join(other, "copy")); !errors.Is(err, ErrMissing) {
 		t.Error(err)
 	}
 }

@@ -63,7 +63,6 @@ type Store struct {
 	committing  sync.Mutex   // held until the changes of a transaction are reported
 	reading     sync.RWMutex // held while a connection reads, so that a checkpoint can wait until none does
 	collector   store.Collector
-	damaged     sync.Map    // of true by blob: what is stored of it isn't what was written
 	unwiped     atomic.Bool // the WAL may have what was erased
 
 	state              // of the database; the goroutine that writes has it
@@ -74,12 +73,6 @@ type Store struct {
 	tried   time.Time
 	seen    func(app string, revision int64) // of Watch
 	watched chan struct{}                    // closed once Watch has reported all that was there
-}
-
-// A blob names a row of the table bodies.
-type blob struct {
-	app    string
-	digest manifest.Digest
 }
 
 // Open opens the store of a folder. If something in it isn't what was acknowledged it returns an error that wraps store.ErrDamaged and names the
@@ -203,10 +196,8 @@ func (s *Store) open() error {
 		return fmt.Errorf("%s: %w; restore a backup", path, damaged(err))
 	}
 	s.state = found.state
-	for _, of := range found.damaged {
-		log.Printf("%s: table bodies, row [%s %s]: %v; all bundles are answered without it",
-			path, of.app, of.digest, errChecksum)
-		s.damaged.Store(of, true)
+	for _, row := range found.damaged {
+		log.Printf("%s: table bodies, row %s: %v; all bundles are answered without it", path, row, errChecksum)
 	}
 	if err := s.openMarker(); err != nil {
 		return err
@@ -351,11 +342,7 @@ func (s *Store) Digests(ctx context.Context, app string) (map[manifest.Digest]bo
 
 // Body returns a body.
 func (s *Store) Body(ctx context.Context, app string, b manifest.Bundle) ([]byte, error) {
-	body, err := of(ctx, s, app, func(from reader) ([]byte, error) { return from.Page(b.Digest) })
-	if errors.Is(err, store.ErrDamaged) {
-		s.damaged.Store(blob{app, b.Digest}, true)
-	}
-	return body, err
+	return of(ctx, s, app, func(from reader) ([]byte, error) { return from.Page(b.Digest) })
 }
 
 // selectNewest finds each application with its last revision by a few steps in the index.

@@ -250,21 +250,17 @@ func (t *transaction) swap(next *manifest.Manifest, head []byte, blobs map[manif
 	return err
 }
 
-// put stores bodies with the number of this change, so that a plan which was made before doesn't remove them. For one that is there SQLite doesn't
-// write the body again, unless it is damaged.
+// put stores bodies with the number of this change, so that a plan which was made before doesn't remove them. Of one that is there SQLite writes only
+// the pages that are damaged.
 func (t *transaction) put(app string, blobs map[manifest.Digest][]byte) error {
 	t.swaps++
 	for digest, body := range blobs {
-		if _, is := t.damaged.Load(blob{app, digest}); is {
-			if _, err := t.exec("delete from bodies where app = ? and digest = ?", app, digest); err != nil {
-				return err
-			}
-		}
 		if body == nil {
 			body = []byte{}
 		}
 		_, err := t.exec(`insert into bodies values (?, ?, ?, ?, ?)
-			on conflict (app, digest) do update set swap = excluded.swap`, app, digest, t.swaps, checksum(body), body)
+			on conflict (app, digest) do update set swap = excluded.swap, crc = excluded.crc, body = excluded.body`,
+			app, digest, t.swaps, checksum(body), body)
 		if err != nil {
 			return err
 		}

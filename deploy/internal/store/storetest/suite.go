@@ -295,7 +295,7 @@ func testUndo(t *testing.T, k Kind) {
 	Check(t, s, now)
 }
 
-// testRaces has four clients make the same revision, 50 times: exactly one succeeds, and its manifest is stored.
+// testRaces has four clients make the same revision, 100 times: exactly one succeeds, and its manifest is stored.
 func testRaces(t *testing.T, k Kind) {
 	clients := []store.Store{k.Open(t)}
 	for len(clients) < 4 {
@@ -306,7 +306,7 @@ func testRaces(t *testing.T, k Kind) {
 		clients = append(clients, s)
 	}
 	now := Empty("a")
-	for round := 0; round < 50; round++ {
+	for round := 0; round < 100; round++ {
 		var all sync.WaitGroup
 		var won [4]*manifest.Manifest
 		for i, s := range clients {

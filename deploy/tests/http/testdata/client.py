@@ -80,7 +80,7 @@ assert json.loads(call("look", **SHOP, locale="-", path="menu", **{"Accept-Langu
 assert call("lookRoot", **DE, path="menu", tree="") == b'{"close":"C","open":"B"}\n'
 for one in ("getTxt", "getJson"):
     call(one, **DE)
-call("check", call("getRes", **DE), "application/octet-stream", **DE)  # a text needs the program
+call("check", call("getRes", **DE), "application/octet-stream", **DE)
 line = {"locale": "fr", "text": "fr{}", "if": None}
 released = json.loads(call("release", json.dumps(line), "application/x-ndjson", **SHOP, **{"If-Match": '"3"'}))
 history = json.loads(call("history", **SHOP, last=10))["history"]
