@@ -8,17 +8,19 @@ import pathlib
 import random
 import re
 import shutil
+import statistics
 import subprocess
 import sys
 import tempfile
 import time
+import zipfile
 
 import hostile
 from measuring import MB, RUNS, Case, Goal, seconds
 from support import icu, texts
 from support.measured import measured
 from support.program import TOP, Resb, Skipped
-from support.server import SETTINGS, Server, line_of
+from support.server import ADVISED, SETTINGS, Server, line_of
 
 
 class Bench(Resb):
@@ -235,6 +237,31 @@ class Asked(Server):
         return (self.microseconds() - before) / sum(part.count(b"\n") for part in parts)
 
 
+def beside_changes(server, looks):
+    """Lookups of an application while another one replaces a bundle before each, beside lookups alone."""
+    change = lines([{"op": "replace", "app": "other", "locale": "de", "text": "de{a{\"b\"}}"}])
+    server.send_all(change.replace(b"replace", b"install"))
+    alone, changes, both = ([part] for part in (b"".join(looks), change * len(looks), b"".join(change + look for look in looks)))
+    return Case("serve", "a lookup beside changes of another application, with limits", lambda: 2 * server.used(both) - server.used(changes),
+                functools.partial(server.used, alone), "lookups alone", "microseconds", [Goal("time", 1.1)], runs=3 * RUNS)
+
+
+def filling_case(words):
+    """The time of an install where 4,096 fill an application, beside the first 100 of it."""
+    text, filled = "de{" + " ".join(f'key{i:03}{{"value {i}"}}' for i in range(20)) + "}", 4_096
+    installs = lines({"op": "install", **spot(i, 1), "text": text} for i in range(filled))
+    first = lines({"op": "install", **spot(i, 1), "text": text} for i in range(100))
+
+    def used(asked):
+        server = Asked(words, b"")
+        figure = server.used([asked])
+        server.end()
+        return figure
+
+    return Case("serve", "an install of 4,096 into one application, with limits", lambda: used(installs),
+                lambda: statistics.median(used(first) for _ in range(9)), "the first 100", "microseconds", [Goal("time", 1.3)])
+
+
 def install_case(bench, name, member, value, size, bound, count=100):
     path, words = bench.put("installs", lines({"op": "install", **spot(i), member: value} for i in range(count))), [bench.program, "serve"]
     return Case("serve", f"installs of {name}", lambda: count * size / MB / (seconds(words, path) - seconds(words)), unit="MB/s", goals=[Goal("MB/s", bound, True)])
@@ -270,12 +297,16 @@ def serve_cases(bench):
             server = Asked([bench.program, "serve"], setup)
             yield Case("serve", "a lookup in 1,000 bundles, one by one", lambda server=server: server.used(wanted), unit="microseconds")
             server.end()
-    words = ["env", *(f"{name}={value}" for name, value in SETTINGS.items()), bench.program, "serve"]
-    one, other = Asked(words, setup), Asked(words, few[0])
-    yield Case("serve", "a lookup in 100,000 bundles, with the settings of bin/resb", lambda: one.used([asked]), lambda: other.used([few[1]]), "a server of 1,000",
-               "microseconds", [Goal("time", 1.5)], runs=3 * RUNS)
-    one.end()
-    other.end()
+    settings = ["env", *(f"{name}={value}" for name, value in SETTINGS.items()), bench.program, "serve"]
+    for words, how in ((settings, ""), ([*settings, *ADVISED], ", with limits")):
+        one, other = Asked(words, setup), Asked(words, few[0])
+        yield Case("serve", f"a lookup in 100,000 bundles, with the settings of bin/resb{how}", functools.partial(one.used, [asked]),
+                   functools.partial(other.used, [few[1]]), "a server of 1,000", "microseconds", [Goal("time", 1.5)], runs=3 * RUNS)
+        one.end()
+        if how:
+            yield beside_changes(other, few[1].splitlines(keepends=True)[:LOOKS // 10])
+            yield filling_case(words)
+        other.end()
     paths = ["months/7", "countries/AT", "days/1"]
     setup = lines({"op": "install", "app": "app0", "locale": locale, "text": text} for locale, text in TRAIL.items())
     looks = lines({"op": "look", "app": "app0", "locale": "de_AT_WIEN", "path": paths[number % 3]} for number in range(LOOKS))
@@ -291,7 +322,7 @@ def text_to_lookup(bench):
     icu.need("genrb")
     genrb = [shutil.which("genrb"), "--formatVersion", "1", "-q", "-d", bench.folder, source]
     yield Case("serve", "an install of nested text of 8 MB and a lookup", lambda: seconds([bench.program, "serve"], ours),
-               lambda: seconds(genrb) + seconds([bench.icu_server, bench.folder], look), "genrb and ures_open", goals=[Goal("time", 0.3)])
+               lambda: seconds(genrb) + seconds([bench.icu_server, bench.folder], look), "genrb and ures_open", goals=[Goal("time", 0.25)])
 
 
 # ---- all of CLDR
@@ -338,8 +369,19 @@ def chosen_files(files, count):
     return [path for group in (first, *rest) for path in group][:count]
 
 
+def whole_cases(name, without, within, theirs, asked):
+    """The cases of a server without limits, of one with those that are advised, beside the C server, and of the second beside the first."""
+    for kind, bound, limited in (("cold", 1.3, 1.3), ("hot", 2.2, 2), ("one by one", 1.1, 1.1)):
+        for ours, how, least in ((without, "", bound), (within, ", with limits", limited)):
+            yield Case("cldr", f"{kind} lookups in {name}{how}", functools.partial(ours.used, asked[kind]), functools.partial(theirs.used, asked[kind]),
+                       "the C server", "microseconds", [Goal("speed", least, True)])
+    yield Case("cldr", f"hot lookups in {name}, with limits and without", functools.partial(within.used, asked["hot"]),
+               functools.partial(without.used, asked["hot"]), "a server without", "microseconds", [Goal("time", 1.1)])
+
+
 def cldr_cases(bench):
     """`resb serve` beside a line server over libicu: cold lookups in random order, hot ones of which HOT repeat, and one by one."""
+    without, within = ([bench.program, "serve", *options] for options in ((), ADVISED))
     installs = {path: lines([{"op": "install", "app": "cldr", "locale": path.stem, "file": path.read_bytes().hex()}]) for path in bench.cldr_files}
     server = Asked([bench.program, "serve"], b"".join(installs.values()), keeps=True)
     paths = sorted({path for locale in LOCALES for path in strings_of(server, locale)})
@@ -349,21 +391,20 @@ def cldr_cases(bench):
         folder.mkdir()
         for path in files:
             os.link(path, folder / path.name)
-        both = Asked([bench.program, "serve"], b"".join(installs[path] for path in files), True), Asked([bench.icu_server, folder], b"", True)
-        asked = lookups(*both, [path.stem for path in files], paths)
-        for one in both:
+        setup = b"".join(installs[path] for path in files)
+        theirs, *ours = (Asked(words, given, True) for words, given in (([bench.icu_server, folder], b""), (without, setup), (within, setup)))
+        asked = lookups(ours[0], theirs, [path.stem for path in files], paths)
+        for one in (theirs, *ours):
             one.keeps = False
         kinds = {"cold": (asked * (AHEAD // len(asked) + 1))[:AHEAD], "hot": (asked[:HOT] * (AHEAD // HOT + 1))[:AHEAD]}
-        is_whole = count == len(installs)
-        for kind, bound in (("cold", 1.3), ("hot", 2.2)):
-            wanted = b"".join(kinds[kind])
-            yield Case("cldr", f"{kind} lookups in {count} bundles", lambda both=both, wanted=wanted: both[0].used([wanted]),
-                       lambda both=both, wanted=wanted: both[1].used([wanted]), "the C server", "microseconds", [Goal("speed", bound, True)] if is_whole else ())
-        if is_whole:
-            wanted = (asked * (ONE_BY_ONE // len(asked) + 1))[:ONE_BY_ONE]
-            yield Case("cldr", f"one by one lookups in {count} bundles", lambda: both[0].used(wanted), lambda: both[1].used(wanted), "the C server",
-                       "microseconds", [Goal("speed", 1.1, True)])
-        for one in both:
+        parts = {kind: [b"".join(wanted)] for kind, wanted in kinds.items()}
+        if count == len(installs):
+            yield from whole_cases(f"{count} bundles", *ours, theirs, {**parts, "one by one": (asked * (ONE_BY_ONE // len(asked) + 1))[:ONE_BY_ONE]})
+        else:
+            for kind, wanted in parts.items():
+                yield Case("cldr", f"{kind} lookups in {count} bundles", functools.partial(ours[0].used, wanted), functools.partial(theirs.used, wanted),
+                           "the C server", "microseconds")
+        for one in (theirs, *ours):
             one.end()
     yield from extended_cases(bench)
 
@@ -405,6 +446,7 @@ def daily_cases(bench):
 
 # ---- lookups in process: libresb beside libicu, and the module resb beside PyICU
 
+WAYS = "by name", "from an open locale", "by name with steps limited", "from an open locale with steps limited"
 LOCALE, KEYS, ROUNDS = "de_AT", ("calendar", "gregorian", "monthNames", "format", "wide"), 20_000
 
 
@@ -418,35 +460,37 @@ def library_program(bench, *options):
 
 
 def instructions(bench, files, part):
-    """Counts the instructions of a question by callgrind. Parts 0 to 2 ask those without an alias on their way, 3 to 5 the others: of libresb by name and
-    from an open locale, and of libicu."""
+    """Counts the instructions of a question by callgrind. The first parts ask those without an alias on their way, in each of WAYS and of libicu, the next
+    ones the others."""
     icu.need("valgrind")
     dump = bench.folder / "dump"
     words = ["valgrind", "--tool=callgrind", "--collect-atstart=no", f"--callgrind-out-file={dump}", library_program(bench, "-DCOUNTED"), files, str(part)]
     printed = subprocess.run(words, check=True, capture_output=True, text=True).stdout
-    count = re.search(rf"(\d+) {'through aliases' if part > 2 else 'direct'}", printed)[1]
+    count = re.search(rf"(\d+) {'through aliases' if part > len(WAYS) else 'direct'}", printed)[1]
     return int(re.search(r"^totals: (\d+)", dump.read_text(), flags=re.M)[1]) / int(count)
 
 
 def library_cases(bench):
-    if not bench.library:
-        raise Skipped("--library names no folder that tools/library made")
+    wheels = list(bench.library.glob("*.whl")) if bench.library else []
+    if not wheels:
+        raise Skipped("--library names no folder that tools/library --wheel made")
     files = icu.files(bench.data, bench.folder)
     printed = subprocess.run([library_program(bench), files, str(RUNS)], check=True, stdout=subprocess.PIPE, text=True).stdout
-    turns = [tuple(map(int, times)) for times in re.findall(r"resb (\d+) ns, open (\d+) ns, icu (\d+) ns", printed)]
-    for at, name in enumerate(("by name", "from an open locale")):
-        ours, theirs = (iter([turn[side] for turn in turns]) for side in (at, 2))
-        yield Case("library", f"a lookup {name}", ours.__next__, theirs.__next__, "libicu", "ns", [Goal("speed", 1.2, True)])
-        for first, kind, most in ((0, "direct", 3_000), (3, "through aliases", 7_000)):
+    turns = [tuple(map(int, times.split(", "))) for times in re.findall(r"^([\d, ]+) ns$", printed, flags=re.M)]
+    for at, name in enumerate(WAYS):
+        ours, theirs = (iter([turn[side] for turn in turns]) for side in (at, len(WAYS)))
+        yield Case("library", f"a lookup {name}", ours.__next__, theirs.__next__, "libicu", "ns", [Goal("speed", 1.3, True)])
+        for first, kind, most in ((0, "direct", 3_000), (len(WAYS) + 1, "through aliases", 7_000)):
             yield Case("library", f"a lookup {name}, {kind}", functools.partial(instructions, bench, files, first + at),
-                       functools.partial(instructions, bench, files, first + 2), "libicu", "instructions", [Goal("instructions", most)], runs=1)
-    yield from python_cases(bench, files)
+                       functools.partial(instructions, bench, files, first + len(WAYS)), "libicu", "instructions", [Goal("instructions", most)], runs=1)
+    yield from python_cases(bench, files, wheels[0])
 
 
-def python_cases(bench, files):
+def python_cases(bench, files, wheel):
     """One string by the module resb, and by PyICU, whose bundle is kept: key by key, and by a path of keys."""
-    sys.path.insert(0, str(bench.library))
-    os.environ["RESB_LIBRARY"] = str(bench.library / "libresb.so.0")
+    with zipfile.ZipFile(wheel) as packed:
+        packed.extractall(bench.folder / "wheel")
+    sys.path.insert(0, str(bench.folder / "wheel"))
     bundles, path = importlib.import_module("resb").Bundles(), "/".join(KEYS)
     for locale in ("root", "de", "de_AT"):
         bundles.install("cldr", locale, pathlib.Path(files, f"{locale}.res").read_bytes())
@@ -469,7 +513,7 @@ def python_cases(bench, files):
         raise SystemExit("the answers differ")
     for name, steps in (("key by key", KEYS), ("by a path", (path,))):
         theirs = kept and functools.partial(timed, functools.partial(by, *steps))
-        yield Case("library", f"a lookup in Python, {name} in PyICU", lambda: timed(ours), theirs, "PyICU", "microseconds", [Goal("time", 1.2)])
+        yield Case("library", f"a lookup in Python, {name} in PyICU", lambda: timed(ours), theirs, "PyICU", "microseconds", [Goal("speed", 1.2, True)])
 
 
 TABLES = {"compile": compile_cases, "print": print_cases, "text": text_cases, "serve": serve_cases, "cldr": cldr_cases, "daily": daily_cases,

@@ -1,10 +1,9 @@
-/* Times lookups in process, of libresb by name and from open locales beside libicu with its bundles kept open, in alternating turns.
+/* Times lookups in process, of libresb beside libicu with its bundles kept open, in alternating turns.
  * usage: library FOLDER TURNS: the .res files of FOLDER, in version 1 of the format
- * Prints a line for each turn: nanoseconds of processor time for a lookup of each, over the same questions; the ratios are of open locales.
+ * Prints a line for each turn: nanoseconds of processor time for a lookup in each of the ways below, over the same questions.
  *
  * Built with COUNTED and run as `library FOLDER PART` under callgrind with --collect-atstart=no, it prints how many questions are direct
- * and how many lead through aliases, and asks those of one part once: direct of libresb by name (0), from open locales (1) and of libicu
- * (2), and through aliases in the same order (3, 4, 5). */
+ * and how many lead through aliases, and asks those of one part once: direct in each way (0 to 4), then through aliases (5 to 9). */
 #include <dirent.h>
 #include <stdio.h>
 #include <stdlib.h>
@@ -21,7 +20,7 @@
 U_CAPI UResourceBundle *U_EXPORT2 ures_getByKeyWithFallback(const UResourceBundle *, const char *, UResourceBundle *, UErrorCode *);
 
 #define STRING(s) (s), strlen(s)
-enum { FILES = 2000, PATHS = 60000, QUESTIONS = 20000 };
+enum { FILES = 2000, PATHS = 60000, QUESTIONS = 20000, STEPS = 1000000 };
 
 static char *names[FILES], *paths[PATHS];
 static UResourceBundle *tops[FILES], *fill;
@@ -89,24 +88,24 @@ static void gather(UResourceBundle *item, char *path, size_t len) {
     }
 }
 
-static bool ask_resb(int i) {
-    resb_found found;
-    const char *name = names[questions[i].file];
-    if (resb_look(&engine, STRING("cldr"), STRING(name), STRING(questions[i].path), &found) || found.kind != RESB_STRING)
-        return false;
-    sum += ((const uint16_t *)found.at)[0] + (long)found.count;
-    return true;
-}
+/* Defines a way to ask libresb. */
+#define ASK(way, call)                                                            \
+    static bool way(int i) {                                                      \
+        const char *name = names[questions[i].file], *path = questions[i].path;   \
+        const resb_locale *opened = &locales[questions[i].file];                  \
+        resb_found found;                                                         \
+        (void)name, (void)opened;                                                 \
+        if ((call) || found.kind != RESB_STRING)                                  \
+            return false;                                                         \
+        sum += ((const uint16_t *)found.at)[0] + (long)found.count;               \
+        return true;                                                              \
+    }
+ASK(by_name, resb_look(&engine, STRING("cldr"), STRING(name), STRING(path), &found))
+ASK(from_open, resb_look_at(&engine, opened, STRING(path), &found))
+ASK(by_name_within, resb_look_within(&engine, STRING("cldr"), STRING(name), STRING(path), STEPS, &found))
+ASK(from_open_within, resb_look_at_within(&engine, opened, STRING(path), STEPS, &found))
 
-static bool ask_open(int i) {
-    resb_found found;
-    if (resb_look_at(&engine, &locales[questions[i].file], STRING(questions[i].path), &found) || found.kind != RESB_STRING)
-        return false;
-    sum += ((const uint16_t *)found.at)[0] + (long)found.count;
-    return true;
-}
-
-static bool ask_icu(int i) {
+static bool by_icu(int i) {
     UErrorCode status = U_ZERO_ERROR;
     int32_t len;
     fill = ures_getByKeyWithFallback(tops[questions[i].file], questions[i].path, fill, &status);
@@ -116,6 +115,9 @@ static bool ask_icu(int i) {
     sum += units[0] + len;
     return true;
 }
+
+static bool (*const ways[])(int) = {by_name, from_open, by_name_within, from_open_within, by_icu};
+enum { WAYS = sizeof ways / sizeof *ways };
 
 static double timed(bool (*ask)(int), int asked) {
     double began = now();
@@ -144,16 +146,14 @@ static bool is_direct(int i) {
 
 static void count_instructions(int asked, int part) {
     static bool direct[QUESTIONS];
-    bool (*const asks[])(int) = {ask_resb, ask_open, ask_icu};
-    bool (*ask)(int) = asks[part % 3];
     int directs = 0;
     for (int i = 0; i < asked; i++)
         directs += direct[i] = is_direct(i);
     printf("%d direct, %d through aliases\n", directs, asked - directs);
     CALLGRIND_TOGGLE_COLLECT;
     for (int i = 0; i < asked; i++)
-        if (direct[i] == (part < 3))
-            ask(i);
+        if (direct[i] == (part < WAYS))
+            ways[part % WAYS](i);
     CALLGRIND_TOGGLE_COLLECT;
 }
 #endif
@@ -186,8 +186,10 @@ int main(int argc, char **argv) {
     for (int tries = 0; asked < QUESTIONS && tries < 10 * QUESTIONS; tries++) {
         questions[asked].file = (int)next_random((unsigned)files);
         questions[asked].path = paths[next_random((unsigned)count)];
-        if (ask_resb(asked) && ask_open(asked) && ask_icu(asked))
-            asked++;
+        int way = 0;
+        while (way < WAYS && ways[way](asked))
+            way++;
+        asked += way == WAYS;
     }
     printf("%d files, %d questions\n", files, asked);
 #ifdef COUNTED
@@ -195,8 +197,8 @@ int main(int argc, char **argv) {
     return 0;
 #endif
     for (int turn = 0; turn < atoi(argv[2]); turn++) {
-        double ours = timed(ask_resb, asked), open = timed(ask_open, asked), theirs = timed(ask_icu, asked);
-        printf("resb %.0f ns, open %.0f ns, icu %.0f ns\n", ours, open, theirs);
+        for (int way = 0; way < WAYS; way++)
+            printf("%.0f%s", timed(ways[way], asked), way + 1 < WAYS ? ", " : " ns\n");
     }
     return 0;
 }
