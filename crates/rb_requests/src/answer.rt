@@ -166,7 +166,39 @@ fn place_item<S: Sink>(
     Ok(Placed::Put(put_found(alloc, sink, found, reply)?))
 }
 
-/// Writes the reply to a lookup to the sink, or makes the line that reply if nothing was found.
+/// Checks whether an item is a String of so few units that its reply is made in one piece.
+fn is_short(item: Item<'_>) -> bool {
+    match item.text() {
+        Some(units) => units.len() <= 1024,
+        None => false,
+    }
+}
+
+/// Makes the line the reply to a lookup, or an error if the reply for a found item is too long.
+fn tell_found(
+    alloc: Global,
+    limits: &Limits,
+    found: &Result<Found<Item<'_>>, LookFault>,
+    reply: &mut ReplyLine,
+) -> Result<(), AllocError>
+    ensures { OnOk result
+        (reply.new ≡ outcome_line limits.now (Answers (look_response tree_seen found.now))) }
+{
+    reply.tell_look(alloc, found)?;
+    if found.is_err() {
+        return Ok(());
+    }
+    match limits.reply_bytes {
+        Some(most) if reply.as_bytes().len() as u64 > most => {
+            tell_line_error(alloc, LineError::ReplyTooLong, reply)
+        }
+        _ => Ok(()),
+    }
+}
+
+/// Writes the reply to a lookup to the sink, or makes the line that reply if nothing or little was
+/// found. Of a short item the line is made and then compared with its limit, which takes less time
+/// than to count its bytes first.
 fn place_found<S: Sink>(
     alloc: Global,
     limits: &Limits,
@@ -180,9 +212,11 @@ fn place_found<S: Sink>(
         (λ text. text ≡ outcome_line limits.now (Answers (look_response tree_seen found.now))) }
 {
     if let Ok(item) = found {
-        return place_item(alloc, limits, item, reply, sink);
+        if limits.reply_bytes.is_none() || !is_short(item.node) {
+            return place_item(alloc, limits, item, reply, sink);
+        }
     }
-    reply.tell_look(alloc, found)?;
+    tell_found(alloc, limits, found, reply)?;
     Ok(Placed::Held)
 }
 
