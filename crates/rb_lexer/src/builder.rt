@@ -47,7 +47,8 @@ impl Builder {
         if self.pending.is_none() {
             return Ok(());
         }
-        if let Some(pending) = self.pending.take() {
+        if let Some(mut pending) = self.pending.take() {
+            pending.units.shrink_to_fit();
             self.tokens.push_back(Token {
                 what: Mark::Text(pending.units),
                 first: pending.first,
