@@ -14,6 +14,7 @@ import sys
 import tempfile
 import time
 import zipfile
+from typing import NamedTuple
 
 import hostile
 from measuring import MB, RUNS, Case, Goal, seconds
@@ -237,6 +238,20 @@ class Asked(Server):
         return (self.microseconds() - before) / sum(part.count(b"\n") for part in parts)
 
 
+class Fresh(NamedTuple):
+    """A server that is started anew for each figure, since where a process lies in memory changes its times by up to a third."""
+
+    words: list[object]
+    setup: bytes
+
+    def used(self, parts):
+        server = Asked(self.words, self.setup)
+        server.used(parts)  # the C server opens its bundles
+        figure = server.used(parts)
+        server.end()
+        return figure
+
+
 def beside_changes(server, looks):
     """Lookups of an application while another one replaces a bundle before each, beside lookups alone."""
     change = lines([{"op": "replace", "app": "other", "locale": "de", "text": "de{a{\"b\"}}"}])
@@ -369,7 +384,7 @@ def chosen_files(files, count):
     return [path for group in (first, *rest) for path in group][:count]
 
 
-def whole_cases(name, without, within, theirs, asked):
+def whole_cases(name, theirs, without, within, asked):
     """The cases of a server without limits, of one with those that are advised, beside the C server, and of the second beside the first."""
     for kind, bound, limited in (("cold", 1.3, 1.3), ("hot", 2.2, 2), ("one by one", 1.1, 1.1)):
         for ours, how, least in ((without, "", bound), (within, ", with limits", limited)):
@@ -392,14 +407,16 @@ def cldr_cases(bench):
         for path in files:
             os.link(path, folder / path.name)
         setup = b"".join(installs[path] for path in files)
-        theirs, *ours = (Asked(words, given, True) for words, given in (([bench.icu_server, folder], b""), (without, setup), (within, setup)))
+        servers = [([bench.icu_server, folder], b""), (without, setup), (within, setup)]
+        theirs, *ours = (Asked(*server, keeps=True) for server in servers)
         asked = lookups(ours[0], theirs, [path.stem for path in files], paths)
         for one in (theirs, *ours):
             one.keeps = False
         kinds = {"cold": (asked * (AHEAD // len(asked) + 1))[:AHEAD], "hot": (asked[:HOT] * (AHEAD // HOT + 1))[:AHEAD]}
         parts = {kind: [b"".join(wanted)] for kind, wanted in kinds.items()}
         if count == len(installs):
-            yield from whole_cases(f"{count} bundles", *ours, theirs, {**parts, "one by one": (asked * (ONE_BY_ONE // len(asked) + 1))[:ONE_BY_ONE]})
+            parts["one by one"] = (asked * (ONE_BY_ONE // len(asked) + 1))[:ONE_BY_ONE]
+            yield from whole_cases(f"{count} bundles", *(Fresh(*server) for server in servers), parts)
         else:
             for kind, wanted in parts.items():
                 yield Case("cldr", f"{kind} lookups in {count} bundles", functools.partial(ours[0].used, wanted), functools.partial(theirs.used, wanted),
