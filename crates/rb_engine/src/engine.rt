@@ -379,14 +379,20 @@ impl Engine {
             ≡ answer_over (state_of self.now).start ((state_of self.now).lists app.now)
             (Looks app.now locale.now path.now)) }
     {
-        self.opened.look(
+        let opened = self.opened.look(
             &self.packages,
             &self.parents,
             self.versions.of(app),
             app,
             locale,
             path,
-        )
+            None,
+        );
+        match opened {
+            Some(Ok(found)) => Some(found),
+            Some(Err(TooManySteps)) => unreachable!(),
+            None => None,
+        }
     }
 
     /// Looks up like `look_kept`, in at most `left` steps, and returns the item alone, which takes
@@ -435,16 +441,7 @@ impl Engine {
         let own_app = place.app.as_bytes();
         let own_locale = place.name.as_bytes();
         if own_app != app || own_locale != locale {
-            let version = self.versions.of(own_app);
-            let opened = self.opened.look(
-                &self.packages,
-                &self.parents,
-                version,
-                own_app,
-                own_locale,
-                path,
-            );
-            if let Some(found) = opened {
+            if let Some(found) = self.look_kept(own_app, own_locale, path) {
                 return found;
             }
         }
@@ -485,14 +482,14 @@ impl Engine {
         if let Some(found) = kept {
             return Ok(Ok(found));
         }
-        let opened = self.opened.look_within(
+        let opened = self.opened.look(
             &self.packages,
             &self.parents,
             version,
             app,
             locale,
             path,
-            steps,
+            Some(steps),
         );
         match opened {
             Some(found) => found,

@@ -17,9 +17,9 @@ ghost use Rattle.rb_fallback.specs.Stops.{AreStopsOf, CountsTrail};
 ghost use Rattle.rb_engine.specs.Answer.{Refuses, lookup_in};
 ghost use Rattle.rb_engine.specs.LookResponse.{look_response};
 ghost use Rattle.rb_engine.specs.OpenLocale.{names_of, opened_stop, stop_indices};
-ghost use Rattle.rb_engine.specs.Steps.{exceeds_from, takes_more_from};
+ghost use Rattle.rb_engine.specs.Steps.{exceeds_from};
 ghost use Rattle.rb_engine.specs.Version.{is_current};
-ghost use Rattle.rb_engine.specs.inner.KeptLocales.{IsOpenOver, IsOpenWithin};
+ghost use Rattle.rb_engine.specs.inner.KeptLocales.{IsOpenWithin};
 ghost use Rattle.rb_engine.specs.inner.Opening.{HasStops};
 ghost use Rattle.rb_engine.specs.declared.request.LookFault.TheVariants as Faults;
 
@@ -27,7 +27,7 @@ use crate::item_shelf::ItemShelf;
 use crate::place::Place;
 use crate::request::{LookFault, TooManySteps};
 use crate::same_name::same_name;
-use rb_fallback::{BoundedError, Found, Stops, TrailNames, find_from, look_from, look_from_within};
+use rb_fallback::{BoundedError, Found, Stops, TrailNames, find_from, look_from};
 use rb_locales::Name;
 use rb_packages::{AppShelf, Packages};
 use rb_parents::{Next, Parents, TRAIL_LIMIT, TrailFault, visit};
@@ -215,66 +215,41 @@ pub(crate) fn open_at(
     }
 }
 
-/// Looks a path up from an opened locale over the bundles of an application and of ICUDATA.
+/// Looks a path up from an opened locale over the bundles of an application and of ICUDATA, in at
+/// most `left` steps. `None` is no limit; then the numbers of names may be any.
 pub(crate) fn look_over<'a>(
     own: AppShelf<'a>,
     icu: AppShelf<'a>,
     parents: &Parents,
     opened: &OpenLocale,
     path: &[u8],
-) -> Result<Found<Item<'a>>, LookFault>
-    ensures { (name : List ℕ) → AreStopsOf (opened_stop opened.now (files_in own.entry))
-        (bundles_lent own.entry) (parent_of parents.now) name
-        → look_response tree_seen result ≡ lookup_in (bundles_lent own.entry)
-        (bundles_lent icu.entry) (parent_of parents.now) name path.now }
-{
-    let stops = OpenStops { own, opened };
-    let found = look_from(
-        stops,
-        ItemShelf { shelf: own },
-        ItemShelf { shelf: icu },
-        parents,
-        path,
-    );
-    match found {
-        Ok(found) => Ok(found),
-        Err(error) => Err(LookFault::from(error)),
-    }
-}
-
-/// Looks a path up as `look_over` does, in at most this many steps.
-pub(crate) fn look_over_within<'a>(
-    own: AppShelf<'a>,
-    icu: AppShelf<'a>,
-    parents: &Parents,
-    opened: &OpenLocale,
-    path: &[u8],
-    steps: u64,
+    left: Option<u64>,
 ) -> Result<Result<Found<Item<'a>>, LookFault>, TooManySteps>
+    ensures few { IfNone left (OnErr result ⊥) }
     ensures within { (name : List ℕ)
-        → IsOpenOver opened.now (files_in own.entry) (parent_of parents.now) name → OnOk result
-        (takes_more_from steps (bundles_lent own.entry) (bundles_lent icu.entry)
+        → IsOpenWithin left opened.now (files_in own.entry) (parent_of parents.now) name
+        → OnOk result (exceeds_from left (bundles_lent own.entry) (bundles_lent icu.entry)
         (parent_of parents.now) name path.now ≡ false) }
     ensures found { (name : List ℕ)
-        → IsOpenOver opened.now (files_in own.entry) (parent_of parents.now) name → IfOk result
-        (λ found. look_response tree_seen found ≡ lookup_in (bundles_lent own.entry)
-        (bundles_lent icu.entry) (parent_of parents.now) name path.now) }
+        → IsOpenWithin left opened.now (files_in own.entry) (parent_of parents.now) name
+        → IfOk result (λ found. look_response tree_seen found ≡ lookup_in
+        (bundles_lent own.entry) (bundles_lent icu.entry) (parent_of parents.now)
+        name path.now) }
     ensures more { (name : List ℕ)
-        → IsOpenOver opened.now (files_in own.entry) (parent_of parents.now) name → OnErr result
-        (takes_more_from steps (bundles_lent own.entry) (bundles_lent icu.entry)
+        → IsOpenWithin left opened.now (files_in own.entry) (parent_of parents.now) name
+        → OnErr result (exceeds_from left (bundles_lent own.entry) (bundles_lent icu.entry)
         (parent_of parents.now) name path.now ≡ true) }
 {
     let stops = OpenStops { own, opened };
     let (own, icu) = (ItemShelf { shelf: own }, ItemShelf { shelf: icu });
-    match look_from_within(stops, opened.names(), own, icu, parents, path, steps) {
+    match look_from(stops, opened.names(), own, icu, parents, path, left) {
         Ok(found) => Ok(Ok(found)),
         Err(BoundedError::Search(error)) => Ok(Err(LookFault::from(error))),
         Err(BoundedError::TooManySteps) => Err(TooManySteps),
     }
 }
 
-/// Finds the item at a path as `look_over` does, in at most `left` steps, without the names of
-/// bundles. `None` is no limit; then the numbers of names may be any.
+/// Finds the item at a path as `look_over` does, without the names of bundles.
 pub(crate) fn find_over<'a>(
     own: AppShelf<'a>,
     icu: AppShelf<'a>,
@@ -323,7 +298,10 @@ pub(crate) fn look_opened<'a>(
         (bundle_at (icudata_of packages.now)) (parent_of parents.now) name path.now }
 {
     let own = packages.shelf_at(opened.app);
-    look_over(own, packages.icu_shelf(), parents, opened, path)
+    match look_over(own, packages.icu_shelf(), parents, opened, path, None) {
+        Ok(found) => found,
+        Err(TooManySteps) => unreachable!(),
+    }
 }
 
 /// The stops of an opened locale over some bundles.

@@ -1,6 +1,6 @@
 //! The locales that an engine keeps open for its lookups.
-ghost use Rattle.std.specs.Prelude.{◌≡◌, ◌<◌, ◌≤◌, ℕ, List, IfOk, IfSome, Ok, OnErr, OnOk, length};
-ghost use Rattle.std.specs.Prelude.{false, true};
+ghost use Rattle.std.specs.Prelude.{◌≡◌, ◌<◌, ◌≤◌, ℕ, List, IfNone, IfOk, IfSome, Ok, OnErr, OnOk};
+ghost use Rattle.std.specs.Prelude.{false, length, true};
 ghost use Rattle.std.specs.Bool.{OnTrue};
 ghost use Rattle.rb_parents.specs.Family.{parent_of};
 ghost use Rattle.rb_views.specs.Seen.{tree_seen};
@@ -17,7 +17,7 @@ ghost use Rattle.rb_engine.specs.inner.KeptLocales.{AreKept, IsAnsweredFor, IsOp
 ghost use Rattle.rb_engine.specs.inner.KeptLocales.{TakesMoreFor};
 
 use crate::asked::Asked;
-use crate::open_locale::{OpenLocale, find_over, is_current, look_over, look_over_within, open_at};
+use crate::open_locale::{OpenLocale, find_over, is_current, look_over, open_at};
 use crate::place::{Place, hash_of};
 use crate::request::{LookFault, TooManySteps};
 use rb_fallback::Found;
@@ -264,8 +264,8 @@ impl OpenLocales {
         if from < past { Some(from) } else { None }
     }
 
-    /// Looks a path up from the locale by these names, or returns `None` if it isn't open in this
-    /// version.
+    /// Looks a path up from the locale by these names in at most `left` steps, or returns `None` if
+    /// it isn't open in this version. Without `left` there is no limit.
     pub(crate) fn look<'a>(
         &self,
         packages: &'a Packages,
@@ -274,32 +274,12 @@ impl OpenLocales {
         app: &[u8],
         locale: &[u8],
         path: &[u8],
-    ) -> Option<Result<Found<Item<'a>>, LookFault>>
-        ensures { (versions : List ℕ) → (latest : ℕ) → version ≡ version_in versions app.now
-            → AreKept self.now.slots.items packages.now (parent_of parents.now) versions latest
-            → IfSome result (λ found. IsAnsweredFor (look_response tree_seen found) packages.now
-            (parent_of parents.now) app.now locale.now path.now) }
-    {
-        let slot = self.find(app, locale, version)?;
-        let own = slot.shelf(packages);
-        let icu = packages.icu_shelf();
-        Some(look_over(own, icu, parents, &slot.opened, path))
-    }
-
-    /// Looks a path up as `look` does, in at most this many steps.
-    pub(crate) fn look_within<'a>(
-        &self,
-        packages: &'a Packages,
-        parents: &Parents,
-        version: u64,
-        app: &[u8],
-        locale: &[u8],
-        path: &[u8],
-        steps: u64,
+        left: Option<u64>,
     ) -> Option<Result<Result<Found<Item<'a>>, LookFault>, TooManySteps>>
+        ensures few { IfNone left (IfSome result (λ r. OnErr r ⊥)) }
         ensures within { (versions : List ℕ) → (latest : ℕ) → version ≡ version_in versions app.now
             → AreKept self.now.slots.items packages.now (parent_of parents.now) versions latest
-            → IfSome result (λ r. OnOk r (TakesMoreFor false (Some steps) packages.now
+            → IfSome result (λ r. OnOk r (TakesMoreFor false left packages.now
             (parent_of parents.now) app.now locale.now path.now)) }
         ensures found { (versions : List ℕ) → (latest : ℕ) → version ≡ version_in versions app.now
             → AreKept self.now.slots.items packages.now (parent_of parents.now) versions latest
@@ -307,17 +287,16 @@ impl OpenLocales {
             packages.now (parent_of parents.now) app.now locale.now path.now)) }
         ensures more { (versions : List ℕ) → (latest : ℕ) → version ≡ version_in versions app.now
             → AreKept self.now.slots.items packages.now (parent_of parents.now) versions latest
-            → IfSome result (λ r. OnErr r (TakesMoreFor true (Some steps) packages.now
+            → IfSome result (λ r. OnErr r (TakesMoreFor true left packages.now
             (parent_of parents.now) app.now locale.now path.now)) }
     {
         let slot = self.find(app, locale, version)?;
         let own = slot.shelf(packages);
         let icu = packages.icu_shelf();
-        Some(look_over_within(own, icu, parents, &slot.opened, path, steps))
+        Some(look_over(own, icu, parents, &slot.opened, path, left))
     }
 
-    /// Finds the item at a path as `look` does, in at most `left` steps, without the names of
-    /// bundles. `None` is no limit.
+    /// Finds the item at a path as `look` does, without the names of bundles.
     pub(crate) fn find_item<'a>(
         &self,
         packages: &'a Packages,

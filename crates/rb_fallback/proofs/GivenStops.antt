@@ -1,23 +1,19 @@
 -- Lookups from stops that were read before.
-use Rattle.std.proofs.Common.{◌≡◌, ◌≤◌, ◌↔◌, ℕ, List, length, false, Option, Some, None, unwrap_or, Result, Ok, Err, IfOk, IfSome, refl, ap, sym, subst, arith}
+use Rattle.std.proofs.Common.{◌≡◌, ◌≤◌, ℕ, List, length, false, Option, Some, None, unwrap_or, Result, Ok, Err, IfOk, IfSome, refl, ap, sym, subst, arith}
 use Rattle.std.proofs.lemmas.Option.{IfSome_then}
 use Rattle.rb_tree.specs.Resource.{Resource}
 use Rattle.rb_tree.specs.Path.{IsPath, segments}
 use Rattle.rb_parents.specs.Trail.{Bundles, ParentsOf, Trail, names, trail}
-use Rattle.rb_fallback.specs.Answers.{answer_of}
 use Rattle.rb_fallback.specs.Search.{Decided, Hit, by_trail, first_in, first_stop, level, look_up, step}
 use Rattle.rb_fallback.specs.Steps.{searched, trail_length}
 use Rattle.rb_fallback.specs.Stops.{AreStopsOf, CountsTrail}
 use Rattle.rb_fallback.specs.declared.steps.TrailNames.{TrailNames}
 use Rattle.rb_fallback.specs.inner.LevelResult.{IsLevel}
-use Rattle.rb_fallback.specs.inner.Reached.{Decides, IsReachedLevel, IsSomeReached, answer_at, fault_of, found_at, hit_at, named, stop_name}
-use Rattle.rb_fallback.specs.declared.fault.BoundedError.{BoundedError}
+use Rattle.rb_fallback.specs.inner.Reached.{Decides, IsReachedLevel, IsSomeReached, named, stop_name}
 use Rattle.rb_fallback.specs.declared.fault.BoundedError.TheVariants as bounded
 use Rattle.rb_fallback.specs.declared.fault.LookError.{LookError}
 use Rattle.rb_fallback.specs.declared.fault.LookError.TheVariants as fault
-use Rattle.rb_fallback.specs.declared.found.Found.{Found}
 use Rattle.rb_fallback.specs.declared.level.LevelResult.{LevelResult}
-use Rattle.rb_fallback.specs.declared.stops.FoundAt.{FoundAt}
 use Rattle.rb_fallback.specs.declared.stops.Reached.{Reached}
 use Rattle.rb_fallback.proofs.FewSteps.{within_length}
 use Rattle.rb_fallback.proofs.Levels.{err_answer, start}
@@ -68,34 +64,6 @@ pub counted_valid : (counts : TrailNames) (b : Bundles) (ps : ParentsOf) (n v : 
     → IfSome left (λ _. CountsTrail counts b ps n) → IfSome left (λ _. counts.from_valid ≡ trail_length (trail b ps v))
 counted_valid counts b ps n v left e h =
     IfSome_then left h (λ _ k. subst (λ o. IfSome o (λ (m : List ℕ). counts.from_valid ≡ trail_length (trail b ps m))) e k.from_valid)
-
--- ---- without a limit on steps
--- what a search without a limit finds
-abbrev pub unlimited : {N : Type 0} → (ℕ → Option (List ℕ × Resource)) → Result (FoundAt N) BoundedError → Result (Found N) LookError
-unlimited stop (Ok f) = Ok (found_at stop f (stop_name stop 0))
-unlimited stop (Err e) = Err (fault_of e)
-
-pub unlimited_answer : {N : Type 0} (tree : N → Resource) (stop : ℕ → Option (List ℕ × Resource)) (x : Result (FoundAt N) BoundedError) (a : Result Hit LookError)
-    → answer_at tree stop x ≡ searched a → answer_of tree (unlimited stop x) ≡ a
-unlimited_answer tree stop (Ok f) (Ok h) e = let same : hit_at tree stop f ≡ h = cc in ap Ok same
-unlimited_answer tree stop (Err (bounded.Search f)) (Err g) e = let same : f ≡ g = cc in ap Err same
-unlimited_answer tree stop (Ok f) (Err g) e = cc
-unlimited_answer tree stop (Err f) (Ok h) e = cc
-unlimited_answer tree stop (Err bounded.TooManySteps) (Err g) e = cc
-
-pub unlimited_bad : {N P : Type 0} (stop : ℕ → Option (List ℕ × Resource)) (x : Result (FoundAt N) BoundedError)
-    → ((x ≡ Err (bounded.Search fault.BadPath)) ↔ P) → (unlimited stop x ≡ Err fault.BadPath) ↔ P
-unlimited_bad stop (Ok f) b = (λ e. cc, λ p. let e = b.1 p in cc)
-unlimited_bad stop (Err (bounded.Search f)) b = (
-  λ e. let same : f ≡ fault.BadPath = cc in b.0 (ap (λ g. Err (bounded.Search g)) same),
-  λ p. let e = b.1 p in let same : f ≡ fault.BadPath = cc in ap Err same,
-)
-unlimited_bad stop (Err bounded.TooManySteps) b = (λ e. cc, λ p. let e = b.1 p in cc)
-
-pub unlimited_valid : {N : Type 0} (stop : ℕ → Option (List ℕ × Resource)) (x : Result (FoundAt N) BoundedError) (first : Option (List ℕ))
-    → IfOk x (λ _. first ≡ Some (stop_name stop 0)) → IfOk (unlimited stop x) (λ f. first ≡ Some f.valid)
-unlimited_valid stop (Ok f) first v = v
-unlimited_valid stop (Err e) first v = tt
 
 searched_err : (a : Result Hit LookError) (f : LookError) → Err (bounded.Search f) ≡ searched a → Err f ≡ a
 searched_err (Ok h) f e = cc

@@ -50,17 +50,3 @@ impl From<LookError> for BoundedError {
         BoundedError::Search(fault)
     }
 }
-
-impl BoundedError {
-    ghost use Rattle.rb_fallback.specs.inner.Reached.{fault_of};
-
-    /// Returns the error of a search without a limit, which never takes too many steps.
-    pub(crate) fn fault(self) -> LookError
-        ensures { result ≡ fault_of self }
-    {
-        match self {
-            BoundedError::Search(fault) => fault,
-            BoundedError::TooManySteps => LookError::NoBundle,
-        }
-    }
-}

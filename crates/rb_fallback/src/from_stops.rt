@@ -3,10 +3,10 @@ ghost use Rattle.std.specs.Prelude.{◌≡◌, ◌≢◌, ◌↔◌, ℕ, List, 
 ghost use Rattle.std.specs.Prelude.{None, Some, false};
 ghost use Rattle.rb_tree.specs.Path.{IsPath, segments};
 ghost use Rattle.rb_parents.specs.Family.{parent_of};
-ghost use Rattle.rb_fallback.specs.Answers.{answer_of, bounded_answer_of};
+ghost use Rattle.rb_fallback.specs.Answers.{bounded_answer_of};
 ghost use Rattle.rb_fallback.specs.FoundNode.{IsNodeOf};
-ghost use Rattle.rb_fallback.specs.Search.{first_stop, look_up, setting};
-ghost use Rattle.rb_fallback.specs.Steps.{look_up_limited, look_up_within};
+ghost use Rattle.rb_fallback.specs.Search.{first_stop, setting};
+ghost use Rattle.rb_fallback.specs.Steps.{look_up_limited};
 ghost use Rattle.rb_fallback.specs.Stops.{AreStopsOf, CountsTrail};
 ghost use Rattle.rb_fallback.specs.inner.Budget.{search_within};
 ghost use Rattle.rb_fallback.specs.inner.Reached.{answer_at, stop_name};
@@ -22,12 +22,6 @@ use crate::steps::{TrailNames, left_after};
 use crate::stops::{FoundAt, Stops, first_ending, stop_name};
 use rb_parents::{Parents, Shelf};
 use rb_tree::Ending;
-
-/// Numbers of names for a lookup without a limit.
-const UNCOUNTED: TrailNames = TrailNames {
-    all: 0,
-    from_valid: 0,
-};
 
 /// Looks a path up from the name whose stops are given and whose trail has these numbers of names,
 /// in at most `left` steps. `None` is no limit; then the numbers may be any. A lookup that follows
@@ -85,80 +79,48 @@ fn search_from<'a, T: Stops<'a>, S: Shelf<'a, N = T::N>, I: Shelf<'a, N = T::N>>
     )
 }
 
-/// Looks a path up as `look` does from the name whose stops are given. Only the stops up to the one
-/// that decides are read.
-///
-/// The errors are those of `look` from a name whose trail is valid. Allocates nothing.
-///
-/// ```rust
-/// let found = look_from(stops, shelf, shelf, &parents, b"menu/open")?;
-/// // What `look` finds from the name whose stops these are.
-/// ```
-pub fn look_from<'a, T: Stops<'a>, S: Shelf<'a, N = T::N>, I: Shelf<'a, N = T::N>>(
-    stops: T,
-    own: S,
-    icu: I,
-    parents: &Parents,
-    path: &[u8],
-) -> Result<Found<T::N>, LookError>
-    ensures bad_path { (result ≡ Err Faults.BadPath) ↔ (IsPath path.now → ⊥) }
-    ensures answer { (name : List ℕ)
-        → AreStopsOf (T.stop stops) (S.bundles own) (parent_of parents.now) name
-        → IsPath path.now → answer_of T.N.tree result
-        ≡ look_up (S.bundles own) (I.bundles icu) (parent_of parents.now) name
-        (segments path.now) }
-    ensures valid { (name : List ℕ)
-        → AreStopsOf (T.stop stops) (S.bundles own) (parent_of parents.now) name
-        → IfOk result (λ f. first_stop (S.bundles own) (parent_of parents.now) name
-        ≡ Some f.valid) }
-{
-    match search_from(stops, UNCOUNTED, own, icu, parents, path, None) {
-        Ok(found) => Ok(found.named(Some(stops), stop_name(stops, 0))),
-        Err(error) => Err(error.fault()),
-    }
-}
-
-/// Looks a path up as `look_from` does, in at most this many steps, from the name whose stops are
-/// given and whose trail has these numbers of names.
+/// Looks a path up as `look_within` does, in at most `left` steps, from the name whose stops are
+/// given and whose trail has these numbers of names. `None` is no limit; then the numbers may be
+/// any. Only the stops up to the one that decides are read.
 ///
 /// The errors are those of `look_within` from a name whose trail is valid. Allocates nothing.
 ///
 /// ```rust
-/// let found = look_from_within(stops, names, shelf, shelf, &parents, b"menu/open", 10_000)?;
+/// let found = look_from(stops, names, shelf, shelf, &parents, b"menu/open", Some(10_000))?;
 /// // What `look_within` finds from the name whose stops these are.
 /// ```
-pub fn look_from_within<'a, T: Stops<'a>, S: Shelf<'a, N = T::N>, I: Shelf<'a, N = T::N>>(
+pub fn look_from<'a, T: Stops<'a>, S: Shelf<'a, N = T::N>, I: Shelf<'a, N = T::N>>(
     stops: T,
     names: TrailNames,
     own: S,
     icu: I,
     parents: &Parents,
     path: &[u8],
-    steps: u64,
+    left: Option<u64>,
 ) -> Result<Found<T::N>, BoundedError>
-    ensures bad_path { (IsPath path.now → ⊥) → result ≡ Err (Bounded.Search Faults.BadPath) }
+    ensures few { left ≡ None → result ≢ Err Bounded.TooManySteps }
+    ensures bad_path { (result ≡ Err (Bounded.Search Faults.BadPath)) ↔ (IsPath path.now → ⊥) }
     ensures answer { (name : List ℕ)
         → AreStopsOf (T.stop stops) (S.bundles own) (parent_of parents.now) name
-        → CountsTrail names (S.bundles own) (parent_of parents.now) name
+        → IfSome left (λ _. CountsTrail names (S.bundles own) (parent_of parents.now) name)
         → IsPath path.now → bounded_answer_of T.N.tree result
-        ≡ look_up_within steps (S.bundles own) (I.bundles icu) (parent_of parents.now) name
+        ≡ look_up_limited left (S.bundles own) (I.bundles icu) (parent_of parents.now) name
         (segments path.now) }
     ensures valid { (name : List ℕ)
         → AreStopsOf (T.stop stops) (S.bundles own) (parent_of parents.now) name
         → IfOk result (λ f. first_stop (S.bundles own) (parent_of parents.now) name
         ≡ Some f.valid) }
 {
-    let found = search_from(stops, names, own, icu, parents, path, Some(steps))?;
+    let found = search_from(stops, names, own, icu, parents, path, left)?;
     Ok(found.named(Some(stops), stop_name(stops, 0)))
 }
 
-/// Looks a path up as `look_from_within` does, in at most `left` steps, and returns the node alone.
-/// `None` is no limit; then the numbers of names may be any. A lookup that follows no alias copies
-/// no name.
+/// Looks a path up as `look_from` does, and returns the node alone. A lookup that follows no alias
+/// copies no name.
 ///
 /// ```rust
 /// let node = find_from(stops, names, shelf, shelf, &parents, b"menu/open", Some(10_000))?;
-/// // The node that `look_from_within` finds.
+/// // The node that `look_from` finds.
 /// ```
 pub fn find_from<'a, T: Stops<'a>, S: Shelf<'a, N = T::N>, I: Shelf<'a, N = T::N>>(
     stops: T,

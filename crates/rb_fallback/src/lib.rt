@@ -19,7 +19,7 @@ mod words;
 pub use alias::{Target, read_alias};
 pub use fault::{AliasFault, BoundedError, LookError};
 pub use found::Found;
-pub use from_stops::{find_from, look_from, look_from_within};
+pub use from_stops::{find_from, look_from};
 pub use limits::{LEVEL_LIMIT, PATH_LIMIT};
 pub use path::rest_behind;
 pub use search::{look, look_watched, look_within};

@@ -7,7 +7,6 @@ use Rattle.rb_fallback.specs.Search.{Decided, Hit, by_stops, first_of}
 use Rattle.rb_fallback.specs.Stops.{stop_among}
 use Rattle.rb_fallback.specs.inner.LevelResult.{IsLevelResult}
 use Rattle.rb_fallback.specs.declared.fault.BoundedError.{BoundedError}
-use Rattle.rb_fallback.specs.declared.fault.BoundedError.TheVariants as bounded
 use Rattle.rb_fallback.specs.declared.fault.LookError.{LookError}
 use Rattle.rb_fallback.specs.declared.fault.LookError.TheVariants as fault
 use Rattle.rb_fallback.specs.declared.found.Found.{Found}
@@ -85,8 +84,3 @@ abbrev pub answer_at : {N : Type 0} → (N → Resource) → (ℕ → Option (Li
     → Result Hit BoundedError
 answer_at tree stop (Ok f) = Ok (hit_at tree stop f)
 answer_at tree stop (Err e) = Err e
-
--- the error of a search without a limit, which never takes too many steps
-abbrev pub fault_of : BoundedError → LookError
-fault_of (bounded.Search e) = e
-fault_of bounded.TooManySteps = fault.NoBundle

@@ -1,59 +1,29 @@
-use Rattle.std.proofs.Common.{◌≡◌, ◌↔◌, Ok, Err, IfOk, Some, sym, ap, subst, ◌∙◌}
-use Rattle.rb_parents.specs.Family.{parent_of}
-use Rattle.rb_tree.specs.Path.{IsPath, segments}
-use Rattle.rb_fallback.specs.Answers.{answer_of}
+use Rattle.std.proofs.Common.{◌≡◌, Ok, Err, Some, ℕ, List, sym, ap, ◌∙◌}
+use Rattle.rb_fallback.specs.Answers.{bounded_answer_of, hit_of}
+use Rattle.rb_fallback.specs.declared.fault.BoundedError.TheVariants as bounded
 use Rattle.rb_fallback.specs.declared.fault.LookError.TheVariants as fault
-use Rattle.rb_fallback.specs.inner.Reached.{found_at}
-use Rattle.rb_fallback.specs.Search.{first_stop, look_up}
-use Rattle.rb_fallback.proofs.GivenStops.{unlimited, unlimited_answer, unlimited_bad, unlimited_valid}
+use Rattle.rb_fallback.proofs.Levels.{is_err}
 use Rattle.rb_fallback.proofs.from_stops.look_from.Goals as goal
 
-pub returns-in-Ok-clause-bad_path : goal.returns-in-Ok-clause-bad_path
-returns-in-Ok-clause-bad_path g c =
-    let stop = g.T.Stops.stop c.args.stops in
-    let x = c.search_from.result in
-    let is = ap (unlimited stop) c.in-Ok.is ∙ ap Ok (ap (found_at stop c.in-Ok.found) (sym c.stop_name.ensures)) ∙ ap Ok (sym c.named.ensures) in
-    subst (λ r. (r ≡ Err fault.BadPath) ↔ (IsPath c.args.path.now → ⊥)) is (unlimited_bad stop x c.search_from.ensures.bad_path)
+pub returns-in_err-found-clause-bad_path : goal.returns-in_err-found-clause-bad_path
+returns-in_err-found-clause-bad_path g c =
+    let e = c.in_err-found.field-0.0 in
+    let bad = c.in_err-found.ensures.bad_path in
+    let is = is_err c.from_residual.result e c.from_residual.ensures.1 in (
+      λ q. let same : e ≡ bounded.Search fault.BadPath = (let both = sym is ∙ q in cc) in bad.0 (ap Err same),
+      λ p. let q = bad.1 p in let same : e ≡ bounded.Search fault.BadPath = cc in is ∙ ap Err same,
+    )
 
-pub returns-in-Ok-clause-answer : goal.returns-in-Ok-clause-answer
-returns-in-Ok-clause-answer g c =
-    let stop = g.T.Stops.stop c.args.stops in
-    let x = c.search_from.result in
-    let is = ap (unlimited stop) c.in-Ok.is ∙ ap Ok (ap (found_at stop c.in-Ok.found) (sym c.stop_name.ensures)) ∙ ap Ok (sym c.named.ensures) in
-    λ n a p.
-    let up = look_up (g.S.Shelf.bundles c.args.own) (g.I.Shelf.bundles c.args.icu) (parent_of c.args.parents.now) n (segments c.args.path.now) in
-    subst (λ r. answer_of g.T.N.Node.tree r ≡ up) is (unlimited_answer g.T.N.Node.tree stop x up (c.search_from.ensures.answer n a tt p))
+pub returns-in_err-found-clause-answer : goal.returns-in_err-found-clause-answer
+returns-in_err-found-clause-answer g c = λ n a counted p.
+    ap (bounded_answer_of g.T.N.Node.tree) (is_err c.from_residual.result _ c.from_residual.ensures.1) ∙ c.in_err-found.ensures.answer n a counted p
 
-pub returns-in-Ok-clause-valid : goal.returns-in-Ok-clause-valid
-returns-in-Ok-clause-valid g c =
-    let stop = g.T.Stops.stop c.args.stops in
-    let x = c.search_from.result in
-    let is = ap (unlimited stop) c.in-Ok.is ∙ ap Ok (ap (found_at stop c.in-Ok.found) (sym c.stop_name.ensures)) ∙ ap Ok (sym c.named.ensures) in
-    λ n a.
-    let first = first_stop (g.S.Shelf.bundles c.args.own) (parent_of c.args.parents.now) n in
-    subst (λ r. IfOk r (λ f. first ≡ Some f.valid)) is (unlimited_valid stop x first (c.search_from.ensures.valid n a))
+pub returns-clause-answer : goal.returns-clause-answer
+returns-clause-answer g c = λ n a counted p. ap (λ f. Ok (hit_of g.T.N.Node.tree f)) c.named.ensures ∙ c.in_ok-found.ensures.answer n a counted p
 
-pub returns-in-Err-clause-bad_path : goal.returns-in-Err-clause-bad_path
-returns-in-Err-clause-bad_path g c =
-    let stop = g.T.Stops.stop c.args.stops in
-    let x = c.search_from.result in
-    let is = ap (unlimited stop) c.in-Err.is ∙ ap Err (sym c.fault.ensures) in
-    subst (λ r. (r ≡ Err fault.BadPath) ↔ (IsPath c.args.path.now → ⊥)) is (unlimited_bad stop x c.search_from.ensures.bad_path)
+pub returns-clause-bad_path : goal.returns-clause-bad_path
+returns-clause-bad_path g c = (λ q. cc, λ p. let e = c.in_ok-found.ensures.bad_path.1 p in cc)
 
-pub returns-in-Err-clause-answer : goal.returns-in-Err-clause-answer
-returns-in-Err-clause-answer g c =
-    let stop = g.T.Stops.stop c.args.stops in
-    let x = c.search_from.result in
-    let is = ap (unlimited stop) c.in-Err.is ∙ ap Err (sym c.fault.ensures) in
-    λ n a p.
-    let up = look_up (g.S.Shelf.bundles c.args.own) (g.I.Shelf.bundles c.args.icu) (parent_of c.args.parents.now) n (segments c.args.path.now) in
-    subst (λ r. answer_of g.T.N.Node.tree r ≡ up) is (unlimited_answer g.T.N.Node.tree stop x up (c.search_from.ensures.answer n a tt p))
-
-pub returns-in-Err-clause-valid : goal.returns-in-Err-clause-valid
-returns-in-Err-clause-valid g c =
-    let stop = g.T.Stops.stop c.args.stops in
-    let x = c.search_from.result in
-    let is = ap (unlimited stop) c.in-Err.is ∙ ap Err (sym c.fault.ensures) in
-    λ n a.
-    let first = first_stop (g.S.Shelf.bundles c.args.own) (parent_of c.args.parents.now) n in
-    subst (λ r. IfOk r (λ f. first ≡ Some f.valid)) is (unlimited_valid stop x first (c.search_from.ensures.valid n a))
+pub returns-clause-valid : goal.returns-clause-valid
+returns-clause-valid g c = λ n a.
+    c.in_ok-found.ensures.valid n a ∙ ap (λ (m : List ℕ). Some m) (sym c.stop_name.ensures) ∙ ap (λ f. Some f.valid) (sym c.named.ensures)
