@@ -11,7 +11,8 @@ ghost use Rattle.rb_replies.specs.Extended.{stored_data, text_data, tree_line};
 ghost use Rattle.rb_replies.specs.Within.{IsAbove};
 ghost use Rattle.rb_replies.specs.inner.Refusals.{code_text, number_text};
 
-use crate::limit::Room;
+use crate::limit::{Room, is_above};
+use crate::reply::put_line;
 use rb_json::{Outlet, put_name, skips_items, spell_bytes, spell_text, spell_unsigned};
 use rb_locales::Name;
 
@@ -100,13 +101,7 @@ fn put_flag<O: Outlet>(out: &mut O, flag: bool)
 pub fn put_stored<O: Outlet>(out: &mut O, is_replaced: bool)
     ensures { O.takes out.old out.new (compact_text (stored_data is_replaced) ++ 10 ∷ []) }
 {
-    out.put(b"{");
-    put_name(out, false, "ok");
-    put_flag(out, true);
-    put_name(out, true, "replaced");
-    put_flag(out, is_replaced);
-    out.put(b"}");
-    out.put(b"\n")
+    put_line!(out, "ok": put_flag(out, true), "replaced": put_flag(out, is_replaced))
 }
 
 fn put_size<O: Outlet>(out: &mut O, size: &(Name, u64))
@@ -144,22 +139,14 @@ fn put_size_array<O: Outlet>(out: &mut O, sizes: &[(Name, u64)])
 pub fn put_sizes<O: Outlet>(out: &mut O, sizes: &[(Name, u64)])
     ensures { O.takes out.old out.new (compact_text (sizes_data sizes.now) ++ 10 ∷ []) }
 {
-    out.put(b"{");
-    put_name(out, false, "bundles");
-    put_size_array(out, sizes);
-    out.put(b"}");
-    out.put(b"\n")
+    put_line!(out, "bundles": put_size_array(out, sizes))
 }
 
 /// Writes the line of a bundle's text. It takes no memory.
 pub fn put_text<O: Outlet>(out: &mut O, text: &str)
     ensures { O.takes out.old out.new (compact_text (text_data text.now) ++ 10 ∷ []) }
 {
-    out.put(b"{");
-    put_name(out, false, "text");
-    spell_text(out, text);
-    out.put(b"}");
-    out.put(b"\n")
+    put_line!(out, "text": spell_text(out, text))
 }
 
 /// The most bytes whose digits are made at a time.
@@ -232,24 +219,14 @@ pub fn text_is_above(text: &str, limit: Option<u64>) -> bool
     ensures { IsTrue result
         ↔ IsAbove (length (compact_text (text_data text.now) ++ 10 ∷ [])) limit }
 {
-    let Some(most) = limit else {
-        return false;
-    };
-    let mut room = Room { left: Some(most) };
-    put_text(&mut room, text);
-    room.left.is_none()
+    is_above!(limit, put_text(text))
 }
 
 /// Checks whether the line of a tree exceeds a limit, with its line feed. It takes no memory.
 pub fn tree_is_above(actual: &Name, valid: &Name, tree: &[u8], limit: Option<u64>) -> bool
     ensures { IsTrue result ↔ IsAbove (length (tree_line actual.now valid.now tree.now)) limit }
 {
-    let Some(most) = limit else {
-        return false;
-    };
-    let mut room = Room { left: Some(most) };
-    put_tree_line(&mut room, actual, valid, tree);
-    room.left.is_none()
+    is_above!(limit, put_tree_line(actual, valid, tree))
 }
 
 /// Checks whether the line of an application's bundles exceeds a limit, with its line feed. It
@@ -258,10 +235,5 @@ pub fn sizes_are_above(sizes: &[(Name, u64)], limit: Option<u64>) -> bool
     ensures { IsTrue result
         ↔ IsAbove (length (compact_text (sizes_data sizes.now) ++ 10 ∷ [])) limit }
 {
-    let Some(most) = limit else {
-        return false;
-    };
-    let mut room = Room { left: Some(most) };
-    put_sizes(&mut room, sizes);
-    room.left.is_none()
+    is_above!(limit, put_sizes(sizes))
 }

@@ -45,18 +45,27 @@ impl Outlet for Room {
     }
 }
 
+/// Checks whether a line that a function writes exceeds a limit, if there is one.
+macro_rules! is_above {
+    ($limit:ident, $put:ident($($argument:ident),+)) => {{
+        let Some(most) = $limit else {
+            return false;
+        };
+        let mut room = Room { left: Some(most) };
+        $put(&mut room, $($argument),+);
+        room.left.is_none()
+    }};
+}
+
+pub(crate) use is_above;
+
 /// Checks whether the reply to a lookup that found an item exceeds a limit, with its line feed. It
 /// takes no memory, and spells no more of the item than the limit's length.
 pub fn found_is_above(found: &Found<Item<'_>>, limit: Option<u64>) -> bool
     ensures { IsTrue result ↔ IsAbove
         (length (reply_line (Some (Finds (hit_of tree_seen found.now) found.now.valid)))) limit }
 {
-    let Some(most) = limit else {
-        return false;
-    };
-    let mut room = Room { left: Some(most) };
-    put_found_line(&mut room, found);
-    room.left.is_none()
+    is_above!(limit, put_found_line(found))
 }
 
 /// Returns the length of an item that was found as JSON, without a line feed, or `None` if it is
@@ -81,12 +90,7 @@ pub fn found_len(found: &Found<Item<'_>>, limit: u64) -> Option<u64>
 fn line_is_above(reply: &Reply, limit: Option<u64>) -> bool
     ensures { IsTrue result ↔ IsAbove (length (reply_line (Some (Replies reply.now)))) limit }
 {
-    let Some(most) = limit else {
-        return false;
-    };
-    let mut room = Room { left: Some(most) };
-    put_reply(&mut room, reply);
-    room.left.is_none()
+    is_above!(limit, put_reply(reply))
 }
 
 /// Checks whether the reply to a request exceeds a limit, which only names have, with its line

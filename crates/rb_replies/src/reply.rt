@@ -17,25 +17,34 @@ use rb_json::{Outlet, put_found, put_name, skips_items, spell_bytes, spell_text,
 use rb_locales::Name;
 use rb_views::Item;
 
+/// Writes the line of an object, each of whose members is a name and a call that writes its value.
+macro_rules! put_line {
+    ($out:ident, $first:literal: $value:expr $(, $name:literal: $more:expr)*) => {{
+        $out.put(b"{");
+        put_name($out, false, $first);
+        $value;
+        $(
+            put_name($out, true, $name);
+            $more;
+        )*
+        $out.put(b"}");
+        $out.put(b"\n")
+    }};
+}
+
+pub(crate) use put_line;
+
 /// Writes the line of an error with a code.
 pub fn put_error<O: Outlet>(out: &mut O, code: &str)
     ensures { O.takes out.old out.new (compact_text (error_data code.now) ++ 10 ∷ []) }
 {
-    out.put(b"{");
-    put_name(out, false, "error");
-    spell_text(out, code);
-    out.put(b"}");
-    out.put(b"\n")
+    put_line!(out, "error": spell_text(out, code))
 }
 
 fn put_done<O: Outlet>(out: &mut O)
     ensures { O.takes out.old out.new (reply_line (Some (Replies replies.Done))) }
 {
-    out.put(b"{");
-    put_name(out, false, "ok");
-    out.put(b"true");
-    out.put(b"}");
-    out.put(b"\n")
+    put_line!(out, "ok": out.put(b"true"))
 }
 
 fn put_name_items<O: Outlet>(out: &mut O, names: &[Name])
@@ -61,11 +70,7 @@ fn put_name_array<O: Outlet>(out: &mut O, names: &[Name])
 fn put_names<O: Outlet>(out: &mut O, names: &[Name])
     ensures { O.takes out.old out.new (reply_line (Some (Replies (replies.Names names.now)))) }
 {
-    out.put(b"{");
-    put_name(out, false, "names");
-    put_name_array(out, names);
-    out.put(b"}");
-    out.put(b"\n")
+    put_line!(out, "names": put_name_array(out, names))
 }
 
 /// Writes the line of the reply to a request. It takes no memory.
@@ -84,13 +89,7 @@ pub fn put_reply<O: Outlet>(out: &mut O, reply: &Reply)
 pub fn put_usage<O: Outlet>(out: &mut O, bytes: u64, bundles: u64)
     ensures { O.takes out.old out.new (compact_text (usage_data bytes bundles) ++ 10 ∷ []) }
 {
-    out.put(b"{");
-    put_name(out, false, "app_bytes");
-    spell_unsigned(out, bytes);
-    put_name(out, true, "bundles");
-    spell_unsigned(out, bundles);
-    out.put(b"}");
-    out.put(b"\n")
+    put_line!(out, "app_bytes": spell_unsigned(out, bytes), "bundles": spell_unsigned(out, bundles))
 }
 
 /// Writes the line of the reply to a lookup that found an item. It takes no memory.
