@@ -37,6 +37,7 @@ impl Model for ReplyLine {
     ghost view = { λ line. line.bytes.items };
 }
 
+#[tactic(auto, using(crate::proofs::Lines::line_told))]
 impl ReplyLine {
     /// Returns an empty line, which takes no memory.
     pub fn new(alloc: Global) -> Self
