@@ -1,5 +1,5 @@
 -- A text that begins with no brace, and items that were skipped.
-use Rattle.std.proofs.Common.{◌≡◌, ℕ, Bool, true, false, not, is_some, List, [], ◌∷◌, length, Option, Result, Ok, Err, OnErr, Some, None, option_map, refl, ap, sym, ◌∙◌, arith}
+use Rattle.std.proofs.Common.{◌≡◌, ◌<◌, ◌-◌, ℕ, Bool, true, false, not, is_some, List, [], ◌∷◌, length, Option, Result, Ok, Err, OnErr, Some, None, option_map, refl, ap, sym, ◌∙◌, arith}
 use Rattle.std.proofs.lemmas.Bool.{false≢true}
 use Rattle.json.specs.Token.{Token}
 use Rattle.json.specs.Json as json
@@ -11,7 +11,7 @@ use Rattle.serde_json.specs.Data.{Data, Num, null, boolean, number, object, arra
 use Rattle.serde_json.specs.Read.{of_json, of_items, of_members, converted, number_of}
 use Rattle.serde_json.specs.Find.{as_bool, as_str}
 use Rattle.rb_requests.specs.inner.Texts.{BeginsWithNoBrace}
-use Rattle.rb_requests.proofs.MembersRead.{whole, converted-object}
+use Rattle.rb_requests.proofs.MembersRead.{whole, converted-array, converted-object}
 
 -- one item more precedes the remaining ones
 pub one_more_before : (before : Items → Items) (d : Data) (r : Option (Items × List Token))
@@ -54,6 +54,19 @@ number_in_range depth ts r s e h =
 pub number_out_of_range : (depth : ℕ) (ts r : List Token) (s : List ℕ) → ts ≡ Token.number s ∷ r → false ≡ is_some (number_of s)
     → converted of_json (value depth ts) ≡ None
 number_out_of_range depth ts r s e h = ap (converted of_json) (ap (value depth) e ∙ value_is depth _) ∙ number_lost s r (number_of s) refl h
+
+-- ---- arrays and objects
+
+pub array_after : (depth : ℕ) (token : lent.Token) (r : List Token) → token_of token ≡ Token.begin_array → 0 < depth
+    → converted of_json (value depth (token_of token ∷ r)) ≡ parse_map array (converted of_items (items (value (depth - 1)) (length r) r))
+array_after depth token r is some =
+    ap (converted of_json) (ap (λ t. value depth (t ∷ r)) is ∙ value-begin_array depth r some) ∙ converted-array (items (value (depth - 1)) (length r) r)
+
+pub object_after : (depth : ℕ) (token : lent.Token) (r : List Token) → token_of token ≡ Token.begin_object → 0 < depth
+    → converted of_json (value depth (token_of token ∷ r))
+    ≡ parse_map object (converted (λ ms. of_members ms no_members) (members (value (depth - 1)) (length r) r))
+object_after depth token r is some =
+    ap (converted of_json) (ap (λ t. value depth (t ∷ r)) is ∙ value-begin_object depth r some) ∙ converted-object (members (value (depth - 1)) (length r) r)
 
 -- ---- a text that begins with no brace
 

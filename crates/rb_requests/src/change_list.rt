@@ -17,7 +17,7 @@ ghost use Rattle.rb_requests.specs.inner.Line.{payload_by};
 ghost use Rattle.rb_requests.specs.inner.Texts.{IsMember};
 ghost use Rattle.rb_requests.specs.declared.change_list.LineChange.{LineChange};
 
-use crate::member::{Member, pass_value, read_value};
+use crate::member::{Member, read_after, read_value};
 use crate::member_store::{MemberStore, MembersFault, read_members};
 use crate::texts::after;
 use json::{Reader, Token};
@@ -200,8 +200,8 @@ fn read_change<'a>(
                 Err(fault) => Err(fault),
             }
         }
-        other => match pass_value(reader, other, depth) {
-            Ok(()) => Ok(None),
+        other => match read_after(reader, other, depth) {
+            Ok(_) => Ok(None),
             Err(_) => Err(MembersFault::Invalid),
         },
     }
@@ -311,8 +311,8 @@ pub(crate) fn read_changes<'a>(
             }
             read_items(alloc, reader, depth - 1)
         }
-        other => match pass_value(reader, other, depth) {
-            Ok(()) => Ok(Changes::Other),
+        other => match read_after(reader, other, depth) {
+            Ok(_) => Ok(Changes::Other),
             Err(_) => Err(MembersFault::Invalid),
         },
     }

@@ -27,6 +27,23 @@ pub(crate) fn read_value<'a>(reader: &mut Reader<'a>, depth: usize) -> Result<Me
     ensures shorter { OnOk result (length reader.new < length reader.old) }
 {
     let token = reader.next().ok_or(Invalid)?;
+    read_after(reader, token, depth)
+}
+
+/// Reads a value after its first token. Its arrays and objects nest at most `depth` deep.
+#[cycle(read_value)]
+#[inline(always)]
+pub(crate) fn read_after<'a>(
+    reader: &mut Reader<'a>,
+    token: Token<'a>,
+    depth: usize,
+) -> Result<Member<'a>, Invalid>
+    ensures ok { IfOk result (λ m. (d : Data) × IsMember m d × (converted of_json
+        (value_of depth (token_of token.entry ∷ reader.old)) ≡ Some (d, reader.new))) }
+    ensures err { OnErr result
+        (converted of_json (value_of depth (token_of token.entry ∷ reader.old)) ≡ None) }
+    ensures shorter { OnOk result (length reader.new ≤ length reader.old) }
+{
     match token {
         Token::String(text) => Ok(Member::Text(text)),
         Token::Number(text) => {
@@ -85,41 +102,4 @@ fn pass_members(reader: &mut Reader<'_>, depth: usize) -> Result<(), Invalid>
         let _member = read_value(reader, depth)?;
     }
     Ok(())
-}
-
-/// Reads a value after its first token. Its arrays and objects nest at most `depth` deep.
-pub(crate) fn pass_value(
-    reader: &mut Reader<'_>,
-    token: Token<'_>,
-    depth: usize,
-) -> Result<(), Invalid>
-    ensures ok { OnOk result ((d : Data) × (converted of_json
-        (value_of depth (token_of token.entry ∷ reader.old)) ≡ Some (d, reader.new))) }
-    ensures err { OnErr result
-        (converted of_json (value_of depth (token_of token.entry ∷ reader.old)) ≡ None) }
-    ensures shorter { OnOk result (length reader.new ≤ length reader.old) }
-{
-    match token {
-        Token::String(_) | Token::Bool(_) | Token::Null => Ok(()),
-        Token::Number(text) => {
-            if is_in_range(text) {
-                Ok(())
-            } else {
-                Err(Invalid)
-            }
-        }
-        Token::EndObject | Token::EndArray | Token::Key(_) | Token::Bad => Err(Invalid),
-        Token::BeginArray => {
-            if depth == 0 {
-                return Err(Invalid);
-            }
-            pass_items(reader, depth - 1)
-        }
-        Token::BeginObject => {
-            if depth == 0 {
-                return Err(Invalid);
-            }
-            pass_members(reader, depth - 1)
-        }
-    }
 }

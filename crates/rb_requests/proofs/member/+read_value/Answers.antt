@@ -1,12 +1,11 @@
 use Rattle.std.proofs.Common.{◌≡◌, ◌-◌, ◌<◌, [], ◌∷◌, length, Some, None, ap, ap₂, ◌∙◌, arith, refl}
-use Rattle.json.specs.Token.{Token}
-use Rattle.json.specs.Json.{parse_map, after_end_array, read_key, items, members, value}
+use Rattle.json.specs.Json.{parse_map, after_end_array, read_key, value}
 use Rattle.json.specs.Reads.{token_of}
-use Rattle.json.proofs.Grammar.{value_is, value-begin_array, value-begin_object, read_key-shorter}
+use Rattle.json.proofs.Grammar.{value_is, read_key-shorter}
 use Rattle.serde_json.specs.Data.{null, boolean, string, array, object, no_items, no_members, item, put}
 use Rattle.serde_json.specs.Read.{of_json, converted}
-use Rattle.rb_requests.proofs.MembersRead.{converted-array, converted-object, item_read, item_refused, items_over, member_read, member_refused, key_refused, members_over}
-use Rattle.rb_requests.proofs.Members.{one_more_before, none_before, at_an_error, number_in_range, number_out_of_range, boolean_read, null_read}
+use Rattle.rb_requests.proofs.MembersRead.{item_read, item_refused, items_over, member_read, member_refused, key_refused, members_over}
+use Rattle.rb_requests.proofs.Members.{one_more_before, none_before, at_an_error, array_after, object_after, number_in_range, number_out_of_range, boolean_read, null_read}
 use Rattle.rb_requests.proofs.member.+read_value.Goals as goal
 
 -- ---- the items of an array
@@ -104,78 +103,79 @@ read_value-returns-in_err-token-clause-err t c =
     let empty : c.args.reader.now ≡ [] = grind arith in
     at_an_error c.from_residual.result (ap (converted of_json) (ap (value c.args.depth) empty ∙ value_is c.args.depth []))
 
-pub read_value-returns-then-depth-eq0-clause-err : goal.read_value-returns-then-depth-eq0-clause-err
+pub read_value-returns-clause-ok : goal.read_value-returns-clause-ok
+read_value-returns-clause-ok t c =
+    let first : c.args.reader.now ≡ token_of c.in_ok-token.token ∷ c.next.new.self = grind arith in
+    rw first c.read_after.ensures.ok
+
+pub read_value-returns-clause-err : goal.read_value-returns-clause-err
+read_value-returns-clause-err t c =
+    let first : c.args.reader.now ≡ token_of c.in_ok-token.token ∷ c.next.new.self = grind arith in
+    rw first c.read_after.ensures.err
+
+-- ---- a value after its first token
+
+pub read_after-returns-then-depth-eq0-clause-err : goal.read_after-returns-then-depth-eq0-clause-err
 unfolding value
-read_value-returns-then-depth-eq0-clause-err t c =
-    let first : c.args.reader.now ≡ token_of c.in_ok-token.token ∷ c.next.new.self = grind arith in
+read_after-returns-then-depth-eq0-clause-err t c =
     let none : c.args.depth ≡ 0 = omega arith in
-    ap (converted of_json) (ap₂ value none (first ∙ ap (λ k. token_of k ∷ c.next.new.self) c.in-BeginArray.is))
+    ap (converted of_json) (ap₂ value none (ap (λ k. token_of k ∷ c.args.reader.now) c.in-BeginArray.is))
 
-pub read_value-returns-then-depth-eq0-2-clause-err : goal.read_value-returns-then-depth-eq0-2-clause-err
+pub read_after-returns-then-depth-eq0-2-clause-err : goal.read_after-returns-then-depth-eq0-2-clause-err
 unfolding value
-read_value-returns-then-depth-eq0-2-clause-err t c =
-    let first : c.args.reader.now ≡ token_of c.in_ok-token.token ∷ c.next.new.self = grind arith in
+read_after-returns-then-depth-eq0-2-clause-err t c =
     let none : c.args.depth ≡ 0 = omega arith in
-    ap (converted of_json) (ap₂ value none (first ∙ ap (λ k. token_of k ∷ c.next.new.self) c.in-BeginObject.is))
+    ap (converted of_json) (ap₂ value none (ap (λ k. token_of k ∷ c.args.reader.now) c.in-BeginObject.is))
 
-pub read_value-returns-in_err-pass_items-in-BeginArray-clause-err : goal.read_value-returns-in_err-pass_items-in-BeginArray-clause-err
-read_value-returns-in_err-pass_items-in-BeginArray-clause-err t c =
-    let first : c.args.reader.now ≡ token_of c.in_ok-token.token ∷ c.next.new.self = grind arith in
-    let opened = ap (converted of_json) (ap (value c.args.depth) (first ∙ ap (λ k. token_of k ∷ c.next.new.self) c.in-BeginArray.is) ∙ value-begin_array c.args.depth c.next.new.self (omega arith)) ∙ converted-array (items (value (c.args.depth - 1)) (length c.next.new.self) c.next.new.self) in
-    at_an_error c.from_residual-in_err-pass_items-in-BeginArray.result (opened ∙ ap (parse_map array) c.in_err-pass_items-in-BeginArray.ensures.err)
+pub read_after-returns-in_err-pass_items-in-BeginArray-clause-err : goal.read_after-returns-in_err-pass_items-in-BeginArray-clause-err
+read_after-returns-in_err-pass_items-in-BeginArray-clause-err t c =
+    let opened = array_after c.args.depth c.args.token c.args.reader.now (ap token_of c.in-BeginArray.is) (omega arith) in
+    at_an_error c.from_residual.result (opened ∙ ap (parse_map array) c.in_err-pass_items-in-BeginArray.ensures.err)
 
-pub read_value-returns-in_err-pass_members-in-BeginObject-clause-err : goal.read_value-returns-in_err-pass_members-in-BeginObject-clause-err
-read_value-returns-in_err-pass_members-in-BeginObject-clause-err t c =
-    let first : c.args.reader.now ≡ token_of c.in_ok-token.token ∷ c.next.new.self = grind arith in
-    let opened = ap (converted of_json) (ap (value c.args.depth) (first ∙ ap (λ k. token_of k ∷ c.next.new.self) c.in-BeginObject.is) ∙ value-begin_object c.args.depth c.next.new.self (omega arith)) ∙ converted-object (members (value (c.args.depth - 1)) (length c.next.new.self) c.next.new.self) in
+pub read_after-returns-in_err-pass_members-in-BeginObject-clause-err : goal.read_after-returns-in_err-pass_members-in-BeginObject-clause-err
+read_after-returns-in_err-pass_members-in-BeginObject-clause-err t c =
+    let opened = object_after c.args.depth c.args.token c.args.reader.now (ap token_of c.in-BeginObject.is) (omega arith) in
     at_an_error c.from_residual-in_err-pass_members-in-BeginObject.result (opened ∙ ap (parse_map object) c.in_err-pass_members-in-BeginObject.ensures.err)
 
-pub read_value-returns-in-String-clause-ok : goal.read_value-returns-in-String-clause-ok
-read_value-returns-in-String-clause-ok t c =
-    let first : c.args.reader.now ≡ token_of c.in_ok-token.token ∷ c.next.new.self = grind arith in
-    let is : c.args.reader.now ≡ Token.string c.in-String.text.now ∷ c.next.new.self = grind (arith, first) in
+pub read_after-returns-in-String-clause-ok : goal.read_after-returns-in-String-clause-ok
+read_after-returns-in-String-clause-ok t c =
+    let is = ap (λ k. token_of k ∷ c.args.reader.now) c.in-String.is in
     (string c.in-String.text.now, refl, ap (converted of_json) (ap (value c.args.depth) is ∙ value_is c.args.depth _))
 
-pub read_value-returns-then-is_in_range-clause-ok : goal.read_value-returns-then-is_in_range-clause-ok
-read_value-returns-then-is_in_range-clause-ok t c =
-    let first : c.args.reader.now ≡ token_of c.in_ok-token.token ∷ c.next.new.self = grind arith in
-    let is : c.args.reader.now ≡ Token.number c.in-Number.text.now ∷ c.next.new.self = grind (arith, first) in
-    number_in_range c.args.depth c.args.reader.now c.next.new.self c.in-Number.text.now is c.if-is_in_range.ensures
+pub read_after-returns-then-is_in_range-clause-ok : goal.read_after-returns-then-is_in_range-clause-ok
+read_after-returns-then-is_in_range-clause-ok t c =
+    let r = c.args.reader.now in
+    number_in_range c.args.depth _ r c.in-Number.text.now (ap (λ k. token_of k ∷ r) c.in-Number.is) c.if-is_in_range.ensures
 
-pub read_value-returns-else-is_in_range-clause-err : goal.read_value-returns-else-is_in_range-clause-err
-read_value-returns-else-is_in_range-clause-err t c =
-    let first : c.args.reader.now ≡ token_of c.in_ok-token.token ∷ c.next.new.self = grind arith in
-    let is : c.args.reader.now ≡ Token.number c.in-Number.text.now ∷ c.next.new.self = grind (arith, first) in
-    number_out_of_range c.args.depth c.args.reader.now c.next.new.self c.in-Number.text.now is c.if-is_in_range.ensures
+pub read_after-returns-else-is_in_range-clause-err : goal.read_after-returns-else-is_in_range-clause-err
+read_after-returns-else-is_in_range-clause-err t c =
+    let r = c.args.reader.now in
+    number_out_of_range c.args.depth _ r c.in-Number.text.now (ap (λ k. token_of k ∷ r) c.in-Number.is) c.if-is_in_range.ensures
 
-pub read_value-returns-in-Bool-clause-ok : goal.read_value-returns-in-Bool-clause-ok
-read_value-returns-in-Bool-clause-ok t c =
-    let first : c.args.reader.now ≡ token_of c.in_ok-token.token ∷ c.next.new.self = grind arith in
-    let is = first ∙ ap (λ k. token_of k ∷ c.next.new.self) c.in-Bool.is in
-    (boolean c.in-Bool.flag, refl, boolean_read c.args.depth c.args.reader.now c.next.new.self c.in-Bool.flag is)
+pub read_after-returns-in-Bool-clause-ok : goal.read_after-returns-in-Bool-clause-ok
+read_after-returns-in-Bool-clause-ok t c =
+    let r = c.args.reader.now in
+    (boolean c.in-Bool.flag, refl, boolean_read c.args.depth _ r c.in-Bool.flag (ap (λ k. token_of k ∷ r) c.in-Bool.is))
 
-pub read_value-returns-in-Null-clause-ok : goal.read_value-returns-in-Null-clause-ok
-read_value-returns-in-Null-clause-ok t c =
-    let first : c.args.reader.now ≡ token_of c.in_ok-token.token ∷ c.next.new.self = grind arith in
-    let is = first ∙ ap (λ k. token_of k ∷ c.next.new.self) c.in-Null.is in
-    (null, (refl, refl), null_read c.args.depth c.args.reader.now c.next.new.self is)
+pub read_after-returns-in-Null-clause-ok : goal.read_after-returns-in-Null-clause-ok
+read_after-returns-in-Null-clause-ok t c =
+    let r = c.args.reader.now in
+    (null, (refl, refl), null_read c.args.depth _ r (ap (λ k. token_of k ∷ r) c.in-Null.is))
 
-pub read_value-returns-in-EndObject-clause-err : goal.read_value-returns-in-EndObject-clause-err
-read_value-returns-in-EndObject-clause-err t c =
-    let first : c.args.reader.now ≡ token_of c.in_ok-token.token ∷ c.next.new.self = grind arith in
-    let none : value c.args.depth c.args.reader.now ≡ None = rw (value_is c.args.depth c.args.reader.now, first) (grind arith) in
+pub read_after-returns-in-EndObject-clause-err : goal.read_after-returns-in-EndObject-clause-err
+read_after-returns-in-EndObject-clause-err t c =
+    let ts = token_of c.args.token ∷ c.args.reader.now in
+    let none : value c.args.depth ts ≡ None = rw (value_is c.args.depth ts) (grind arith) in
     ap (converted of_json) none
 
-pub read_value-returns-in_ok-pass_items-in-BeginArray-clause-ok : goal.read_value-returns-in_ok-pass_items-in-BeginArray-clause-ok
-read_value-returns-in_ok-pass_items-in-BeginArray-clause-ok t c =
-    let first : c.args.reader.now ≡ token_of c.in_ok-token.token ∷ c.next.new.self = grind arith in
-    let opened = ap (converted of_json) (ap (value c.args.depth) (first ∙ ap (λ k. token_of k ∷ c.next.new.self) c.in-BeginArray.is) ∙ value-begin_array c.args.depth c.next.new.self (omega arith)) ∙ converted-array (items (value (c.args.depth - 1)) (length c.next.new.self) c.next.new.self) in
+pub read_after-returns-in_ok-pass_items-in-BeginArray-clause-ok : goal.read_after-returns-in_ok-pass_items-in-BeginArray-clause-ok
+read_after-returns-in_ok-pass_items-in-BeginArray-clause-ok t c =
+    let opened = array_after c.args.depth c.args.token c.args.reader.now (ap token_of c.in-BeginArray.is) (omega arith) in
     let found = c.in_ok-pass_items-in-BeginArray.ensures.ok in
     (array found.0, (refl, refl), opened ∙ ap (parse_map array) found.1)
 
-pub read_value-returns-in_ok-pass_members-in-BeginObject-clause-ok : goal.read_value-returns-in_ok-pass_members-in-BeginObject-clause-ok
-read_value-returns-in_ok-pass_members-in-BeginObject-clause-ok t c =
-    let first : c.args.reader.now ≡ token_of c.in_ok-token.token ∷ c.next.new.self = grind arith in
-    let opened = ap (converted of_json) (ap (value c.args.depth) (first ∙ ap (λ k. token_of k ∷ c.next.new.self) c.in-BeginObject.is) ∙ value-begin_object c.args.depth c.next.new.self (omega arith)) ∙ converted-object (members (value (c.args.depth - 1)) (length c.next.new.self) c.next.new.self) in
+pub read_after-returns-in_ok-pass_members-in-BeginObject-clause-ok : goal.read_after-returns-in_ok-pass_members-in-BeginObject-clause-ok
+read_after-returns-in_ok-pass_members-in-BeginObject-clause-ok t c =
+    let opened = object_after c.args.depth c.args.token c.args.reader.now (ap token_of c.in-BeginObject.is) (omega arith) in
     let found = c.in_ok-pass_members-in-BeginObject.ensures.ok in
     (object found.0, (refl, refl), opened ∙ ap (parse_map object) found.1)

@@ -4,14 +4,17 @@ use Rattle.serde_json.specs.Data.{Items, Members, no_members}
 use Rattle.serde_json.specs.Read.{of_items, of_members, converted}
 use Rattle.rb_requests.proofs.member.+read_value.Given as goal
 
+abbrev pub decreases-read_after : goal.decreases-read_after
+decreases-read_after l = 3 * l.depth
+
 abbrev pub decreases-read_value : goal.decreases-read_value
-decreases-read_value l = 2 * l.depth
+decreases-read_value l = 3 * l.depth + 1
 
 abbrev pub decreases-pass_items : goal.decreases-pass_items
-decreases-pass_items l = 2 * l.depth + 1
+decreases-pass_items l = 3 * l.depth + 2
 
 abbrev pub decreases-pass_members : goal.decreases-pass_members
-decreases-pass_members l = 2 * l.depth + 1
+decreases-pass_members l = 3 * l.depth + 2
 
 -- `before` prepends the items that were skipped to the remaining ones, which take at most `turns` turns
 abbrev pub invariant-pass_items-items : goal.invariant-pass_items-items
