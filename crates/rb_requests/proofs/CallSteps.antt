@@ -115,20 +115,34 @@ same_answered limits k call incoming response free answered told files = record 
   kept = λ n. refl;
 }
 
+-- a call by its reply: only one that is done changes anything
+comes_to : (limits : Limits) (k k' : Kept) (call : Call) (incoming : Option (List ℕ)) (r : Reply) → CallBrings limits call incoming
+    → call_refusal limits k call incoming ≡ None → (r ≡ reply.Memory → may_starve limits call ≡ true) → Step (state_of k) call (Replies r) (state_of k')
+    → (r ≢ reply.Done → k' ≡ k)
+    → (r ≡ reply.Done → Answered (state_of k) call (Replies reply.Done) (state_of k') → IsAnswered limits k call incoming (Answers (Replies reply.Done)) k')
+    → CallComesTo limits k call (Answers (Replies r)) k'
+comes_to limits k k' call incoming r brings free may step same made = by (told call incoming r)
+  where
+    by : Told call incoming r → CallComesTo limits k call (Answers (Replies r)) k'
+    by (done e) =
+        let answered = subst (λ (x : Reply). Answered (state_of k) call (Replies x) (state_of k')) e (not_memory k k' call r step (ap is_memory_reply e)) in
+        subst (λ (x : Reply). CallComesTo limits k call (Answers (Replies x)) k') (sym e) (inr (incoming, brings, inr (made e answered)))
+    by (memory e) =
+        let not_done : r ≢ reply.Done = λ d. let x : reply.Memory ≡ reply.Done = sym e ∙ d in cc in
+        inl (record { memory = ap (λ (x : Reply). Answers (Replies x)) e; may = may e; same = same not_done })
+    by (other n m f) =
+        let at_k = subst (λ (x : Kept). Step (state_of k) call (Replies r) (state_of x)) (same n) step in
+        subst (λ (x : Kept). CallComesTo limits k call (Answers (Replies r)) x) (sym (same n))
+        (inr (incoming, brings, inr (same_answered limits k call incoming (Replies r) free (not_memory k k call r at_k m) m (f _))))
+
 -- a call that changes nothing
 pub unchanged : (limits : Limits) (k : Kept) (call : Call) (incoming : Option (List ℕ)) (r : Reply) → CallBrings limits call incoming
     → call_refusal limits k call incoming ≡ None → (r ≡ reply.Memory → may_starve limits call ≡ true) → Step (state_of k) call (Replies r) (state_of k)
     → (r ≡ reply.Done → files_then call incoming (Replies reply.Done) (files_of (caller call) k.packages) ≡ files_of (caller call) k.packages)
     → CallComesTo limits k call (Answers (Replies r)) k
-unchanged limits k call incoming r brings free may step files = by (told call incoming r)
-  where
-    by : Told call incoming r → CallComesTo limits k call (Answers (Replies r)) k
-    by (done e) =
-        let answered = not_memory k k call r step (ap is_memory_reply e) in
-        let kept = subst (λ (x : Reply). files_then call incoming (Replies x) (files_of (caller call) k.packages) ≡ files_of (caller call) k.packages) (sym e) (files e) in
-        inr (incoming, brings, inr (same_answered limits k call incoming (Replies r) free answered (ap is_memory_reply e) kept))
-    by (memory e) = inl (record { memory = ap (λ (x : Reply). Answers (Replies x)) e; may = may e; same = refl })
-    by (other n m f) = inr (incoming, brings, inr (same_answered limits k call incoming (Replies r) free (not_memory k k call r step m) m (f _)))
+unchanged limits k call incoming r brings free may step files =
+    comes_to limits k k call incoming r brings free may step (λ n. refl)
+    (λ e answered. same_answered limits k call incoming (Replies reply.Done) free answered refl (files e))
 
 -- ---- payloads
 
@@ -143,7 +157,7 @@ pub read_short : {E : Type 0} (limits : Limits) (r : Result Place E) (payload : 
 read_short limits (Err e) payload is h = absurd (false≢true is)
 read_short limits (Ok p) payload is h = rw h refl
 
-not_true : (b : Bool) → not b ≡ true → b ≡ false
+pub not_true : (b : Bool) → not b ≡ true → b ≡ false
 not_true true h = absurd (false≢true h)
 not_true false h = refl
 
@@ -256,26 +270,10 @@ module _ (limits : Limits) (k : Kept) (made : Change) (app locale : List ℕ) (p
       → (r ≡ reply.Done → files_of p.app k'.packages ≡ files_after made p.name file (files_of p.app k.packages))
       → OthersStay p.app k.packages k'.packages → k'.parents ≡ k.parents → (r ≢ reply.Done → k' ≡ k)
       → CallComesTo limits k (asks made app locale payload) (Answers (Replies r)) k'
-  put k' r free step own others parents same = by (told (asks made app locale payload) (Some file) r)
-    where
-      by : Told (asks made app locale payload) (Some file) r → CallComesTo limits k (asks made app locale payload) (Answers (Replies r)) k'
-      by (done e) =
-          let answered = subst (λ (x : Reply). Answered (state_of k) (asks made app locale payload) (Replies x) (state_of k')) e
-          (not_memory k k' (asks made app locale payload) r step (ap is_memory_reply e)) in
-          subst (λ (x : Reply). CallComesTo limits k (asks made app locale payload) (Answers (Replies x)) k') (sym e)
-          (inr (Some file, read_brings, inr (put_done k' free answered (own e) others parents)))
-      by (memory e) =
-          let not_done : r ≢ reply.Done = λ d. let x : reply.Memory ≡ reply.Done = sym e ∙ d in cc in
-          inl (record {
-            memory = ap (λ (x : Reply). Answers (Replies x)) e;
-            may = read_starves limits made app locale payload (read_short limits (place_of app locale) payload (ap is_ok reads.0) long);
-            same = same not_done;
-          })
-      by (other n m f) =
-          let at_k = subst (λ (x : Kept). Step (state_of k) (asks made app locale payload) (Replies r) (state_of x)) (same n) step in
-          let answered = not_memory k k (asks made app locale payload) r at_k m in
-          subst (λ (x : Kept). CallComesTo limits k (asks made app locale payload) (Answers (Replies r)) x) (sym (same n))
-          (inr (Some file, read_brings, inr (same_answered limits k (asks made app locale payload) (Some file) (Replies r) (read_refusal ∙ sym free) answered m (f _))))
+  put k' r free step own others parents same =
+      comes_to limits k k' (asks made app locale payload) (Some file) r read_brings (read_refusal ∙ sym free)
+      (λ e. read_starves limits made app locale payload (read_short limits (place_of app locale) payload (ap is_ok reads.0) long)) step same
+      (λ e answered. put_done k' free answered (own e) others parents)
 
 -- a replacement that is put doesn't run out of memory
 pub install_alone : (made : Change) (r : Reply) → (made ≡ change.Replace → r ≢ reply.Memory) → r ≡ reply.Memory → made ≡ change.Install
@@ -288,7 +286,7 @@ is_reply a b h = cc
 -- ---- the other calls
 
 -- a statement on a result from its cases
-by_result : {A E : Type 0} (r : Result A E) (Holds : Result A E → Type 0) → ((a : A) → r ≡ Ok a → Holds (Ok a)) → ((e : E) → r ≡ Err e → Holds (Err e))
+pub by_result : {A E : Type 0} (r : Result A E) (Holds : Result A E → Type 0) → ((a : A) → r ≡ Ok a → Holds (Ok a)) → ((e : E) → r ≡ Err e → Holds (Err e))
     → Holds r
 by_result (Ok a) Holds ok err = ok a refl
 by_result (Err e) Holds ok err = err e refl
@@ -334,21 +332,10 @@ pub removed : (limits : Limits) (k k' : Kept) (app locale : List ℕ) (r : Reply
     → Step (state_of k) (Requests (request.Remove app locale)) (Replies r) (state_of k') → Removes (place_of app locale) r k.packages k'.packages
     → k'.parents ≡ k.parents → (r ≢ reply.Done → k' ≡ k) → r ≢ reply.Memory
     → CallComesTo limits k (Requests (request.Remove app locale)) (Answers (Replies r)) k'
-removed limits k k' app locale r step h parents same never = by (told (Requests (request.Remove app locale)) None r)
-  where
-    by : Told (Requests (request.Remove app locale)) None r → CallComesTo limits k (Requests (request.Remove app locale)) (Answers (Replies r)) k'
-    by (done e) =
-        let answered = subst (λ (x : Reply). Answered (state_of k) (Requests (request.Remove app locale)) (Replies x) (state_of k')) e
-        (not_memory k k' (Requests (request.Remove app locale)) r step (ap is_memory_reply e)) in
-        let removes = subst (λ (x : Reply). Removes (place_of app locale) x k.packages k'.packages) e h in
-        subst (λ (x : Reply). CallComesTo limits k (Requests (request.Remove app locale)) (Answers (Replies x)) k') (sym e)
-        (inr (None, refl, inr (removed_done limits k k' app locale answered removes parents)))
-    by (memory e) = absurd (never e)
-    by (other n m f) =
-        let at_k = subst (λ (x : Kept). Step (state_of k) (Requests (request.Remove app locale)) (Replies r) (state_of x)) (same n) step in
-        let answered = not_memory k k (Requests (request.Remove app locale)) r at_k m in
-        subst (λ (x : Kept). CallComesTo limits k (Requests (request.Remove app locale)) (Answers (Replies r)) x) (sym (same n))
-        (inr (None, refl, inr (same_answered limits k (Requests (request.Remove app locale)) None (Replies r) refl answered m (f _))))
+removed limits k k' app locale r step h parents same never =
+    comes_to limits k k' (Requests (request.Remove app locale)) None r refl refl (λ e. absurd (never e)) step same
+    (λ e answered. removed_done limits k k' app locale answered
+    (subst (λ (x : Reply). Removes (place_of app locale) x k.packages k'.packages) e h) parents)
 
 pub listed : (limits : Limits) (k : Kept) (app : List ℕ) (r : Reply) → Step (state_of k) (Requests (request.List app)) (Replies r) (state_of k)
     → CallComesTo limits k (Requests (request.List app)) (Answers (Replies r)) k

@@ -1,14 +1,11 @@
 -- The replies to changes whose payload is read, and to those that are refused.
-use Rattle.std.proofs.Common.{◌≡◌, ℕ, inl, inr, Bool, true, false, not, List, length, Option, Some, None, is_some, option_map, Result, Ok, Err, refl, subst}
+use Rattle.std.proofs.Common.{◌≡◌, ℕ, inl, inr, Bool, true, false, List, length, Option, Some, None, is_some, option_map, Result, Ok, Err, refl, subst}
 use Rattle.std.specs.Prelude.{IfErr, OnOk}
 use Rattle.std.proofs.lemmas.Bool.{false≢true, MatchBool-at_false}
 use Rattle.rb_tree.specs.SourceTree.{SourceTree}
 use Rattle.rb_format.specs.File.{source_tree_of}
 use Rattle.rb_packages.specs.Packages.{file_at}
-use Rattle.rb_engine.specs.Answer.{Replies}
 use Rattle.rb_engine.specs.Ask.{Requests}
-use Rattle.rb_engine.specs.History.{is_memory}
-use Rattle.rb_engine.specs.declared.request.Reply.{Reply}
 use Rattle.rb_engine.specs.Kept.{Kept}
 use Rattle.rb_locales.specs.Locale.{name}
 use Rattle.rb_packages.specs.App.{app_of}
@@ -23,7 +20,7 @@ use Rattle.rb_engine.specs.declared.request.Payload.{Payload}
 use Rattle.rb_requests.specs.ExtendedReply.{ChangeReply, CalledReply, is_stored, put_change}
 use Rattle.rb_requests.specs.Limits.{is_over, payload_len}
 use Rattle.rb_requests.specs.Refused.{Reason, IsFirstError, IsUnreadBy}
-use Rattle.rb_requests.specs.Steps.{Outcome, Answers, Refuses, Brings, BringsAt, CallBrings, CallComesTo, CallIsJudged, IsJudged, is_read}
+use Rattle.rb_requests.specs.Steps.{Outcome, Refuses, Brings, BringsAt, CallBrings, CallIsJudged, IsJudged, is_read}
 use Rattle.rb_requests.specs.Within.{CallReply, error_line, outcome_line}
 use Rattle.rb_requests.specs.Words.{refusal_word}
 use Rattle.rb_requests.specs.declared.answer.Starved.{Starved}
@@ -33,13 +30,9 @@ use Rattle.rb_requests.specs.declared.judged.Unmade.TheVariants.{Refused, Memory
 use Rattle.rb_requests.specs.declared.limits.Limits.{Limits}
 use Rattle.rb_requests.specs.declared.limits.Refusal.{Refusal}
 use Rattle.rb_requests.specs.inner.ExtendedTold.{change_line}
-use Rattle.rb_requests.specs.inner.Starving.{LeavesOf, untold_reply}
-use Rattle.rb_requests.proofs.Stepping.{left_by}
+use Rattle.rb_requests.specs.inner.Starving.{LeavesOf}
 use Rattle.rb_requests.specs.inner.Judged.{IfRefused, IsTold, Judges, names_error, reason}
-
-not_true : (b : Bool) → not b ≡ true → b ≡ false
-not_true true h = absurd (false≢true h)
-not_true false h = refl
+use Rattle.rb_requests.proofs.CallSteps.{not_true}
 
 -- ---- payloads that aren't read
 
@@ -99,7 +92,7 @@ change_told limits old new made app locale payload b outcome line text reads rea
     )
 
 -- the state that such a call leaves if its reply could not be made
-change_leaves : (limits : Limits) (old new : Kept) (made : Change) (app locale : List ℕ) (payload : Payload) (b : Place × List ℕ)
+pub change_leaves : (limits : Limits) (old new : Kept) (made : Change) (app locale : List ℕ) (payload : Payload) (b : Place × List ℕ)
     (line : Outcome → List ℕ) (s : Starved) → Reads app locale payload (Ok b) → is_read limits (place_of app locale) payload ≡ true
     → LeavesOf (CallReply limits old (Requests (change_request made app locale payload))) s old new
     → LeavesOf (ChangeReply limits old made app locale payload line) s old new
@@ -109,15 +102,6 @@ change_leaves limits old new made app locale payload b line After reads read lef
   | inr (text, (outcome, judged, e)) ↦
       inr (line outcome, change_told limits old new made app locale payload b outcome line (line outcome) reads read judged refl)
 ]
-
-pub change_left : (limits : Limits) (old new : Kept) (made : Change) (app locale : List ℕ) (payload : Payload) (b : Place × List ℕ)
-    (line : Outcome → List ℕ) (reply : Reply) → Reads app locale payload (Ok b) → is_read limits (place_of app locale) payload ≡ true
-    → is_memory (Replies reply) ≡ false
-    → CallComesTo limits old (Requests (change_request made app locale payload)) (Answers (Replies reply)) new
-    → LeavesOf (ChangeReply limits old made app locale payload line) (untold_reply reply) old new
-change_left limits old new made app locale payload b line reply reads read told came =
-    change_leaves limits old new made app locale payload b line (untold_reply reply) reads read
-    (left_by limits old (Requests (change_request made app locale payload)) reply new told came)
 
 -- the line of a call that a limit rejects
 pub refused_line : (limits : Limits) (replaced : Option Bool) (refusal : Refusal)

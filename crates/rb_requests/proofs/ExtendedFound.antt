@@ -1,7 +1,7 @@
 -- The members of an extended request, as more are read.
-use Rattle.std.proofs.Common.{◌≡◌, ◌∙◌, ℕ, Bool, true, List, Option, Some, None, option_and_then, if◌then◌else◌, refl, ap, subst, sym, codes}
+use Rattle.std.proofs.Common.{◌≡◌, ◌∙◌, ℕ, Bool, true, List, Option, Some, None, option_and_then, if◌then◌else◌, ap, subst, sym, codes}
 use Rattle.std.specs.Str.{bytes_eq}
-use Rattle.serde_json.specs.Data.{Data, null, boolean, number, string, array, Members, put, object}
+use Rattle.serde_json.specs.Data.{Data, Members, put, object}
 use Rattle.serde_json.specs.Find.{get_member, as_str}
 use Rattle.serde_json.proofs.Views.{get_member-put_other}
 use Rattle.rb_requests.specs.declared.change_list.Changes.{Changes}
@@ -10,14 +10,14 @@ use Rattle.rb_requests.specs.declared.extended_texts.ExtendedTexts.{ExtendedText
 use Rattle.rb_requests.specs.declared.texts.Texts.{Texts}
 use Rattle.rb_requests.specs.inner.Texts.{Holds, IsAt}
 use Rattle.rb_requests.specs.Asked.{data_of}
-use Rattle.rb_requests.specs.ExtendedAsked.{ReleaseChange, path_in, form_in, extended_of}
+use Rattle.rb_requests.specs.ExtendedAsked.{ReleaseChange, path_in, form_in, extended_by, extended_of}
 use Rattle.rb_requests.specs.declared.member.Member.TheVariants as members
 use Rattle.rb_requests.specs.inner.ChangesRead.{AreOf}
-use Rattle.rb_requests.specs.inner.ExtendedForms.{changes_in, extended_in}
+use Rattle.rb_requests.specs.inner.ExtendedForms.{changes_in}
 use Rattle.rb_requests.specs.inner.ExtendedLines.{AreAllOf, AreHeld, form_by, path_by}
 use Rattle.rb_requests.specs.inner.ExtendedRead.{AreAt, HoldsAll}
 use Rattle.rb_requests.proofs.ChangesFound.{held_flag}
-use Rattle.rb_requests.proofs.Lent.{text_of_member, texts_of_object}
+use Rattle.rb_requests.proofs.Lent.{asked_by, text_of_member, texts_of_object}
 
 module _ (k : List ℕ) (d : Data) (found : Members) where
   -- another member stays
@@ -68,14 +68,5 @@ all_of asked found h = record {
 }
 
 -- only an object asks anything
-asked_by : (o : Option Data) → ((found : Members) → o ≡ Some (object found) → ⊥) → option_and_then extended_in o ≡ None
-asked_by None h = refl
-asked_by (Some null) h = refl
-asked_by (Some (boolean b)) h = refl
-asked_by (Some (number n)) h = refl
-asked_by (Some (string s)) h = refl
-asked_by (Some (array ds)) h = refl
-asked_by (Some (object found)) h = absurd (h found refl)
-
 pub asks_nothing : (line : List ℕ) → ((found : Members) → data_of line ≡ Some (object found) → ⊥) → extended_of line ≡ None
-asks_nothing line h = asked_by (data_of line) h
+asks_nothing line h = asked_by extended_by (data_of line) h

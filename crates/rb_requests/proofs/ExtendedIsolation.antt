@@ -436,12 +436,7 @@ called_alone limits k k' (Requests (request.Install app' locale payload)) text a
     change_alone limits k k' made.Install app' locale payload (outcome_line limits) text app n r
 called_alone limits k k' (Requests (request.Replace app' locale payload)) text app n r =
     change_alone limits k k' made.Replace app' locale payload (outcome_line limits) text app n r
-called_alone limits k k' (Requests (request.Remove app' locale)) text app n (outcome, (incoming, brings, judged), told) =
-    judged_alone limits k k' (Requests (request.Remove app' locale)) incoming outcome app n judged
-called_alone limits k k' (Requests (request.List app')) text app n (outcome, (incoming, brings, judged), told) =
-    judged_alone limits k k' (Requests (request.List app')) incoming outcome app n judged
-called_alone limits k k' (LooksUp app' locale path) text app n (outcome, (incoming, brings, judged), told) =
-    judged_alone limits k k' (LooksUp app' locale path) incoming outcome app n judged
+called_alone limits k k' call text app n (outcome, (incoming, brings, judged), told) = judged_alone limits k k' call incoming outcome app n judged
 
 release_alone : (limits : Limits) (k k' : Kept) (app' : List ℕ) (changes : List ReleaseChange) (text app : List ℕ) → app ≢ app'
     → ReleaseReply limits k app' changes text k' → IsSame app k k'
@@ -456,10 +451,7 @@ ask_alone limits k k' (Puts app' locale payload) text app n r =
     let b = is_stored k (place_of app' locale) in
     change_alone limits k k' (put_change b) app' locale payload (stored_line limits b) text app n r
 ask_alone limits k k' (Releases app' changes) text app n r = release_alone limits k k' app' changes text app n r
-ask_alone limits k k' (Exports app' locale is_text) text app n (r, same) = stays app k k' same
-ask_alone limits k k' (AsksTree app' locale path) text app n (r, same) = stays app k k' same
-ask_alone limits k k' (AsksSizes app') text app n (r, same) = stays app k k' same
-ask_alone limits k k' (AsksUsage app') text app n (r, same) = stays app k k' same
+ask_alone limits k k' ask text app n (r, same) = stays app k k' same
 
 asked_alone : (limits : Limits) (app : List ℕ) (k k' : Kept) (asked : Option ExtendedAsk) (text : List ℕ) → asks_of app asked ≡ false
     → ExtendedReply limits k asked text k' → IsSame app k k'

@@ -26,10 +26,6 @@ pub held_left : (r : Result (Unit {0}) Starved) (placed : Result Placed Starved)
 held_left (Ok x) placed P Q e f h = subst (λ (p : Result Placed Starved). IfErr p Q) (sym e) tt
 held_left (Err s) placed P Q e f h = subst (λ (p : Result Placed Starved). IfErr p Q) (sym e) (f s h)
 
-pub left_more : (r : Result Placed Starved) (P Q : Starved → Type 0) → ((s : Starved) → P s → Q s) → IfErr r P → IfErr r Q
-left_more (Ok x) P Q f h = tt
-left_more (Err s) P Q f h = f s h
-
 same_ask : (o : Option ExtendedAsk) (a b : ExtendedAsk) → o ≡ Some a → o ≡ Some b → a ≡ b
 same_ask o a b e f = let two : ◌≡◌ {A = Option ExtendedAsk} (Some a) (Some b) = sym e ∙ f in cc
 

@@ -24,7 +24,7 @@ use Rattle.rb_engine.specs.declared.request.Request.TheVariants as request
 use Rattle.rb_engine.proofs.StepLemmas.{app-place_of}
 use Rattle.rb_requests.specs.Limits.{is_over, payload_len, len_at, takes_place, file_refusal, incoming_refusal, change_refusal, steps_refusal, call_refusal}
 use Rattle.rb_requests.specs.Steps.{Outcome, Answers, Refuses, Brings, BringsAt, CallBrings, Starves, IsRefused, IsAnswered, IsJudged, CallIsJudged, CallComesTo, files_then}
-use Rattle.rb_requests.specs.History.{Turn, Run, turns_of, asked_by, outcomes_to, ran_out_of_memory, was_one_too_many, IsIsolatedWithin}
+use Rattle.rb_requests.specs.History.{Turn, Run, turns_of, ran_out_of_memory, was_one_too_many, IsIsolatedWithin}
 use Rattle.rb_requests.specs.declared.limits.Limits.{Limits}
 use Rattle.rb_requests.proofs.Counted.{used_with}
 use Rattle.rb_requests.specs.declared.limits.Refusal.{Refusal}

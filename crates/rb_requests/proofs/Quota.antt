@@ -1,7 +1,6 @@
 -- The bytes of an application's files under a limit on them.
-use Rattle.std.proofs.Common.{◌≡◌, ◌≤◌, ◌<◌, ◌^◌, ◌-◌, ◌+◌, ℕ, inl, inr, Bool, true, false, not, cond, List, [], ◌∷◌, ◌++◌, length, Option, Some, None, is_some, is_none, ◌⊎◌}
-use Rattle.std.proofs.Common.{Result, Ok, Err, refl, sym, ◌∙◌, ap, subst, arith, min, option_map, nat_lt, nat_le, sum_by}
-use Rattle.std.specs.Option.{unwrap_or}
+use Rattle.std.proofs.Common.{◌≡◌, ◌≤◌, ◌^◌, ◌-◌, ◌+◌, ℕ, inl, inr, Bool, true, false, not, cond, List, [], ◌∷◌, ◌++◌, length, Option, Some, None, is_some, is_none, ◌⊎◌}
+use Rattle.std.proofs.Common.{Result, Ok, Err, refl, sym, ◌∙◌, ap, subst, arith, option_map, nat_lt, nat_le}
 use Rattle.std.specs.Map.{lookup, set_value, remove_entry}
 use Rattle.std.specs.Str.{bytes_eq}
 use Rattle.std.proofs.lemmas.Slice.Eq.{bytes_eq-Decides}
@@ -12,11 +11,11 @@ use Rattle.std.proofs.lemmas.Bool.Decides.{nat_tests}
 use Rattle.rb_packages.specs.Packages.{Files, files_of}
 use Rattle.rb_packages.specs.Usage.{bytes_of, apps_of}
 use Rattle.rb_format.specs.File.{source_tree_of}
-use Rattle.rb_packages.specs.Shelf.{Shelf, holds, is_full}
+use Rattle.rb_packages.specs.Shelf.{holds, is_full}
 use Rattle.rb_packages.specs.Packages.{shelf_of}
 use Rattle.rb_packages.proofs.Lists.{bundle_at-shelf_of}
-use Rattle.rb_engine.specs.Ask.{Call, Requests, LooksUp, caller, Content, spelled, denoted, unread, Installs, Replaces}
-use Rattle.rb_engine.specs.Answer.{Response, Replies, Finds, Refuses as NotFound, install_reply, replace_reply, add_reply, refusal}
+use Rattle.rb_engine.specs.Ask.{Call, Requests, LooksUp, caller, Content, spelled, denoted, unread}
+use Rattle.rb_engine.specs.Answer.{Response, Replies, Finds, Refuses as NotFound, install_reply, replace_reply, add_reply}
 use Rattle.rb_engine.specs.Change.{files_after}
 use Rattle.rb_engine.specs.History.{Answered}
 use Rattle.rb_engine.specs.Kept.{Kept, state_of}
@@ -30,8 +29,8 @@ use Rattle.rb_engine.specs.declared.request.Reply.TheVariants as reply
 use Rattle.rb_engine.specs.declared.request.Request.TheVariants as request
 use Rattle.rb_engine.proofs.StepLemmas.{app-place_of}
 use Rattle.rb_requests.specs.Limits.{is_over, payload_len, len_at, takes_place, file_refusal, change_refusal, call_refusal}
-use Rattle.rb_requests.specs.Steps.{Outcome, Starves, IsRefused, IsAnswered, CallComesTo, put_file, taken_out, files_done, files_then}
-use Rattle.rb_requests.specs.History.{Turn, Run, IsWithinQuota}
+use Rattle.rb_requests.specs.Steps.{Outcome, IsAnswered, CallComesTo, put_file, taken_out, files_done, files_then}
+use Rattle.rb_requests.specs.History.{IsWithinQuota}
 use Rattle.rb_requests.specs.declared.limits.Limits.{Limits}
 use Rattle.rb_requests.proofs.Counted.{used_with}
 use Rattle.rb_requests.specs.declared.limits.Refusal.{Refusal}

@@ -1,6 +1,5 @@
 -- The request of a line, by its texts, and its answer.
-use Rattle.std.proofs.Common.{◌≡◌, ◌≤◌, ◌<◌, ℕ, inl, inr, Bool, true, false, List, length, Option, Some, None, option_map, refl, sym, ◌∙◌, ap, arith, nat_lt, codes}
-use Rattle.std.specs.Prelude.{OnOk, Result, Ok, Err}
+use Rattle.std.proofs.Common.{◌≡◌, ◌≤◌, ◌<◌, ℕ, inl, inr, Bool, true, false, List, Option, Some, None, option_map, refl, sym, ◌∙◌, ap, arith, nat_lt}
 use Rattle.std.proofs.lemmas.Bool.{false≢true}
 use Rattle.std.proofs.lemmas.Bool.Decides.{nat_tests}
 use Rattle.serde_json.specs.Data.{Data}
@@ -9,20 +8,22 @@ use Rattle.rb_engine.specs.Answer.{Response, Replies}
 use Rattle.rb_engine.specs.History.{is_memory}
 use Rattle.rb_engine.specs.Kept.{Kept}
 use Rattle.rb_engine.specs.declared.request.Reply.{Reply}
-use Rattle.rb_engine.specs.declared.request.Reply.TheVariants.{Done}
+use Rattle.rb_engine.specs.declared.request.Reply.TheVariants.{Done, Memory}
 use Rattle.rb_requests.specs.declared.texts.Texts.{Texts}
 use Rattle.rb_requests.specs.Limits.{is_over}
 use Rattle.rb_requests.specs.Steps.{Outcome, Answers, Refuses, CallIsJudged, CallComesTo, may_starve}
+use Rattle.rb_requests.specs.declared.limits.Limited.{Limited}
+use Rattle.rb_requests.specs.declared.limits.Limited.TheVariants.{Answer, Refused}
 use Rattle.rb_requests.specs.declared.limits.Limits.{Limits}
-use Rattle.rb_replies.specs.Replied.{reply_line}
-use Rattle.rb_replies.specs.Within.{limit_of, IsAbove}
+use Rattle.rb_requests.specs.Outcomes.{reply_outcome}
+use Rattle.rb_replies.specs.Within.{IsAbove}
 use Rattle.rb_requests.specs.Asked.{call_in}
-use Rattle.rb_requests.specs.Within.{AnswersRead, CallReply, outcome_line, error_line}
+use Rattle.rb_requests.specs.Within.{AnswersRead, CallReply, outcome_line}
 use Rattle.rb_requests.specs.declared.answer.Starved.{Starved}
 use Rattle.rb_requests.specs.declared.answer.Starved.TheVariants.{Before, After}
 use Rattle.rb_requests.specs.declared.ask.Line.{Line}
 use Rattle.rb_requests.specs.inner.Line.{line_view, AreTextsOf}
-use Rattle.rb_requests.specs.inner.Starving.{LeavesOf, untold_reply}
+use Rattle.rb_requests.specs.inner.Starving.{LeavesOf, starved_by, untold_by}
 
 -- the call of a line, by its texts
 pub call_read : {o : Option Line} (texts : Texts) (line : Line) → ((d : Data) → AreTextsOf texts d → option_map line_view o ≡ call_in d)
@@ -45,12 +46,7 @@ leaves_more P Q After old new f left = elim left [
 
 -- ---- the outcome of a call
 
--- memory ran out for the call
-abbrev starved_by : Outcome → Bool
-starved_by (Answers response) = is_memory response
-starved_by (Refuses refusal) = false
-
-pub nothing_changed : (limits : Limits) (old : Kept) (call : Call) (reply : Reply) (new : Kept) → is_memory (Replies reply) ≡ true
+nothing_changed : (limits : Limits) (old : Kept) (call : Call) (reply : Reply) (new : Kept) → is_memory (Replies reply) ≡ true
     → CallComesTo limits old call (Answers (Replies reply)) new → new ≡ old
 nothing_changed limits old call reply new e h = elim h [
   | inl starved ↦ starved.same
@@ -87,13 +83,15 @@ unchanged limits old call outcome new e (incoming, brings, judged) = elim judged
 ]
 
 -- the state after a call whose reply could not be made
-pub left_by : (limits : Limits) (old : Kept) (call : Call) (reply : Reply) (new : Kept) → is_memory (Replies reply) ≡ false
-    → CallComesTo limits old call (Answers (Replies reply)) new → LeavesOf (CallReply limits old call) (untold_reply reply) old new
-left_by limits old call Done new e h =
+pub left_by : (limits : Limits) (old : Kept) (call : Call) (answer : Limited Reply) (new : Kept)
+    → CallComesTo limits old call (reply_outcome answer) new → LeavesOf (CallReply limits old call) (untold_by answer) old new
+left_by limits old call (Answer Done) new h =
     let outcome = Answers (Replies Done) in
     inr (outcome_line limits outcome, (outcome, judged limits old call outcome new refl h, refl))
-left_by limits old call other new e h =
-    unchanged limits old call (Answers (Replies other)) new refl (judged limits old call (Answers (Replies other)) new e h)
+left_by limits old call (Answer Memory) new h = nothing_changed limits old call Memory new refl h
+left_by limits old call (Answer other) new h =
+    unchanged limits old call (Answers (Replies other)) new refl (judged limits old call (Answers (Replies other)) new refl h)
+left_by limits old call (Refused refusal) new h = unchanged limits old call (Refuses refusal) new refl (judged limits old call (Refuses refusal) new refl h)
 
 -- ---- the line of an answer
 
@@ -110,16 +108,3 @@ over (Some most) n h = above_over most n h
 pub within : (most : Option ℕ) (n : ℕ) → (IsAbove n most → ⊥) → is_over most n ≡ false
 within None n h = refl
 within (Some most) n h = at_most_over most n (omega (arith, h))
-
-pub line_whole : (limits : Limits) (response : Response) → (IsAbove (length (reply_line (Some response))) (limit_of response limits.reply_bytes) → ⊥)
-    → reply_line (Some response) ≡ outcome_line limits (Answers response)
-line_whole limits response short = rw (within (limit_of response limits.reply_bytes) _ short) refl
-
-pub line_long : (limits : Limits) (response : Response) → IsAbove (length (reply_line (Some response))) (limit_of response limits.reply_bytes)
-    → error_line (codes "ReplyTooLong") ≡ outcome_line limits (Answers response)
-line_long limits response long = rw (over (limit_of response limits.reply_bytes) _ long) refl
-
--- the line is made, or memory ran out
-pub told_as : {E : Type 0} (r : Result (Unit {0}) E) (line text other : List ℕ) → text ≡ other → OnOk r (line ≡ text) → OnOk r (line ≡ other)
-told_as (Ok x) line text other same told = told ∙ same
-told_as (Err e) line text other same told = tt

@@ -1,5 +1,5 @@
 -- The replies to requests for trees, by what a lookup finds.
-use Rattle.std.proofs.Common.{◌≡◌, ℕ, Bool, true, false, inl, inr, List, Option, Some, None, is_some, length, codes, Result, Ok, Err, refl, sym, ◌∙◌, ap, subst}
+use Rattle.std.proofs.Common.{◌≡◌, ℕ, Bool, true, false, inl, inr, List, Option, Some, None, codes, Result, Ok, Err, refl, sym, ◌∙◌, ap, subst}
 use Rattle.rb_tree.specs.Path.{IsPath, is_path, segments}
 use Rattle.rb_tree.proofs.Paths.{path_test}
 use Rattle.rb_parents.specs.Family.{parent_in}
@@ -12,7 +12,6 @@ use Rattle.rb_packages.specs.App.{app_of}
 use Rattle.rb_packages.specs.Packages.{Files, files_of, icudata_files, icudata_of, list_of, shelf_of}
 use Rattle.rb_packages.specs.Shelf.{Shelf, bundle_at}
 use Rattle.rb_replies.specs.Extended.{tree_line}
-use Rattle.rb_replies.specs.Within.{IsAbove}
 use Rattle.rb_engine.specs.Answer.{Start, Finds, lookup_at, lookup_from, search_response, answer_over}
 use Rattle.rb_engine.specs.Ask.{Ask, LooksUp}
 use Rattle.rb_engine.specs.Kept.{Kept, state_of}
@@ -21,21 +20,21 @@ use Rattle.rb_engine.specs.declared.place.Place.{Place}
 use Rattle.rb_engine.proofs.StepLemmas.{app-place_of}
 use Rattle.rb_requests.specs.Steps.{Answers, CallIsJudged}
 use Rattle.rb_requests.specs.TreeReply.{FoundReply, TreeReply}
+use Rattle.rb_requests.specs.Within.{limited_line}
 use Rattle.rb_requests.specs.declared.limits.Limits.{Limits}
-use Rattle.rb_requests.specs.inner.TreePlaced.{TreePlaced}
+use Rattle.rb_requests.proofs.CallSteps.{by_result}
+use Rattle.rb_requests.proofs.ReplyLimits.{limited_by}
 
 -- ---- the line of a tree
 
-is_limit : (n : ℕ) (most : Option ℕ) → IsAbove n most → is_some most ≡ true
-is_limit n None h = absurd h
-is_limit n (Some most) h = refl
-
 pub tree_placed : (limits : Limits) (own : Bundles) (parents : ParentsOf) (n path : List ℕ) (hit : Hit) (valid tree text : List ℕ)
-    → IsTreeOf own parents n path (λ written. tree ≡ written) hit → TreePlaced limits hit.actual valid tree text
+    → IsTreeOf own parents n path (λ written. tree ≡ written) hit → text ≡ limited_line limits.reply_bytes (tree_line hit.actual valid tree)
     → FoundReply limits own parents n path hit valid text
-tree_placed limits own parents n path hit valid tree text is (inl (told, short)) = inl (tree, is, told, short)
-tree_placed limits own parents n path hit valid tree text is (inr (long, told)) =
-    inr (codes "ReplyTooLong", inr (inr (is_limit (length (tree_line hit.actual valid tree)) limits.reply_bytes long, refl)), told)
+tree_placed limits own parents n path hit valid tree text is told =
+    elim (limited_by limits.reply_bytes (tree_line hit.actual valid tree) text told) [
+      | inl (whole, short) ↦ inl (tree, is, whole, short)
+      | inr (some, error) ↦ inr (codes "ReplyTooLong", inr (inr (some, refl)), error)
+    ]
 
 -- ---- what a lookup finds
 
@@ -65,12 +64,6 @@ found_in start shelf app locale path hit valid p is h = by (is_path path) refl
           (look_up (bundle_at shelf) (bundle_at start.icudata) start.parents p.name (segments path)) hit valid (rw e at h);
     }
     by false e = let none = rw e at h in cc
-
--- a statement on a result from its cases
-by_result : {A E : Type 0} (r : Result A E) (Holds : Result A E → Type 0) → ((a : A) → r ≡ Ok a → Holds (Ok a)) → ((e : E) → r ≡ Err e → Holds (Err e))
-    → Holds r
-by_result (Ok a) Holds ok err = ok a refl
-by_result (Err e) Holds ok err = err e refl
 
 found_at : (start : Start) (shelf : Shelf) (app locale path : List ℕ) (hit : Hit) (valid : List ℕ)
     → Finds hit valid ≡ lookup_at start shelf (place_of app locale) path → FoundAt start shelf app locale path hit

@@ -12,7 +12,7 @@ pub mod Putting
 pub mod Streaming
 pub mod Placing
 pub mod Protocols
-pub mod TreePlaced
+pub mod LongLines
 pub mod Judged
 pub mod Drafted
 pub mod ExtendedTold

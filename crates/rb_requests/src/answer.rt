@@ -1,4 +1,4 @@
-ghost use Rattle.std.specs.Prelude.{◌≡◌, IfErr, OnOk, None};
+ghost use Rattle.std.specs.Prelude.{◌≡◌, IfErr, OnOk, None, false};
 ghost use Rattle.serde_json.specs.Data.{Data};
 ghost use Rattle.rb_packages.specs.App.{app_of};
 ghost use Rattle.rb_engine.specs.Ask.{Requests, LooksUp};
@@ -13,16 +13,20 @@ ghost use Rattle.rb_requests.specs.Within.{error_line, is_limited as limited, ou
 ghost use Rattle.rb_requests.specs.Within.{usage_in, usage_reply};
 ghost use Rattle.rb_requests.specs.Requested.{request_of};
 ghost use Rattle.rb_requests.specs.Words.{line_error_word};
+ghost use Rattle.rb_requests.specs.Outcomes.{reply_outcome};
+ghost use Rattle.rb_requests.specs.inner.ExtendedTold.{change_line};
 ghost use Rattle.rb_requests.specs.inner.Line.{AreTextsOf};
 ghost use Rattle.rb_requests.specs.inner.Placing.{PlacesReply};
 ghost use Rattle.rb_requests.specs.inner.Putting.{writer};
-ghost use Rattle.rb_requests.specs.inner.Starving.{DataReply, LeavesOf, untold_reply};
+ghost use Rattle.rb_requests.specs.inner.Starving.{DataReply, LeavesOf, starved_by};
+ghost use Rattle.rb_requests.specs.inner.Starving.{untold_by, untold_reply};
 
-use crate::ask::{Line, LineRequest, lent_texts, line_of, usage_app};
+use crate::ask::{Line, LineRequest, line_of, usage_app};
 use crate::changes::handle;
 use crate::device::{Failed, Sink};
 use crate::limits::{Limited, Limits};
 use crate::lookups::{look, look_unlimited};
+use crate::member_store::read_object;
 use crate::stream::put_found;
 use crate::texts::Texts;
 use crate::words::LineError;
@@ -73,7 +77,7 @@ pub(crate) fn is_limited(limits: &Limits) -> bool
 }
 
 /// Classifies a reply that memory ran out for: only a request that was done changed anything.
-pub(crate) fn untold(reply: &Reply) -> Starved
+fn untold(reply: &Reply) -> Starved
     ensures { result ≡ untold_reply reply.now }
 {
     match reply {
@@ -82,7 +86,7 @@ pub(crate) fn untold(reply: &Reply) -> Starved
     }
 }
 
-pub(crate) fn is_memory(reply: &Reply) -> bool
+fn is_memory(reply: &Reply) -> bool
     ensures { result ≡ ran_out (Replies reply.now) }
 {
     matches!(reply, Reply::Memory)
@@ -117,21 +121,54 @@ pub(crate) fn answer_request(
     ensures fault { IfErr result (λ s. LeavesOf
         (CallReply limits.now engine.old (Requests (request_of request.entry))) s engine.old engine.new) }
 {
-    let answer = match handle(engine, alloc, limits, request) {
+    let answer = handle(engine, alloc, limits, request);
+    tell_limited(alloc, limits, None, answer, reply)
+}
+
+/// Makes the line the reply to a change of a bundle. A `put` says whether it replaced another.
+fn tell_stored(
+    alloc: Global,
+    limits: &Limits,
+    replaced: Option<bool>,
+    answer: &Reply,
+    reply: &mut ReplyLine,
+) -> Result<(), AllocError>
+    ensures { OnOk result
+        (reply.new ≡ change_line limits.now replaced (Answers (Replies answer.now))) }
+{
+    match (replaced, answer) {
+        (Some(is_replaced), Reply::Done) => reply.tell_stored(alloc, is_replaced),
+        _ => tell_answer(alloc, limits, answer, reply),
+    }
+}
+
+/// Makes the line the reply to a request, or the error of the limit that rejects it.
+pub(crate) fn tell_limited(
+    alloc: Global,
+    limits: &Limits,
+    replaced: Option<bool>,
+    answer: Limited<Reply>,
+    reply: &mut ReplyLine,
+) -> Result<(), Starved>
+    ensures line { OnOk result ((starved_by (reply_outcome answer) ≡ false)
+        × (reply.new ≡ change_line limits.now replaced (reply_outcome answer))) }
+    ensures fault { IfErr result (λ s. s ≡ untold_by answer) }
+{
+    let answer = match answer {
         Limited::Answer(answer) => answer,
         Limited::Refused(refusal) => return Ok(tell_word(alloc, refusal.word(), reply)?),
     };
     if is_memory(&answer) {
-        return Err(Starved::Before);
+        return Err(untold(&answer));
     }
-    match tell_answer(alloc, limits, &answer, reply) {
+    match tell_stored(alloc, limits, replaced, &answer, reply) {
         Ok(()) => Ok(()),
         Err(_) => Err(untold(&answer)),
     }
 }
 
 /// Makes the line the reply to a request, or an error if that reply is longer than the limit.
-pub(crate) fn tell_answer(
+fn tell_answer(
     alloc: Global,
     limits: &Limits,
     answer: &Reply,
@@ -365,7 +402,7 @@ pub(crate) fn reply_of<S: Sink>(
         LeavesOf (ReadReply limits.now engine.old line.now) s engine.old engine.new) }
 {
     let mut texts = Texts::none();
-    if lent_texts(alloc, line, scratch, &mut texts)? {
+    if read_object(alloc, line, scratch, &mut texts)? {
         return answer_texts(alloc, engine, limits, &texts, reply, sink);
     }
     tell_line_error(alloc, LineError::BadLine, reply)?;

@@ -1,22 +1,17 @@
 //! Reads a line as a request. The texts at the names that count are borrowed from the line, or from
 //! a scratch if they have escapes; the line's other values are not stored.
-ghost use Rattle.std.specs.Prelude.{◌≡◌, IfOk, IsTrue, option_map, Some, false};
-ghost use Rattle.serde_json.specs.Data.{Data, no_members};
+ghost use Rattle.std.specs.Prelude.{◌≡◌, IfOk, option_map, Some};
+ghost use Rattle.serde_json.specs.Data.{Data};
 ghost use Rattle.hex.specs.Hex.{decode_of};
-ghost use Rattle.rb_requests.specs.Asked.{call_in, data_of, decoded, change_in, remove_in, list_in};
+ghost use Rattle.rb_requests.specs.Asked.{call_in, decoded, change_in, remove_in, list_in};
 ghost use Rattle.rb_requests.specs.Asked.{look_in};
 ghost use Rattle.rb_requests.specs.Within.{usage_in};
 ghost use Rattle.rb_engine.specs.Source.{change_request, payload_of as payload_from};
 ghost use Rattle.rb_requests.specs.inner.Line.{line_view, payload_by, AreTextsOf};
-ghost use Rattle.rb_requests.specs.inner.Line.{AsksNothing};
-ghost use Rattle.rb_requests.specs.inner.Texts.{Holds};
 
 use crate::member::Member;
-use crate::member_store::read_object;
 use crate::texts::Texts;
-use bstr::ByteSlice;
 use hex::FromHexError;
-use json::Scratch;
 use rb_engine::{BundleSource, Change};
 use rb_tree::ByteList;
 use std::alloc::{AllocError, Global};
@@ -164,24 +159,5 @@ pub(crate) fn usage_app<'a>(texts: &Texts<'a>) -> Option<&'a str>
     match (texts.op, texts.app) {
         (Some(Member::Text(op)), Some(Member::Text(app))) if op == "usage" => Some(app),
         _ => None,
-    }
-}
-
-/// Checks whether a line is an object, and if so stores its texts at the names that count in
-/// `texts`. Any other line is no request.
-pub(crate) fn lent_texts<'a>(
-    alloc: Global,
-    line: &'a [u8],
-    scratch: &'a mut Scratch,
-    texts: &mut Texts<'a>,
-) -> Result<bool, AllocError>
-    requires { Holds texts.old no_members }
-    ensures object { IfOk result (λ all. IsTrue all
-        → (d : Data) × AreTextsOf texts.new d × (data_of line.now ≡ Some d)) }
-    ensures other { IfOk result (λ all. all ≡ false → AsksNothing (data_of line.now)) }
-{
-    match line.to_str() {
-        Ok(text) => read_object(alloc, text, scratch, texts),
-        Err(_) => Ok(false),
     }
 }

@@ -1,148 +1,26 @@
 //! Returns what is stored: the files of bundles, their texts, and their lengths.
-ghost use Rattle.std.specs.Prelude.{◌≡◌, [], Some, true, option_map, IfErr, IfOk, OnOk};
+ghost use Rattle.std.specs.Prelude.{◌≡◌, Some, true, option_map, IfOk, OnOk};
 ghost use Rattle.rb_format.specs.File.{source_tree_of};
 ghost use Rattle.rb_locales.specs.Locale.{name as name_of};
 ghost use Rattle.rb_packages.specs.App.{app_of};
 ghost use Rattle.rb_printer.specs.Whole.{IsBundleText};
-ghost use Rattle.rb_replies.specs.Extended.{file_line, text_data};
 ghost use Rattle.rb_requests.specs.ExportReply.{ExportReply, FileReply, sizes_reply};
-ghost use Rattle.rb_requests.specs.Within.{limited_line, line_of};
 ghost use Rattle.rb_requests.specs.inner.Placing.{PlacesReply};
-ghost use Rattle.rb_requests.specs.inner.Putting.{Puts, writer};
-ghost use Rattle.rb_requests.specs.inner.Streaming.{Takes};
+ghost use Rattle.rb_requests.specs.inner.Putting.{writer};
 
 use crate::answer::{Placed, tell_line_error, tell_word};
-use crate::device::{Failed, Sink};
+use crate::device::Sink;
 use crate::limits::Limits;
-use crate::lines::PIECE;
-use crate::stream::Stream;
+use crate::long_line::{LongLine, place_line};
 use crate::words::LineError;
 use rb_engine::{App, Engine, Reply};
 use rb_locales::Name;
 use rb_printer::{PrintError, print_bundle};
-use rb_replies::{ReplyLine, file_is_above, put_file, put_text, sizes_are_above, text_is_above};
+use rb_replies::{ReplyLine, sizes_are_above};
 use rb_tree::UnitList;
 use rb_validator::Bundle;
 use std::alloc::{AllocError, Global};
 use std::str;
-
-fn stream_file_line<S: Sink>(stream: &mut Stream<'_, S>, file: &[u8])
-    ensures same { (stream.new.sink.ghost_name ≡ stream.old.sink.ghost_name)
-        × (stream.new.held.ghost_name ≡ stream.old.held.ghost_name) }
-    ensures takes { Takes stream.old.failed (writer (S.written stream.old.sink.now)
-        (S.faults stream.old.sink.now) (S.settled stream.old.sink.now)) stream.old.held.now.items
-        stream.new.failed (writer (S.written stream.new.sink.now)
-        (S.faults stream.new.sink.now) (S.settled stream.new.sink.now)) stream.new.held.now.items
-        (file_line file.now) }
-    ensures empty { stream.new.held.now.items ≡ [] }
-{
-    put_file(stream, file);
-    stream.pass_on();
-}
-
-/// Writes the line of a file to the sink, piece by piece.
-fn stream_file<S: Sink>(
-    alloc: Global,
-    sink: &mut S,
-    file: &[u8],
-) -> Result<Result<(), Failed>, AllocError>
-    ensures put { IfOk result (λ put. Puts put
-        (writer (S.written sink.old) (S.faults sink.old) (S.settled sink.old))
-        (writer (S.written sink.new) (S.faults sink.new) (S.settled sink.new))
-        (file_line file.now)) }
-    ensures none { IfErr result (λ _. sink.new ≡ sink.old) }
-{
-    let mut held = Vec::with_capacity(alloc, PIECE)?;
-    let mut stream = Stream {
-        sink,
-        held: &mut held,
-        failed: false,
-    };
-    stream_file_line(&mut stream, file);
-    if stream.failed {
-        Ok(Err(Failed))
-    } else {
-        Ok(Ok(()))
-    }
-}
-
-fn place_file<S: Sink>(
-    alloc: Global,
-    limits: &Limits,
-    file: &[u8],
-    reply: &mut ReplyLine,
-    sink: &mut S,
-) -> Result<Placed, AllocError>
-    ensures { PlacesReply result reply.new
-        (writer (S.written sink.old) (S.faults sink.old) (S.settled sink.old))
-        (writer (S.written sink.new) (S.faults sink.new) (S.settled sink.new))
-        (λ line. line ≡ limited_line limits.now.reply_bytes (file_line file.now)) }
-{
-    if file_is_above(file, limits.reply_bytes) {
-        tell_line_error(alloc, LineError::ReplyTooLong, reply)?;
-        return Ok(Placed::Held);
-    }
-    Ok(Placed::Put(stream_file(alloc, sink, file)?))
-}
-
-fn stream_text_line<S: Sink>(stream: &mut Stream<'_, S>, text: &str)
-    ensures same { (stream.new.sink.ghost_name ≡ stream.old.sink.ghost_name)
-        × (stream.new.held.ghost_name ≡ stream.old.held.ghost_name) }
-    ensures takes { Takes stream.old.failed (writer (S.written stream.old.sink.now)
-        (S.faults stream.old.sink.now) (S.settled stream.old.sink.now)) stream.old.held.now.items
-        stream.new.failed (writer (S.written stream.new.sink.now)
-        (S.faults stream.new.sink.now) (S.settled stream.new.sink.now)) stream.new.held.now.items
-        (line_of (text_data text.now)) }
-    ensures empty { stream.new.held.now.items ≡ [] }
-{
-    put_text(stream, text);
-    stream.pass_on();
-}
-
-/// Writes the line of a text to the sink, piece by piece.
-fn stream_text<S: Sink>(
-    alloc: Global,
-    sink: &mut S,
-    text: &str,
-) -> Result<Result<(), Failed>, AllocError>
-    ensures put { IfOk result (λ put. Puts put
-        (writer (S.written sink.old) (S.faults sink.old) (S.settled sink.old))
-        (writer (S.written sink.new) (S.faults sink.new) (S.settled sink.new))
-        (line_of (text_data text.now))) }
-    ensures none { IfErr result (λ _. sink.new ≡ sink.old) }
-{
-    let mut held = Vec::with_capacity(alloc, PIECE)?;
-    let mut stream = Stream {
-        sink,
-        held: &mut held,
-        failed: false,
-    };
-    stream_text_line(&mut stream, text);
-    if stream.failed {
-        Ok(Err(Failed))
-    } else {
-        Ok(Ok(()))
-    }
-}
-
-fn place_printed<S: Sink>(
-    alloc: Global,
-    limits: &Limits,
-    text: &str,
-    reply: &mut ReplyLine,
-    sink: &mut S,
-) -> Result<Placed, AllocError>
-    ensures { PlacesReply result reply.new
-        (writer (S.written sink.old) (S.faults sink.old) (S.settled sink.old))
-        (writer (S.written sink.new) (S.faults sink.new) (S.settled sink.new))
-        (λ line. line ≡ limited_line limits.now.reply_bytes (line_of (text_data text.now))) }
-{
-    if text_is_above(text, limits.reply_bytes) {
-        tell_line_error(alloc, LineError::ReplyTooLong, reply)?;
-        return Ok(Placed::Held);
-    }
-    Ok(Placed::Put(stream_text(alloc, sink, text)?))
-}
 
 /// Prints a bundle as a text that is named after its locale.
 fn text_of(alloc: Global, name: &Name, bundle: &Bundle) -> Result<Vec<u8>, PrintError>
@@ -179,7 +57,7 @@ fn place_text<S: Sink>(
         }
     };
     match str::from_utf8(&text) {
-        Ok(text) => place_printed(alloc, limits, text, reply, sink),
+        Ok(text) => place_line(alloc, limits, LongLine::Text(text), reply, sink),
         Err(_) => Err(AllocError),
     }
 }
@@ -206,7 +84,7 @@ fn place_bundle<S: Sink>(
     if is_text {
         place_text(alloc, limits, name, bundle, reply, sink)
     } else {
-        place_file(alloc, limits, bundle.bytes(), reply, sink)
+        place_line(alloc, limits, LongLine::File(bundle.bytes()), reply, sink)
     }
 }
 

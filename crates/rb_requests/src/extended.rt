@@ -2,7 +2,6 @@
 ghost use Rattle.std.specs.Prelude.{◌≡◌, IfErr, IfOk, IsTrue, List, OnOk, Ok, Some, None};
 ghost use Rattle.std.specs.Prelude.{ℕ, true, false};
 ghost use Rattle.serde_json.specs.Data.{Data, Members, no_members, object};
-ghost use Rattle.rb_engine.specs.Answer.{Replies};
 ghost use Rattle.rb_engine.specs.Change.{IsFileOf};
 ghost use Rattle.rb_engine.specs.Place.{place_of};
 ghost use Rattle.rb_engine.specs.Source.{Reads, payload_of};
@@ -14,7 +13,7 @@ ghost use Rattle.rb_requests.specs.ExtendedReply.{AskReply, CalledReply, ChangeR
 ghost use Rattle.rb_requests.specs.ExtendedReply.{ExtendedReply, ReleaseReply};
 ghost use Rattle.rb_requests.specs.ExtendedReply.{is_stored, put_change as change_put};
 ghost use Rattle.rb_requests.specs.Requested.{request_of};
-ghost use Rattle.rb_requests.specs.Steps.{Answers, is_read};
+ghost use Rattle.rb_requests.specs.Steps.{is_read};
 ghost use Rattle.rb_requests.specs.Within.{outcome_line};
 ghost use Rattle.rb_requests.specs.inner.ChangesRead.{changes_seen};
 ghost use Rattle.rb_requests.specs.inner.ExtendedForms.{extended_in};
@@ -29,8 +28,8 @@ ghost use Rattle.rb_requests.specs.inner.Starving.{LeavesOf};
 ghost use Rattle.rb_engine.specs.Ask.{Requests};
 
 use crate::answer::{
-    Placed, Starved, answer_look, answer_request, answer_usage, is_memory, keep_item, tell_answer,
-    tell_line_error, tell_word, untold,
+    Placed, Starved, answer_look, answer_request, answer_usage, keep_item, tell_limited,
+    tell_line_error,
 };
 use crate::ask::{Line, LineRequest};
 use crate::change_list::LineChange;
@@ -40,33 +39,15 @@ use crate::export::{answer_export, answer_sizes};
 use crate::extended_ask::{ExtendedLine, extended_of};
 use crate::extended_texts::ExtendedTexts;
 use crate::judged::{Unmade, judge};
-use crate::limits::{Limited, Limits};
+use crate::limits::Limits;
 use crate::member_store::read_object;
 use crate::release::release;
 use crate::tree_reply::answer_tree;
 use crate::words::LineError;
-use bstr::ByteSlice;
 use json::Scratch;
 use rb_engine::{BundleSource, Change, Engine, IncomingBundle, Reply};
 use rb_replies::ReplyLine;
 use std::alloc::{AllocError, Global};
-
-/// Makes the line the reply to a change of a bundle. A `put` says whether it replaced another.
-fn tell_stored(
-    alloc: Global,
-    limits: &Limits,
-    replaced: Option<bool>,
-    answer: &Reply,
-    reply: &mut ReplyLine,
-) -> Result<(), AllocError>
-    ensures { OnOk result
-        (reply.new ≡ change_line limits.now replaced (Answers (Replies answer.now))) }
-{
-    match (replaced, answer) {
-        (Some(is_replaced), Reply::Done) => reply.tell_stored(alloc, is_replaced),
-        _ => tell_answer(alloc, limits, answer, reply),
-    }
-}
 
 /// Stores a bundle that was read, and makes the line the reply.
 fn store_read(
@@ -89,17 +70,8 @@ fn store_read(
         → IfErr result (λ s. LeavesOf (ChangeReply limits.now engine.old change app locale payload
         (change_line limits.now replaced)) s engine.old engine.new) }
 {
-    let answer = match put(engine, limits, change, incoming) {
-        Limited::Answer(answer) => answer,
-        Limited::Refused(refusal) => return Ok(tell_word(alloc, refusal.word(), reply)?),
-    };
-    if is_memory(&answer) {
-        return Err(Starved::Before);
-    }
-    match tell_stored(alloc, limits, replaced, &answer, reply) {
-        Ok(()) => Ok(()),
-        Err(_) => Err(untold(&answer)),
-    }
+    let answer = put(engine, limits, change, incoming);
+    tell_limited(alloc, limits, replaced, answer, reply)
 }
 
 /// Makes the line the reply to a change that isn't made.
@@ -365,29 +337,9 @@ pub(crate) fn extended_reply_of<S: Sink>(
         (ExtendedReply limits.now engine.old (extended_asked line.now)) s engine.old engine.new) }
 {
     let mut asked = ExtendedTexts::none();
-    if lent_extended_texts(alloc, line, scratch, &mut asked)? {
+    if read_object(alloc, line, scratch, &mut asked)? {
         return answer_texts(alloc, engine, limits, &asked, reply, sink);
     }
     tell_line_error(alloc, LineError::BadLine, reply)?;
     Ok(Placed::Held)
-}
-
-/// Checks whether a line is an object, and if so stores its members at the names that count. Any
-/// other line is no request.
-fn lent_extended_texts<'a>(
-    alloc: Global,
-    line: &'a [u8],
-    scratch: &'a mut Scratch,
-    asked: &mut ExtendedTexts<'a>,
-) -> Result<bool, AllocError>
-    requires { HoldsAll asked.old no_members }
-    ensures object { IfOk result (λ all. IsTrue all
-        → (found : Members) × HoldsAll asked.new found
-        × (data_of line.now ≡ Some (object found))) }
-    ensures other { IfOk result (λ all. all ≡ false → extended_asked line.now ≡ None) }
-{
-    match line.to_str() {
-        Ok(text) => read_object(alloc, text, scratch, asked),
-        Err(_) => Ok(false),
-    }
 }

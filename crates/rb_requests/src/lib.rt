@@ -17,6 +17,7 @@ mod judged;
 pub mod laws;
 mod limits;
 mod lines;
+mod long_line;
 mod lookups;
 mod member;
 mod member_store;

@@ -2,9 +2,11 @@
 ghost use Rattle.std.specs.Prelude.{◌≡◌, ◌<◌, length, IfErr, IfOk, IsTrue, OnOk, Some, None};
 ghost use Rattle.json.specs.Json.{members as members_of, value as value_of};
 ghost use Rattle.serde_json.specs.Data.{Data, Members, no_members, object, put};
-ghost use Rattle.serde_json.specs.Read.{converted, of_json, of_members, read};
+ghost use Rattle.serde_json.specs.Read.{converted, of_json, of_members};
+ghost use Rattle.rb_requests.specs.Asked.{data_of};
 
 use crate::texts::opens_object;
+use bstr::ByteSlice;
 use json::{Reader, Scratch};
 use std::alloc::{AllocError, Global};
 
@@ -66,22 +68,25 @@ pub(crate) fn read_members<'a, S: MemberStore<'a>>(
     }
 }
 
-/// Checks whether a text is a JSON object, as `serde_json` reads it. If it is, `store` has its
+/// Checks whether a line is a JSON object, as `serde_json` reads it. If it is, `store` has its
 /// members at the names that count; otherwise the contents of `store` mean nothing. Texts without
-/// escapes are borrowed from `text`, the others from the scratch, which grows to the length of the
-/// text. Returns an error if there is no memory for the scratch or for what is stored.
+/// escapes are borrowed from the line, the others from the scratch, which grows to the length of the
+/// line. Returns an error if there is no memory for the scratch or for what is stored.
 pub(crate) fn read_object<'a, S: MemberStore<'a>>(
     alloc: Global,
-    text: &'a str,
+    line: &'a [u8],
     scratch: &'a mut Scratch,
     store: &mut S,
 ) -> Result<bool, AllocError>
     requires { S.holds store.old no_members }
     ensures read { IfOk result (λ all. IsTrue all
-        → (found : Members) × S.holds store.new found × (read text.now ≡ Some (object found))) }
+        → (found : Members) × S.holds store.new found × (data_of line.now ≡ Some (object found))) }
     ensures all { IfOk result
-        (λ all. (found : Members) → read text.now ≡ Some (object found) → IsTrue all) }
+        (λ all. (found : Members) → data_of line.now ≡ Some (object found) → IsTrue all) }
 {
+    let Ok(text) = line.to_str() else {
+        return Ok(false);
+    };
     let mut reader = Reader::new(text, scratch)?;
     if !opens_object(&mut reader) {
         return Ok(false);

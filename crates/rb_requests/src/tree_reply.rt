@@ -1,5 +1,5 @@
 //! Answers with an item and everything that it inherits.
-ghost use Rattle.std.specs.Prelude.{◌≡◌, [], IfErr, IfOk, IfSome, Ok};
+ghost use Rattle.std.specs.Prelude.{◌≡◌, IfErr, IfOk, IfSome, Ok};
 ghost use Rattle.rb_tree.specs.Path.{IsPath, segments};
 ghost use Rattle.rb_parents.specs.Family.{parent_in, parent_of};
 ghost use Rattle.rb_fallback.specs.Answers.{hit_of};
@@ -11,27 +11,23 @@ ghost use Rattle.rb_packages.specs.Packages.{icudata_of, list_of};
 ghost use Rattle.rb_packages.specs.Shelf.{bundle_at};
 ghost use Rattle.rb_engine.specs.Place.{place_of};
 ghost use Rattle.rb_engine.specs.declared.place.Place.{Place};
-ghost use Rattle.rb_replies.specs.Extended.{tree_line};
 ghost use Rattle.rb_requests.specs.TreeReply.{FoundReply, IsTreeError, TreeReply};
 ghost use Rattle.rb_requests.specs.declared.limits.Limits.{Limits};
-ghost use Rattle.rb_requests.specs.inner.TreePlaced.{TreePlaced};
 ghost use Rattle.rb_requests.specs.inner.Placing.{PlacesReply};
-ghost use Rattle.rb_requests.specs.inner.Putting.{Puts, writer};
-ghost use Rattle.rb_requests.specs.inner.Streaming.{Takes};
+ghost use Rattle.rb_requests.specs.inner.Putting.{writer};
 
-use crate::answer::{Placed, tell_line_error, tell_word};
+use crate::answer::{Placed, tell_word};
 use crate::bounded_buffer::{BoundedBuffer, BufferFault};
-use crate::device::{Failed, Sink};
+use crate::device::Sink;
 use crate::limits::{Limited, Limits};
-use crate::lines::PIECE;
+use crate::long_line::{LongLine, place_line};
 use crate::lookups::look;
-use crate::stream::Stream;
 use crate::words::LineError;
 use rb_engine::{App, AppShelves, Engine};
 use rb_fallback::Found;
 use rb_inherit::{TREE_LIMIT, TreeError, TreeLimits, put_tree};
 use rb_locales::Name;
-use rb_replies::{ReplyLine, put_tree_line, tree_is_above};
+use rb_replies::ReplyLine;
 use rb_views::Item;
 use std::alloc::{AllocError, Global};
 
@@ -103,69 +99,6 @@ fn tree_text(
     }
 }
 
-fn stream_line<S: Sink>(stream: &mut Stream<'_, S>, found: &Found<Item<'_>>, tree: &[u8])
-    ensures same { (stream.new.sink.ghost_name ≡ stream.old.sink.ghost_name)
-        × (stream.new.held.ghost_name ≡ stream.old.held.ghost_name) }
-    ensures takes { Takes stream.old.failed (writer (S.written stream.old.sink.now)
-        (S.faults stream.old.sink.now) (S.settled stream.old.sink.now)) stream.old.held.now.items
-        stream.new.failed (writer (S.written stream.new.sink.now)
-        (S.faults stream.new.sink.now) (S.settled stream.new.sink.now)) stream.new.held.now.items
-        (tree_line found.now.actual found.now.valid tree.now) }
-    ensures empty { stream.new.held.now.items ≡ [] }
-{
-    put_tree_line(stream, &found.actual, &found.valid, tree);
-    stream.pass_on();
-}
-
-/// Writes the line of a tree to the sink, piece by piece. `AllocError`: memory ran out for the
-/// buffer, and nothing is written.
-fn stream_tree<S: Sink>(
-    alloc: Global,
-    sink: &mut S,
-    found: &Found<Item<'_>>,
-    tree: &[u8],
-) -> Result<Result<(), Failed>, AllocError>
-    ensures put { IfOk result (λ put. Puts put
-        (writer (S.written sink.old) (S.faults sink.old) (S.settled sink.old))
-        (writer (S.written sink.new) (S.faults sink.new) (S.settled sink.new))
-        (tree_line found.now.actual found.now.valid tree.now)) }
-    ensures none { IfErr result (λ _. sink.new ≡ sink.old) }
-{
-    let mut held = Vec::with_capacity(alloc, PIECE)?;
-    let mut stream = Stream {
-        sink,
-        held: &mut held,
-        failed: false,
-    };
-    stream_line(&mut stream, found, tree);
-    if stream.failed {
-        Ok(Err(Failed))
-    } else {
-        Ok(Ok(()))
-    }
-}
-
-/// Writes the line of a tree to the sink, or makes the line an error if it is too long.
-fn place_tree<S: Sink>(
-    alloc: Global,
-    limits: &Limits,
-    found: &Found<Item<'_>>,
-    tree: &[u8],
-    reply: &mut ReplyLine,
-    sink: &mut S,
-) -> Result<Placed, AllocError>
-    ensures { PlacesReply result reply.new
-        (writer (S.written sink.old) (S.faults sink.old) (S.settled sink.old))
-        (writer (S.written sink.new) (S.faults sink.new) (S.settled sink.new))
-        (TreePlaced limits.now found.now.actual found.now.valid tree.now) }
-{
-    if tree_is_above(&found.actual, &found.valid, tree, limits.reply_bytes) {
-        tell_line_error(alloc, LineError::ReplyTooLong, reply)?;
-        return Ok(Placed::Held);
-    }
-    Ok(Placed::Put(stream_tree(alloc, sink, found, tree)?))
-}
-
 /// Answers with the tree of an item that a lookup finds.
 fn answer_found<S: Sink>(
     alloc: Global,
@@ -189,7 +122,10 @@ fn answer_found<S: Sink>(
         found.now.valid text) }
 {
     match tree_text(alloc, shelves, limits, name, path)? {
-        Ok(tree) => place_tree(alloc, limits, found, &tree, reply, sink),
+        Ok(tree) => {
+            let line = LongLine::Tree(&found.actual, &found.valid, &tree);
+            place_line(alloc, limits, line, reply, sink)
+        }
         Err(word) => {
             tell_word(alloc, word, reply)?;
             Ok(Placed::Held)

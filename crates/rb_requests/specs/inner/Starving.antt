@@ -1,13 +1,17 @@
 -- For what is private. Defines the text of the reply to a line under limits, and the state if memory runs out.
-use Rattle.std.specs.Prelude.{◌≡◌, ◌⊎◌, ℕ, List, Option, Some, None, if◌then◌else◌}
+use Rattle.std.specs.Prelude.{◌≡◌, ◌⊎◌, ℕ, Bool, false, List, Option, Some, None, if◌then◌else◌}
+use Rattle.rb_engine.specs.History.{is_memory}
 use Rattle.rb_engine.specs.Kept.{Kept}
 use Rattle.rb_engine.specs.declared.request.Reply.{Reply}
 use Rattle.rb_engine.specs.declared.request.Reply.TheVariants.{Done}
 use Rattle.serde_json.specs.Data.{Data}
 use Rattle.rb_requests.specs.Asked.{call_in}
+use Rattle.rb_requests.specs.Steps.{Outcome, Answers, Refuses}
 use Rattle.rb_requests.specs.Within.{AnswersRead, asked_usage, usage_in}
 use Rattle.rb_requests.specs.declared.answer.Starved.{Starved}
 use Rattle.rb_requests.specs.declared.answer.Starved.TheVariants.{Before, After}
+use Rattle.rb_requests.specs.declared.limits.Limited.{Limited}
+use Rattle.rb_requests.specs.declared.limits.Limited.TheVariants.{Answer, Refused}
 use Rattle.rb_requests.specs.declared.limits.Limits.{Limits}
 use Rattle.rb_requests.specs.declared.reading.Held.{Held}
 use Rattle.rb_requests.specs.declared.reading.Held.TheVariants as held
@@ -27,6 +31,16 @@ LeavesOf Replies After old new = (new ≡ old) ⊎ ((text : List ℕ) × Replies
 abbrev pub untold_reply : Reply → Starved
 untold_reply Done = After
 untold_reply other = Before
+
+-- the state that an outcome leaves if its line could not be made
+abbrev pub untold_by : Limited Reply → Starved
+untold_by (Answer reply) = untold_reply reply
+untold_by (Refused refusal) = Before
+
+-- memory ran out for the call
+abbrev pub starved_by : Outcome → Bool
+starved_by (Answers response) = is_memory response
+starved_by (Refuses refusal) = false
 
 -- the error that a line is answered by what is held of it: none if all of it is
 abbrev pub held_error : Held → Option LineError
