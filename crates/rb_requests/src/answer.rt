@@ -16,8 +16,7 @@ ghost use Rattle.rb_requests.specs.Words.{line_error_word};
 ghost use Rattle.rb_requests.specs.Outcomes.{reply_outcome};
 ghost use Rattle.rb_requests.specs.inner.ExtendedTold.{change_line};
 ghost use Rattle.rb_requests.specs.inner.Line.{AreTextsOf};
-ghost use Rattle.rb_requests.specs.inner.Placing.{PlacesReply};
-ghost use Rattle.rb_requests.specs.inner.Putting.{writer};
+ghost use Rattle.rb_requests.specs.inner.Placing.{PlacesOn};
 ghost use Rattle.rb_requests.specs.inner.Starving.{DataReply, LeavesOf, starved_by};
 ghost use Rattle.rb_requests.specs.inner.Starving.{untold_by, untold_reply};
 
@@ -190,9 +189,7 @@ fn place_item<S: Sink>(
     reply: &mut ReplyLine,
     sink: &mut S,
 ) -> Result<Placed, AllocError>
-    ensures { PlacesReply result reply.new
-        (writer (S.written sink.old) (S.faults sink.old) (S.settled sink.old))
-        (writer (S.written sink.new) (S.faults sink.new) (S.settled sink.new))
+    ensures { PlacesOn S.Sink result reply.new sink.old sink.new
         (λ text. text ≡ outcome_line limits.now
         (Answers (Finds (hit_of tree_seen found.now) found.now.valid))) }
 {
@@ -243,9 +240,7 @@ fn place_found<S: Sink>(
     reply: &mut ReplyLine,
     sink: &mut S,
 ) -> Result<Placed, AllocError>
-    ensures { PlacesReply result reply.new
-        (writer (S.written sink.old) (S.faults sink.old) (S.settled sink.old))
-        (writer (S.written sink.new) (S.faults sink.new) (S.settled sink.new))
+    ensures { PlacesOn S.Sink result reply.new sink.old sink.new
         (λ text. text ≡ outcome_line limits.now (Answers (look_response tree_seen found.now))) }
 {
     if let Ok(item) = found {
@@ -267,9 +262,7 @@ pub(crate) fn answer_look<S: Sink>(
     reply: &mut ReplyLine,
     sink: &mut S,
 ) -> Result<Placed, AllocError>
-    ensures { PlacesReply result reply.new
-        (writer (S.written sink.old) (S.faults sink.old) (S.settled sink.old))
-        (writer (S.written sink.new) (S.faults sink.new) (S.settled sink.new))
+    ensures { PlacesOn S.Sink result reply.new sink.old sink.new
         (λ text. CallReply limits.now engine.now
         (LooksUp app.now locale.now path.now) text engine.now) }
 {
@@ -293,9 +286,7 @@ fn answer_within<S: Sink>(
     reply: &mut ReplyLine,
     sink: &mut S,
 ) -> Result<Placed, AllocError>
-    ensures { PlacesReply result reply.new
-        (writer (S.written sink.old) (S.faults sink.old) (S.settled sink.old))
-        (writer (S.written sink.new) (S.faults sink.new) (S.settled sink.new))
+    ensures { PlacesOn S.Sink result reply.new sink.old sink.new
         (λ text. CallReply limits.now engine.now
         (LooksUp app.now locale.now path.now) text engine.now) }
 {
@@ -364,9 +355,7 @@ fn answer_texts<S: Sink>(
     reply: &mut ReplyLine,
     sink: &mut S,
 ) -> Result<Placed, Starved>
-    ensures reply { PlacesReply result reply.new
-        (writer (S.written sink.old) (S.faults sink.old) (S.settled sink.old))
-        (writer (S.written sink.new) (S.faults sink.new) (S.settled sink.new))
+    ensures reply { PlacesOn S.Sink result reply.new sink.old sink.new
         (λ text. (d : Data) → AreTextsOf texts.now d
         → DataReply limits.now engine.old d text engine.new) }
     ensures fault { IfErr result (λ s. (d : Data) → AreTextsOf texts.now d
@@ -394,9 +383,7 @@ pub(crate) fn reply_of<S: Sink>(
     reply: &mut ReplyLine,
     sink: &mut S,
 ) -> Result<Placed, Starved>
-    ensures reply { PlacesReply result reply.new
-        (writer (S.written sink.old) (S.faults sink.old) (S.settled sink.old))
-        (writer (S.written sink.new) (S.faults sink.new) (S.settled sink.new))
+    ensures reply { PlacesOn S.Sink result reply.new sink.old sink.new
         (λ text. ReadReply limits.now engine.old line.now text engine.new) }
     ensures fault { IfErr result (λ s.
         LeavesOf (ReadReply limits.now engine.old line.now) s engine.old engine.new) }

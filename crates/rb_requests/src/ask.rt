@@ -3,8 +3,7 @@
 ghost use Rattle.std.specs.Prelude.{◌≡◌, IfOk, option_map, Some};
 ghost use Rattle.serde_json.specs.Data.{Data};
 ghost use Rattle.hex.specs.Hex.{decode_of};
-ghost use Rattle.rb_requests.specs.Asked.{call_in, decoded, change_in, remove_in, list_in};
-ghost use Rattle.rb_requests.specs.Asked.{look_in};
+ghost use Rattle.rb_requests.specs.Asked.{call_in, decoded, change_in, remove_in, list_in, look_in};
 ghost use Rattle.rb_requests.specs.Within.{usage_in};
 ghost use Rattle.rb_engine.specs.Source.{change_request, payload_of as payload_from};
 ghost use Rattle.rb_requests.specs.inner.Line.{line_view, payload_by, AreTextsOf};

@@ -5,8 +5,7 @@ ghost use Rattle.rb_locales.specs.Locale.{name as name_of};
 ghost use Rattle.rb_packages.specs.App.{app_of};
 ghost use Rattle.rb_printer.specs.Whole.{IsBundleText};
 ghost use Rattle.rb_requests.specs.ExportReply.{ExportReply, FileReply, sizes_reply};
-ghost use Rattle.rb_requests.specs.inner.Placing.{PlacesReply};
-ghost use Rattle.rb_requests.specs.inner.Putting.{writer};
+ghost use Rattle.rb_requests.specs.inner.Placing.{PlacesOn};
 
 use crate::answer::{Placed, tell_line_error, tell_word};
 use crate::device::Sink;
@@ -43,9 +42,7 @@ fn place_text<S: Sink>(
     reply: &mut ReplyLine,
     sink: &mut S,
 ) -> Result<Placed, AllocError>
-    ensures { PlacesReply result reply.new
-        (writer (S.written sink.old) (S.faults sink.old) (S.settled sink.old))
-        (writer (S.written sink.new) (S.faults sink.new) (S.settled sink.new))
+    ensures { PlacesOn S.Sink result reply.new sink.old sink.new
         (FileReply limits.now true name.now (Some bundle.now)) }
 {
     let text = match text_of(alloc, name, bundle) {
@@ -72,9 +69,7 @@ fn place_bundle<S: Sink>(
     reply: &mut ReplyLine,
     sink: &mut S,
 ) -> Result<Placed, AllocError>
-    ensures { PlacesReply result reply.new
-        (writer (S.written sink.old) (S.faults sink.old) (S.settled sink.old))
-        (writer (S.written sink.new) (S.faults sink.new) (S.settled sink.new))
+    ensures { PlacesOn S.Sink result reply.new sink.old sink.new
         (FileReply limits.now is_text name.now (option_map (λ b. b.now) bundle.entry)) }
 {
     let Some(bundle) = bundle else {
@@ -101,9 +96,7 @@ pub(crate) fn answer_export<S: Sink>(
     reply: &mut ReplyLine,
     sink: &mut S,
 ) -> Result<Placed, AllocError>
-    ensures { PlacesReply result reply.new
-        (writer (S.written sink.old) (S.faults sink.old) (S.settled sink.old))
-        (writer (S.written sink.new) (S.faults sink.new) (S.settled sink.new))
+    ensures { PlacesOn S.Sink result reply.new sink.old sink.new
         (ExportReply limits.now engine.now is_text (app_of app.now) (name_of locale.now)) }
 {
     let app = match App::read(app.as_bytes()) {

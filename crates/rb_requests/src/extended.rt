@@ -22,8 +22,7 @@ ghost use Rattle.rb_requests.specs.inner.ExtendedRead.{HoldsAll};
 ghost use Rattle.rb_requests.specs.inner.ExtendedTold.{PutReply, change_line, held_place};
 ghost use Rattle.rb_requests.specs.inner.Judged.{IsTold};
 ghost use Rattle.rb_requests.specs.inner.Line.{line_view};
-ghost use Rattle.rb_requests.specs.inner.Placing.{PlacesReply};
-ghost use Rattle.rb_requests.specs.inner.Putting.{writer};
+ghost use Rattle.rb_requests.specs.inner.Placing.{PlacesOn};
 ghost use Rattle.rb_requests.specs.inner.Starving.{LeavesOf};
 ghost use Rattle.rb_engine.specs.Ask.{Requests};
 
@@ -226,9 +225,7 @@ fn answer_plain<S: Sink>(
     reply: &mut ReplyLine,
     sink: &mut S,
 ) -> Result<Placed, Starved>
-    ensures reply { PlacesReply result reply.new
-        (writer (S.written sink.old) (S.faults sink.old) (S.settled sink.old))
-        (writer (S.written sink.new) (S.faults sink.new) (S.settled sink.new))
+    ensures reply { PlacesOn S.Sink result reply.new sink.old sink.new
         (λ text. CalledReply limits.now engine.old (line_view line.entry) text engine.new) }
     ensures fault { IfErr result (λ s. LeavesOf
         (CalledReply limits.now engine.old (line_view line.entry)) s engine.old engine.new) }
@@ -253,9 +250,7 @@ fn answer_line<S: Sink>(
     reply: &mut ReplyLine,
     sink: &mut S,
 ) -> Result<Placed, Starved>
-    ensures reply { PlacesReply result reply.new
-        (writer (S.written sink.old) (S.faults sink.old) (S.settled sink.old))
-        (writer (S.written sink.new) (S.faults sink.new) (S.settled sink.new))
+    ensures reply { PlacesOn S.Sink result reply.new sink.old sink.new
         (λ text. (ask : ExtendedAsk) → line_asks line.entry ≡ Some ask
         → AskReply limits.now engine.old ask text engine.new) }
     ensures fault { IfErr result (λ s. (ask : ExtendedAsk) → line_asks line.entry ≡ Some ask
@@ -302,9 +297,7 @@ fn answer_texts<S: Sink>(
     reply: &mut ReplyLine,
     sink: &mut S,
 ) -> Result<Placed, Starved>
-    ensures reply { PlacesReply result reply.new
-        (writer (S.written sink.old) (S.faults sink.old) (S.settled sink.old))
-        (writer (S.written sink.new) (S.faults sink.new) (S.settled sink.new))
+    ensures reply { PlacesOn S.Sink result reply.new sink.old sink.new
         (λ text. (d : Data) → AreAllOf asked.now d
         → ExtendedReply limits.now engine.old (extended_in d) text engine.new) }
     ensures fault { IfErr result (λ s. (d : Data) → AreAllOf asked.now d → LeavesOf
@@ -329,9 +322,7 @@ pub(crate) fn extended_reply_of<S: Sink>(
     reply: &mut ReplyLine,
     sink: &mut S,
 ) -> Result<Placed, Starved>
-    ensures reply { PlacesReply result reply.new
-        (writer (S.written sink.old) (S.faults sink.old) (S.settled sink.old))
-        (writer (S.written sink.new) (S.faults sink.new) (S.settled sink.new))
+    ensures reply { PlacesOn S.Sink result reply.new sink.old sink.new
         (λ text. ExtendedReply limits.now engine.old (extended_asked line.now) text engine.new) }
     ensures fault { IfErr result (λ s. LeavesOf
         (ExtendedReply limits.now engine.old (extended_asked line.now)) s engine.old engine.new) }

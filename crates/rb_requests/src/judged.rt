@@ -9,8 +9,7 @@ ghost use Rattle.rb_engine.specs.declared.request.Payload.{Payload};
 ghost use Rattle.rb_requests.specs.Refused.{IsFirstError, at_index, only};
 ghost use Rattle.rb_requests.specs.inner.Drafted.{untaken_reason};
 ghost use Rattle.rb_requests.specs.inner.Judged.{IfRefused, Judges, file_reason, reason_of};
-ghost use Rattle.rb_requests.specs.inner.Judged.{text_reason};
-ghost use Rattle.rb_requests.specs.inner.Judged.{names_error as error_of_names};
+ghost use Rattle.rb_requests.specs.inner.Judged.{text_reason, names_error as error_of_names};
 
 use crate::changes::{is_over, source_len};
 use crate::limits::{Limits, Refusal};

@@ -5,8 +5,7 @@ ghost use Rattle.rb_engine.specs.Kept.{state_of};
 ghost use Rattle.rb_requests.specs.inner.Taken.{EndsAfter, IsHeldUnder};
 ghost use Rattle.rb_requests.specs.Device.{risen_by, counted, settles};
 ghost use Rattle.rb_requests.specs.Served.{AnswersAll, AnswersWithin, AfterFault, AfterFaultWithin};
-ghost use Rattle.rb_requests.specs.Served.{at};
-ghost use Rattle.rb_requests.specs.Served.{reads_failed, writes_failed};
+ghost use Rattle.rb_requests.specs.Served.{at, reads_failed, writes_failed};
 ghost use Rattle.rb_requests.specs.ExtendedReply.{ExtendedWithin};
 ghost use Rattle.rb_requests.specs.Within.{LineReplyWithin, longest_kept, longest_read};
 ghost use Rattle.rb_requests.specs.inner.Longest.{longest};
@@ -15,9 +14,9 @@ ghost use Rattle.rb_requests.specs.inner.OneLine.{Wrote, WrotePart, MayTakeEffec
 ghost use Rattle.rb_requests.specs.inner.OneLine.{line_settled};
 ghost use Rattle.rb_requests.specs.inner.Starving.{held_error as error_if_held};
 ghost use Rattle.rb_requests.specs.inner.Starving.{starved_error as error_if_starved};
-ghost use Rattle.rb_requests.specs.inner.Placing.{Finishes, PlacesReply};
+ghost use Rattle.rb_requests.specs.inner.Placing.{Finishes, PlacesOn};
 ghost use Rattle.rb_requests.specs.inner.Protocols.{LineReplyBy};
-ghost use Rattle.rb_requests.specs.inner.Putting.{writer};
+ghost use Rattle.rb_requests.specs.inner.Putting.{writer_of};
 
 use crate::ahead::Ahead;
 use crate::answer::{Placed, Starved, tell_line_error};
@@ -169,9 +168,7 @@ fn tell_line<S: Sink>(
     reply: &mut ReplyLine,
     sink: &mut S,
 ) -> Result<Placed, AllocError>
-    ensures reply { PlacesReply result reply.new
-        (writer (S.written sink.old) (S.faults sink.old) (S.settled sink.old))
-        (writer (S.written sink.new) (S.faults sink.new) (S.settled sink.new))
+    ensures reply { PlacesOn S.Sink result reply.new sink.old sink.new
         (λ text. (longest : Longest) → (whole : List ℕ)
         → IsHeldUnder limits.now longest whole line.now held
         → LineReplyBy protocol longest.kept limits.now engine.old whole text engine.new) }
@@ -195,9 +192,7 @@ fn tell_line<S: Sink>(
 
 /// Writes a reply if it isn't written yet, and flushes.
 fn put_placed<S: Sink>(sink: &mut S, placed: Placed, line: &[u8]) -> Result<(), Failed>
-    ensures { Finishes placed line.now
-        (writer (S.written sink.old) (S.faults sink.old) (S.settled sink.old))
-        (writer (S.written sink.new) (S.faults sink.new) (S.settled sink.new)) result }
+    ensures { Finishes placed line.now (writer_of S.Sink sink.old) (writer_of S.Sink sink.new) result }
 {
     match placed {
         Placed::Held => put_reply(sink, line),

@@ -1,11 +1,10 @@
 //! Lines that may be long: they are written to the sink piece by piece.
-ghost use Rattle.std.specs.Prelude.{◌≡◌, ◌↔◌, [], IfErr, IfOk, IsTrue, length};
+ghost use Rattle.std.specs.Prelude.{◌≡◌, ◌↔◌, IfErr, IfOk, IsTrue, length};
 ghost use Rattle.rb_replies.specs.Within.{IsAbove};
 ghost use Rattle.rb_requests.specs.Within.{limited_line};
 ghost use Rattle.rb_requests.specs.inner.LongLines.{long_line};
-ghost use Rattle.rb_requests.specs.inner.Placing.{PlacesReply};
-ghost use Rattle.rb_requests.specs.inner.Putting.{Puts, writer};
-ghost use Rattle.rb_requests.specs.inner.Streaming.{Takes};
+ghost use Rattle.rb_requests.specs.inner.Placing.{PlacesOn};
+ghost use Rattle.rb_requests.specs.inner.Putting.{Puts, writer_of};
 
 use crate::answer::{Placed, tell_line_error};
 use crate::device::{Failed, Sink};
@@ -53,20 +52,6 @@ impl<'a> LongLine<'a> {
     }
 }
 
-fn stream_line<S: Sink>(stream: &mut Stream<'_, S>, line: LongLine<'_>)
-    ensures same { (stream.new.sink.ghost_name ≡ stream.old.sink.ghost_name)
-        × (stream.new.held.ghost_name ≡ stream.old.held.ghost_name) }
-    ensures takes { Takes stream.old.failed (writer (S.written stream.old.sink.now)
-        (S.faults stream.old.sink.now) (S.settled stream.old.sink.now)) stream.old.held.now.items
-        stream.new.failed (writer (S.written stream.new.sink.now)
-        (S.faults stream.new.sink.now) (S.settled stream.new.sink.now)) stream.new.held.now.items
-        (long_line line.entry) }
-    ensures empty { stream.new.held.now.items ≡ [] }
-{
-    line.put(stream);
-    stream.pass_on();
-}
-
 /// Writes a line to the sink, piece by piece. `AllocError`: memory ran out for the buffer, and
 /// nothing is written.
 fn put_line<S: Sink>(
@@ -75,9 +60,7 @@ fn put_line<S: Sink>(
     line: LongLine<'_>,
 ) -> Result<Result<(), Failed>, AllocError>
     ensures put { IfOk result (λ put. Puts put
-        (writer (S.written sink.old) (S.faults sink.old) (S.settled sink.old))
-        (writer (S.written sink.new) (S.faults sink.new) (S.settled sink.new))
-        (long_line line.entry)) }
+        (writer_of S.Sink sink.old) (writer_of S.Sink sink.new) (long_line line.entry)) }
     ensures none { IfErr result (λ _. sink.new ≡ sink.old) }
 {
     let mut held = Vec::with_capacity(alloc, PIECE)?;
@@ -86,7 +69,8 @@ fn put_line<S: Sink>(
         held: &mut held,
         failed: false,
     };
-    stream_line(&mut stream, line);
+    line.put(&mut stream);
+    stream.pass_on();
     if stream.failed {
         Ok(Err(Failed))
     } else {
@@ -102,9 +86,7 @@ pub(crate) fn place_line<S: Sink>(
     reply: &mut ReplyLine,
     sink: &mut S,
 ) -> Result<Placed, AllocError>
-    ensures { PlacesReply result reply.new
-        (writer (S.written sink.old) (S.faults sink.old) (S.settled sink.old))
-        (writer (S.written sink.new) (S.faults sink.new) (S.settled sink.new))
+    ensures { PlacesOn S.Sink result reply.new sink.old sink.new
         (λ text. text ≡ limited_line limits.now.reply_bytes (long_line line.entry)) }
 {
     if line.is_above(limits.reply_bytes) {

@@ -1,7 +1,6 @@
 ghost use Rattle.std.specs.Prelude.{IfErr};
-ghost use Rattle.rb_requests.specs.inner.Placing.{PlacesReply};
+ghost use Rattle.rb_requests.specs.inner.Placing.{PlacesOn};
 ghost use Rattle.rb_requests.specs.inner.Protocols.{ReadBy};
-ghost use Rattle.rb_requests.specs.inner.Putting.{writer};
 ghost use Rattle.rb_requests.specs.inner.Starving.{LeavesOf};
 
 use crate::answer::{Placed, Starved, reply_of};
@@ -33,9 +32,7 @@ impl Protocol {
         reply: &mut ReplyLine,
         sink: &mut S,
     ) -> Result<Placed, Starved>
-        ensures reply { PlacesReply result reply.new
-            (writer (S.written sink.old) (S.faults sink.old) (S.settled sink.old))
-            (writer (S.written sink.new) (S.faults sink.new) (S.settled sink.new))
+        ensures reply { PlacesOn S.Sink result reply.new sink.old sink.new
             (λ text. ReadBy self limits.now engine.old line.now text engine.new) }
         ensures fault { IfErr result (λ s.
             LeavesOf (ReadBy self limits.now engine.old line.now) s engine.old engine.new) }

@@ -3,7 +3,7 @@ ghost use Rattle.rb_engine.specs.Answer.{Finds};
 ghost use Rattle.rb_fallback.specs.Answers.{hit_of};
 ghost use Rattle.rb_replies.specs.Replied.{reply_line};
 ghost use Rattle.rb_views.specs.Seen.{tree_seen};
-ghost use Rattle.rb_requests.specs.inner.Putting.{Passes, Puts, writer};
+ghost use Rattle.rb_requests.specs.inner.Putting.{Passes, Puts, writer_of};
 ghost use Rattle.rb_requests.specs.inner.Streaming.{Holds, Takes};
 
 use crate::device::{Failed, Sink};
@@ -19,8 +19,7 @@ const FIRST: usize = 256;
 
 /// Writes bytes, unless a call of the sink has failed. Returns true if one has.
 fn pass<S: Sink>(sink: &mut S, failed: bool, bytes: &[u8]) -> bool
-    ensures { Passes failed (writer (S.written sink.old) (S.faults sink.old) (S.settled sink.old))
-        result (writer (S.written sink.new) (S.faults sink.new) (S.settled sink.new)) bytes.now }
+    ensures { Passes failed (writer_of S.Sink sink.old) result (writer_of S.Sink sink.new) bytes.now }
 {
     if failed {
         return true;
@@ -85,11 +84,9 @@ impl<'a, S: Sink> Stream<'a, S> {
     fn put_grown(&mut self, bytes: &[u8])
         ensures same { (self.new.sink.ghost_name ≡ self.old.sink.ghost_name)
             × (self.new.held.ghost_name ≡ self.old.held.ghost_name) }
-        ensures takes { Takes self.old.failed (writer (S.written self.old.sink.now)
-            (S.faults self.old.sink.now) (S.settled self.old.sink.now)) self.old.held.now.items
-            self.new.failed (writer (S.written self.new.sink.now)
-            (S.faults self.new.sink.now) (S.settled self.new.sink.now)) self.new.held.now.items
-            bytes.now }
+        ensures takes { Takes self.old.failed (writer_of S.Sink self.old.sink.now)
+            self.old.held.now.items self.new.failed (writer_of S.Sink self.new.sink.now)
+            self.new.held.now.items bytes.now }
     {
         if self.hold(bytes) {
             return;
@@ -104,10 +101,9 @@ impl<'a, S: Sink> Stream<'a, S> {
     pub(crate) fn pass_on(&mut self)
         ensures same { (self.new.sink.ghost_name ≡ self.old.sink.ghost_name)
             × (self.new.held.ghost_name ≡ self.old.held.ghost_name) }
-        ensures takes { Takes self.old.failed (writer (S.written self.old.sink.now)
-            (S.faults self.old.sink.now) (S.settled self.old.sink.now)) self.old.held.now.items
-            self.new.failed (writer (S.written self.new.sink.now)
-            (S.faults self.new.sink.now) (S.settled self.new.sink.now)) self.new.held.now.items [] }
+        ensures takes { Takes self.old.failed (writer_of S.Sink self.old.sink.now)
+            self.old.held.now.items self.new.failed (writer_of S.Sink self.new.sink.now)
+            self.new.held.now.items [] }
         ensures empty { self.new.held.now.items ≡ [] }
     {
         self.failed = pass(self.sink, self.failed, self.held);
@@ -122,28 +118,22 @@ impl<'a, S: Sink> Outlet for Stream<'a, S> {
 
     ghost takes = { λ old new bytes. (new.sink.ghost_name ≡ old.sink.ghost_name)
         × (new.held.ghost_name ≡ old.held.ghost_name)
-        × Takes old.failed (writer (S.written old.sink.now)
-        (S.faults old.sink.now) (S.settled old.sink.now)) old.held.now.items
-        new.failed (writer (S.written new.sink.now)
-        (S.faults new.sink.now) (S.settled new.sink.now)) new.held.now.items bytes };
+        × Takes old.failed (writer_of S.Sink old.sink.now) old.held.now.items
+        new.failed (writer_of S.Sink new.sink.now) new.held.now.items bytes };
 
     ghost nothing = { λ x. (
       refl,
       refl,
-      takes_nothing x.failed (writer (S.written x.sink.now)
-          (S.faults x.sink.now) (S.settled x.sink.now)) x.held.now.items,
+      takes_nothing x.failed (writer_of S.Sink x.sink.now) x.held.now.items,
     ) };
 
     ghost joined = { λ x y z a b h k. (
       k.0 ∙ h.0,
       k.1 ∙ h.1,
       takes_joined
-          x.failed (writer (S.written x.sink.now)
-          (S.faults x.sink.now) (S.settled x.sink.now)) x.held.now.items
-          y.failed (writer (S.written y.sink.now)
-          (S.faults y.sink.now) (S.settled y.sink.now)) y.held.now.items
-          z.failed (writer (S.written z.sink.now)
-          (S.faults z.sink.now) (S.settled z.sink.now)) z.held.now.items
+          x.failed (writer_of S.Sink x.sink.now) x.held.now.items
+          y.failed (writer_of S.Sink y.sink.now) y.held.now.items
+          z.failed (writer_of S.Sink z.sink.now) z.held.now.items
           a b h.2 k.2,
     ) };
 
@@ -160,20 +150,6 @@ impl<'a, S: Sink> Outlet for Stream<'a, S> {
     }
 }
 
-fn stream_found<S: Sink>(stream: &mut Stream<'_, S>, found: &Found<Item<'_>>)
-    ensures same { (stream.new.sink.ghost_name ≡ stream.old.sink.ghost_name)
-        × (stream.new.held.ghost_name ≡ stream.old.held.ghost_name) }
-    ensures takes { Takes stream.old.failed (writer (S.written stream.old.sink.now)
-        (S.faults stream.old.sink.now) (S.settled stream.old.sink.now)) stream.old.held.now.items
-        stream.new.failed (writer (S.written stream.new.sink.now)
-        (S.faults stream.new.sink.now) (S.settled stream.new.sink.now)) stream.new.held.now.items
-        (reply_line (Some (Finds (hit_of tree_seen found.now) found.now.valid))) }
-    ensures empty { stream.new.held.now.items ≡ [] }
-{
-    put_found_line(stream, found);
-    stream.pass_on();
-}
-
 /// Writes the line of the reply to a lookup that found an item, piece by piece. `AllocError`:
 /// memory ran out for the buffer, and nothing is written.
 pub(crate) fn put_found<S: Sink>(
@@ -183,8 +159,7 @@ pub(crate) fn put_found<S: Sink>(
     reply: &mut ReplyLine,
 ) -> Result<Result<(), Failed>, AllocError>
     ensures put { IfOk result (λ put. Puts put
-        (writer (S.written sink.old) (S.faults sink.old) (S.settled sink.old))
-        (writer (S.written sink.new) (S.faults sink.new) (S.settled sink.new))
+        (writer_of S.Sink sink.old) (writer_of S.Sink sink.new)
         (reply_line (Some (Finds (hit_of tree_seen found.now) found.now.valid)))) }
     ensures none { IfErr result (λ _. sink.new ≡ sink.old) }
 {
@@ -195,7 +170,8 @@ pub(crate) fn put_found<S: Sink>(
         held: &mut held,
         failed: false,
     };
-    stream_found(&mut stream, found);
+    put_found_line(&mut stream, found);
+    stream.pass_on();
     let failed = stream.failed;
     reply.keep_memory(held);
     if failed { Ok(Err(Failed)) } else { Ok(Ok(())) }

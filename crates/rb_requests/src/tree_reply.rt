@@ -13,8 +13,7 @@ ghost use Rattle.rb_engine.specs.Place.{place_of};
 ghost use Rattle.rb_engine.specs.declared.place.Place.{Place};
 ghost use Rattle.rb_requests.specs.TreeReply.{FoundReply, IsTreeError, TreeReply};
 ghost use Rattle.rb_requests.specs.declared.limits.Limits.{Limits};
-ghost use Rattle.rb_requests.specs.inner.Placing.{PlacesReply};
-ghost use Rattle.rb_requests.specs.inner.Putting.{writer};
+ghost use Rattle.rb_requests.specs.inner.Placing.{PlacesOn};
 
 use crate::answer::{Placed, tell_word};
 use crate::bounded_buffer::{BoundedBuffer, BufferFault};
@@ -110,9 +109,7 @@ fn answer_found<S: Sink>(
     reply: &mut ReplyLine,
     sink: &mut S,
 ) -> Result<Placed, AllocError>
-    ensures { PlacesReply result reply.new
-        (writer (S.written sink.old) (S.faults sink.old) (S.settled sink.old))
-        (writer (S.written sink.new) (S.faults sink.new) (S.settled sink.new))
+    ensures { PlacesOn S.Sink result reply.new sink.old sink.new
         (λ text. IsPath path.now
         → look_up (bundles_lent shelves.entry.own) (bundles_lent shelves.entry.icudata)
         (parent_of shelves.entry.parents.now) name.now (segments path.now)
@@ -145,9 +142,7 @@ fn answer_named<S: Sink>(
     reply: &mut ReplyLine,
     sink: &mut S,
 ) -> Result<Placed, AllocError>
-    ensures { PlacesReply result reply.new
-        (writer (S.written sink.old) (S.faults sink.old) (S.settled sink.old))
-        (writer (S.written sink.new) (S.faults sink.new) (S.settled sink.new))
+    ensures { PlacesOn S.Sink result reply.new sink.old sink.new
         (λ text. (p : Place) → place_of app.now locale.now ≡ Ok p → IsPath path.now
         → look_up (bundle_at (list_of p.app engine.now.packages))
         (bundle_at (icudata_of engine.now.packages)) (parent_in engine.now.parents) p.name
@@ -185,9 +180,7 @@ pub(crate) fn answer_tree<S: Sink>(
     reply: &mut ReplyLine,
     sink: &mut S,
 ) -> Result<Placed, AllocError>
-    ensures { PlacesReply result reply.new
-        (writer (S.written sink.old) (S.faults sink.old) (S.settled sink.old))
-        (writer (S.written sink.new) (S.faults sink.new) (S.settled sink.new))
+    ensures { PlacesOn S.Sink result reply.new sink.old sink.new
         (TreeReply limits.now engine.now app.now locale.now path.now) }
 {
     let (app, locale, path) = (app.as_bytes(), locale.as_bytes(), path.as_bytes());

@@ -3,6 +3,7 @@ use Rattle.std.specs.Prelude.{◌≡◌, ℕ, List, [], ◌++◌, Option, Bool, 
 use Rattle.std.specs.Io.KnownBytes.{Appends}
 use Rattle.rb_requests.specs.Device.{risen}
 use Rattle.rb_requests.specs.declared.device.Failed.{Failed}
+use Rattle.rb_requests.specs.declared.device.Sink.{Ghosts}
 use Rattle.rb_requests.specs.inner.OneLine.{WrotePart}
 
 -- a writer at a moment
@@ -13,6 +14,9 @@ pub record Writer : Type 0 where
 
 abbrev pub writer : Option (List ℕ) → ℕ → ℕ → Writer
 writer written faults settled = record { written = written; faults = faults; settled = settled }
+
+abbrev pub writer_of : {S : Type 0} → Ghosts S → S → Writer
+writer_of g sink = writer (g.written sink) (g.faults sink) (g.settled sink)
 
 -- the front is put, and no call has failed
 pub record PutSoFar (before now : Writer) (rest bytes : List ℕ) : Type 0 where
