@@ -126,13 +126,6 @@ change_untold limits old made app locale payload line (Refused word detail) text
     inl (reason word.now detail, judged, told, refl)
 change_untold limits old made app locale payload line Memory text judged told = absurd told
 
--- an install or a replacement is called
-pub change_called : (limits : Limits) (old new : Kept) (made : Change) (app locale : List ℕ) (payload : Payload) (text : List ℕ)
-    → ChangeReply limits old made app locale payload (outcome_line limits) text new
-    → CalledReply limits old (Requests (change_request made app locale payload)) text new
-change_called limits old new change.Install app locale payload text h = h
-change_called limits old new change.Replace app locale payload text h = h
-
 pub change_refused : {E : Type 0} (r : Result (Unit {0}) E) (limits : Limits) (old : Kept) (made : Change) (app locale : List ℕ)
     (payload : Payload) (line : Outcome → List ℕ) (unmade : Unmade) (text : List ℕ)
     → Judges limits app locale payload (Err unmade) → OnOk r (IsTold unmade text)

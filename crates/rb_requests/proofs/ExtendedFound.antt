@@ -9,15 +9,14 @@ use Rattle.rb_requests.specs.declared.member.Member.{Member}
 use Rattle.rb_requests.specs.declared.extended_texts.ExtendedTexts.{ExtendedTexts}
 use Rattle.rb_requests.specs.declared.texts.Texts.{Texts}
 use Rattle.rb_requests.specs.inner.Texts.{Holds, IsAt}
-use Rattle.rb_requests.specs.Asked.{data_of}
-use Rattle.rb_requests.specs.ExtendedAsked.{ReleaseChange, path_in, form_in, extended_by, extended_of}
+use Rattle.rb_requests.specs.ExtendedAsked.{ReleaseChange, path_in, form_in}
 use Rattle.rb_requests.specs.declared.member.Member.TheVariants as members
 use Rattle.rb_requests.specs.inner.ChangesRead.{AreOf}
 use Rattle.rb_requests.specs.inner.ExtendedForms.{changes_in}
 use Rattle.rb_requests.specs.inner.ExtendedLines.{AreAllOf, AreHeld, form_by, path_by}
 use Rattle.rb_requests.specs.inner.ExtendedRead.{AreAt, HoldsAll}
 use Rattle.rb_requests.proofs.ChangesFound.{held_flag}
-use Rattle.rb_requests.proofs.Lent.{asked_by, text_of_member, texts_of_object}
+use Rattle.rb_requests.proofs.Lent.{text_of_member, texts_of_object}
 
 module _ (k : List ℕ) (d : Data) (found : Members) where
   -- another member stays
@@ -66,7 +65,3 @@ all_of asked found h = record {
   sizes = held_flag asked.sizes _ h.sizes;
   changes = held_changes asked.changes _ h.changes;
 }
-
--- only an object asks anything
-pub asks_nothing : (line : List ℕ) → ((found : Members) → data_of line ≡ Some (object found) → ⊥) → extended_of line ≡ None
-asks_nothing line h = asked_by extended_by (data_of line) h

@@ -1,7 +1,6 @@
 -- The texts that are borrowed from a line agree with the object that the line is.
-use Rattle.std.proofs.Common.{◌≡◌, ℕ, List, Option, Some, None, is_some, if◌then◌else◌, option_map, option_and_then, codes, refl, ap, ◌∙◌}
-use Rattle.std.specs.Str.{bytes_eq}
-use Rattle.serde_json.specs.Data.{Data, null, boolean, number, string, array, Members, object}
+use Rattle.std.proofs.Common.{◌≡◌, Option, Some, None, is_some, if◌then◌else◌, option_map, option_and_then, codes, ap, ◌∙◌}
+use Rattle.serde_json.specs.Data.{Data, Members, object}
 use Rattle.serde_json.specs.Find.{get_member, as_str}
 use Rattle.hex.specs.Hex.{decode_of}
 use Rattle.rb_engine.specs.declared.request.Payload.{Payload}
@@ -10,8 +9,8 @@ use Rattle.rb_requests.specs.inner.Texts.{Holds, IsAt, IsMember}
 use Rattle.rb_requests.specs.declared.member.Member.{Member}
 use Rattle.rb_requests.specs.declared.member.Member.TheVariants as members
 use Rattle.rb_requests.specs.declared.texts.Texts.{Texts}
-use Rattle.rb_requests.specs.Asked.{call_by, decoded, data_of, text_at}
-use Rattle.rb_requests.specs.inner.Line.{AreTextsOf, AsksNothing, lent, text_in, payload_by}
+use Rattle.rb_requests.specs.Asked.{decoded}
+use Rattle.rb_requests.specs.inner.Line.{AreTextsOf, lent, text_in, payload_by}
 
 pub text_of_member : (m : Member) (d : Data) → IsMember m d → as_str d ≡ text_in m
 text_of_member (members.Text s) d e = ap as_str e
@@ -42,18 +41,3 @@ texts_of_object texts found h = record {
   path = held_text texts.path (get_member (codes "path") found) h.path;
   payload = held_payload texts.text texts.file (get_member (codes "text") found) (get_member (codes "file") found) h.text h.file;
 }
-
--- only an object asks anything, by its text at "op"
-pub asked_by : {A : Type 0} (By : List ℕ → Data → Option A) (o : Option Data) → ((found : Members) → o ≡ Some (object found) → ⊥)
-    → option_and_then (λ d. option_and_then (λ op. By op d) (text_at (codes "op") d)) o ≡ None
-asked_by By None h = refl
-asked_by By (Some null) h = refl
-asked_by By (Some (boolean b)) h = refl
-asked_by By (Some (number n)) h = refl
-asked_by By (Some (string s)) h = refl
-asked_by By (Some (array ds)) h = refl
-asked_by By (Some (object found)) h = absurd (h found refl)
-
-pub asks_nothing : (line : List ℕ) → ((found : Members) → data_of line ≡ Some (object found) → ⊥) → AsksNothing (data_of line)
-asks_nothing line h =
-    (asked_by call_by (data_of line) h, asked_by (λ op d. if bytes_eq op (codes "usage") then text_at (codes "app") d else None) (data_of line) h)

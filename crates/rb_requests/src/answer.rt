@@ -8,7 +8,7 @@ ghost use Rattle.rb_engine.specs.LookResponse.{look_response};
 ghost use Rattle.rb_fallback.specs.Answers.{hit_of};
 ghost use Rattle.rb_requests.specs.Steps.{Answers};
 ghost use Rattle.rb_views.specs.Seen.{tree_seen};
-ghost use Rattle.rb_requests.specs.Within.{AnswersRead, CallReply, ReadReply, asked_usage};
+ghost use Rattle.rb_requests.specs.Within.{AnswersRead, CallReply, asked_usage};
 ghost use Rattle.rb_requests.specs.Within.{error_line, is_limited as limited, outcome_line};
 ghost use Rattle.rb_requests.specs.Within.{usage_in, usage_reply};
 ghost use Rattle.rb_requests.specs.Requested.{request_of};
@@ -25,11 +25,9 @@ use crate::changes::handle;
 use crate::device::{Failed, Sink};
 use crate::limits::{Limited, Limits};
 use crate::lookups::{look, look_unlimited};
-use crate::member_store::read_object;
 use crate::stream::put_found;
 use crate::texts::Texts;
 use crate::words::LineError;
-use json::Scratch;
 use rb_engine::{App, AppFault, Engine, LookFault, Reply};
 use rb_fallback::Found;
 use rb_replies::{ReplyLine, found_is_above, reply_is_above};
@@ -347,7 +345,7 @@ fn answer_other(
 }
 
 /// Makes the line the reply to a line with these texts, or writes that reply to the sink.
-fn answer_texts<S: Sink>(
+pub(crate) fn answer_texts<S: Sink>(
     alloc: Global,
     engine: &mut Engine,
     limits: &Limits,
@@ -369,29 +367,5 @@ fn answer_texts<S: Sink>(
             return Ok(answer_look(alloc, engine, limits, app, locale, path, reply, sink)?);
         }
     }
-    Ok(Placed::Held)
-}
-
-/// Makes the line that answers a line, or writes it to the sink if an item was found. The scratch
-/// may grow to the line's length.
-pub(crate) fn reply_of<S: Sink>(
-    alloc: Global,
-    engine: &mut Engine,
-    limits: &Limits,
-    scratch: &mut Scratch,
-    line: &[u8],
-    reply: &mut ReplyLine,
-    sink: &mut S,
-) -> Result<Placed, Starved>
-    ensures reply { PlacesOn S.Sink result reply.new sink.old sink.new
-        (λ text. ReadReply limits.now engine.old line.now text engine.new) }
-    ensures fault { IfErr result (λ s.
-        LeavesOf (ReadReply limits.now engine.old line.now) s engine.old engine.new) }
-{
-    let mut texts = Texts::none();
-    if read_object(alloc, line, scratch, &mut texts)? {
-        return answer_texts(alloc, engine, limits, &texts, reply, sink);
-    }
-    tell_line_error(alloc, LineError::BadLine, reply)?;
     Ok(Placed::Held)
 }

@@ -8,7 +8,7 @@ ghost use Rattle.serde_json.specs.Data.{Data, Items, Members, no_items, no_membe
 ghost use Rattle.serde_json.specs.Read.{converted, of_json, of_items};
 ghost use Rattle.hex.specs.Hex.{decode_of};
 ghost use Rattle.rb_requests.specs.Asked.{decoded};
-ghost use Rattle.rb_requests.specs.ExtendedAsked.{PutsAt, RemovesAt, all_changes};
+ghost use Rattle.rb_requests.specs.ExtendedAsked.{PutsAt, all_changes};
 ghost use Rattle.rb_requests.specs.inner.ChangesRead.{AreChanges, AreOf, AreSoFar, HoldsChange};
 ghost use Rattle.rb_requests.specs.inner.ChangesRead.{IsChange, change_by, change_seen};
 ghost use Rattle.rb_requests.specs.inner.ChangesRead.{flag_by, kept as first, payload_seen};

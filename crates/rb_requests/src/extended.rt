@@ -1,14 +1,11 @@
 //! Answers extended requests.
-ghost use Rattle.std.specs.Prelude.{◌≡◌, IfErr, IfOk, IsTrue, List, OnOk, Ok, Some, None};
-ghost use Rattle.std.specs.Prelude.{ℕ, true, false};
-ghost use Rattle.serde_json.specs.Data.{Data, Members, no_members, object};
+ghost use Rattle.std.specs.Prelude.{◌≡◌, IfErr, List, OnOk, Ok, Some, None, ℕ, true};
+ghost use Rattle.serde_json.specs.Data.{Data};
 ghost use Rattle.rb_engine.specs.Change.{IsFileOf};
 ghost use Rattle.rb_engine.specs.Place.{place_of};
 ghost use Rattle.rb_engine.specs.Source.{Reads, payload_of};
 ghost use Rattle.rb_engine.specs.declared.request.Payload.{Payload};
-ghost use Rattle.rb_requests.specs.Asked.{data_of};
 ghost use Rattle.rb_requests.specs.ExtendedAsked.{ExtendedAsk, ReleaseChange};
-ghost use Rattle.rb_requests.specs.ExtendedAsked.{extended_of as extended_asked};
 ghost use Rattle.rb_requests.specs.ExtendedReply.{AskReply, CalledReply, ChangeReply};
 ghost use Rattle.rb_requests.specs.ExtendedReply.{ExtendedReply, ReleaseReply};
 ghost use Rattle.rb_requests.specs.ExtendedReply.{is_stored, put_change as change_put};
@@ -18,7 +15,6 @@ ghost use Rattle.rb_requests.specs.Within.{outcome_line};
 ghost use Rattle.rb_requests.specs.inner.ChangesRead.{changes_seen};
 ghost use Rattle.rb_requests.specs.inner.ExtendedForms.{extended_in};
 ghost use Rattle.rb_requests.specs.inner.ExtendedLines.{AreAllOf, line_asks};
-ghost use Rattle.rb_requests.specs.inner.ExtendedRead.{HoldsAll};
 ghost use Rattle.rb_requests.specs.inner.ExtendedTold.{PutReply, change_line, held_place};
 ghost use Rattle.rb_requests.specs.inner.Judged.{IsTold};
 ghost use Rattle.rb_requests.specs.inner.Line.{line_view};
@@ -39,14 +35,12 @@ use crate::extended_ask::{ExtendedLine, extended_of};
 use crate::extended_texts::ExtendedTexts;
 use crate::judged::{Unmade, judge};
 use crate::limits::Limits;
-use crate::member_store::read_object;
 use crate::release::release;
 use crate::tree_reply::answer_tree;
 use crate::words::LineError;
-use json::Scratch;
 use rb_engine::{BundleSource, Change, Engine, IncomingBundle, Reply};
 use rb_replies::ReplyLine;
-use std::alloc::{AllocError, Global};
+use std::alloc::Global;
 
 /// Stores a bundle that was read, and makes the line the reply.
 fn store_read(
@@ -289,7 +283,7 @@ fn answer_line<S: Sink>(
 }
 
 /// Makes the line the reply to a line with these members, or writes that reply to the sink.
-fn answer_texts<S: Sink>(
+pub(crate) fn answer_members<S: Sink>(
     alloc: Global,
     engine: &mut Engine,
     limits: &Limits,
@@ -310,27 +304,4 @@ fn answer_texts<S: Sink>(
             Ok(Placed::Held)
         }
     }
-}
-
-/// Makes the line that answers a line with extended requests, or writes it to the sink.
-pub(crate) fn extended_reply_of<S: Sink>(
-    alloc: Global,
-    engine: &mut Engine,
-    limits: &Limits,
-    scratch: &mut Scratch,
-    line: &[u8],
-    reply: &mut ReplyLine,
-    sink: &mut S,
-) -> Result<Placed, Starved>
-    ensures reply { PlacesOn S.Sink result reply.new sink.old sink.new
-        (λ text. ExtendedReply limits.now engine.old (extended_asked line.now) text engine.new) }
-    ensures fault { IfErr result (λ s. LeavesOf
-        (ExtendedReply limits.now engine.old (extended_asked line.now)) s engine.old engine.new) }
-{
-    let mut asked = ExtendedTexts::none();
-    if read_object(alloc, line, scratch, &mut asked)? {
-        return answer_texts(alloc, engine, limits, &asked, reply, sink);
-    }
-    tell_line_error(alloc, LineError::BadLine, reply)?;
-    Ok(Placed::Held)
 }

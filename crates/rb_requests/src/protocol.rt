@@ -3,10 +3,14 @@ ghost use Rattle.rb_requests.specs.inner.Placing.{PlacesOn};
 ghost use Rattle.rb_requests.specs.inner.Protocols.{ReadBy};
 ghost use Rattle.rb_requests.specs.inner.Starving.{LeavesOf};
 
-use crate::answer::{Placed, Starved, reply_of};
+use crate::answer::{Placed, Starved, answer_texts, tell_line_error};
 use crate::device::Sink;
-use crate::extended::extended_reply_of;
+use crate::extended::answer_members;
+use crate::extended_texts::ExtendedTexts;
 use crate::limits::Limits;
+use crate::member_store::read_object;
+use crate::texts::Texts;
+use crate::words::LineError;
 use json::Scratch;
 use rb_engine::Engine;
 use rb_replies::ReplyLine;
@@ -21,7 +25,8 @@ pub(crate) enum Protocol {
 }
 
 impl Protocol {
-    /// Makes the line that answers a line, or writes it to the sink.
+    /// Makes the line that answers a line, or writes it to the sink. The scratch may grow to the
+    /// line's length.
     pub(crate) fn reply_of<S: Sink>(
         self,
         alloc: Global,
@@ -38,10 +43,20 @@ impl Protocol {
             LeavesOf (ReadBy self limits.now engine.old line.now) s engine.old engine.new) }
     {
         match self {
-            Protocol::Plain => reply_of(alloc, engine, limits, scratch, line, reply, sink),
+            Protocol::Plain => {
+                let mut texts = Texts::none();
+                if read_object(alloc, line, scratch, &mut texts)? {
+                    return answer_texts(alloc, engine, limits, &texts, reply, sink);
+                }
+            }
             Protocol::Extended => {
-                extended_reply_of(alloc, engine, limits, scratch, line, reply, sink)
+                let mut members = ExtendedTexts::none();
+                if read_object(alloc, line, scratch, &mut members)? {
+                    return answer_members(alloc, engine, limits, &members, reply, sink);
+                }
             }
         }
+        tell_line_error(alloc, LineError::BadLine, reply)?;
+        Ok(Placed::Held)
     }
 }

@@ -8,8 +8,7 @@ use Rattle.rb_engine.specs.declared.request.Payload.TheVariants.{Text}
 use Rattle.rb_requests.specs.declared.member.Member.{Member}
 use Rattle.rb_requests.specs.declared.member.Member.TheVariants as members
 use Rattle.rb_requests.specs.declared.texts.Texts.{Texts}
-use Rattle.rb_requests.specs.Asked.{text_at, call_in, decoded, payload_in}
-use Rattle.rb_requests.specs.Within.{usage_in}
+use Rattle.rb_requests.specs.Asked.{text_at, decoded, payload_in}
 use Rattle.rb_requests.specs.Requested.{request_of}
 use Rattle.rb_requests.specs.declared.ask.Line.{Line}
 use Rattle.rb_requests.specs.declared.ask.Line.TheVariants as lines
@@ -40,7 +39,3 @@ pub record AreTextsOf (texts : Texts) (d : Data) : Type 0 where
   pub locale : text_at (codes "locale") d ≡ lent texts.locale
   pub path : text_at (codes "path") d ≡ lent texts.path
   pub payload : payload_in d ≡ payload_by texts.text texts.file
-
--- what asks nothing, neither by a call nor for usage
-abbrev pub AsksNothing : Option Data → Type 0
-AsksNothing o = (option_and_then call_in o ≡ None) × (option_and_then usage_in o ≡ None)

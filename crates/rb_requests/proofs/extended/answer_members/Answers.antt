@@ -8,7 +8,7 @@ use Rattle.rb_requests.specs.ExtendedReply.{ExtendedReply}
 use Rattle.rb_requests.specs.inner.Starving.{LeavesOf}
 use Rattle.rb_requests.proofs.Extending.{asked_of}
 use Rattle.rb_requests.proofs.Placing.{places_weaker}
-use Rattle.rb_requests.proofs.extended.answer_texts.Goals as goal
+use Rattle.rb_requests.proofs.extended.answer_members.Goals as goal
 
 pub returns-in-Some : goal.returns-in-Some
 returns-in-Some g c =
