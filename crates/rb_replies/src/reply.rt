@@ -1,5 +1,5 @@
 //! Replies of an engine: each is a compact JSON object, its members ascending, and a line feed.
-ghost use Rattle.std.specs.Prelude.{◌≡◌, [], ◌∷◌, ◌++◌, Some, encode_utf8_all};
+ghost use Rattle.std.specs.Prelude.{[], ◌∷◌, ◌++◌, Some, encode_utf8_all};
 ghost use Rattle.json.specs.Print.{quoted};
 ghost use Rattle.serde_json.specs.Written.{compact_text};
 ghost use Rattle.rb_engine.specs.Answer.{Finds, Replies};
