@@ -1,8 +1,7 @@
 //! A server: an engine, and the limits under which it answers lines.
 ghost use Rattle.std.specs.Prelude.{◌≡◌, ◌≤◌, IfErr, IfOk};
 ghost use Rattle.rb_requests.specs.Device.{risen_by};
-ghost use Rattle.rb_requests.specs.Served.{AfterFaultWithin, AnswersWithin};
-ghost use Rattle.rb_requests.specs.Served.{at};
+ghost use Rattle.rb_requests.specs.Served.{AfterFaultWithin, AnswersWithin, at};
 ghost use Rattle.rb_requests.specs.Served.{reads_failed, writes_failed};
 ghost use Rattle.rb_requests.specs.ExtendedReply.{ExtendedWithin};
 ghost use Rattle.rb_requests.specs.Within.{longest_read};
