@@ -192,7 +192,8 @@ fn tell_line<S: Sink>(
 
 /// Writes a reply if it isn't written yet, and flushes.
 fn put_placed<S: Sink>(sink: &mut S, placed: Placed, line: &[u8]) -> Result<(), Failed>
-    ensures { Finishes placed line.now (writer_of S.Sink sink.old) (writer_of S.Sink sink.new) result }
+    ensures { Finishes placed line.now (writer_of S.Sink sink.old)
+        (writer_of S.Sink sink.new) result }
 {
     match placed {
         Placed::Held => put_reply(sink, line),

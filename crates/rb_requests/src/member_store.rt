@@ -70,8 +70,8 @@ pub(crate) fn read_members<'a, S: MemberStore<'a>>(
 
 /// Checks whether a line is a JSON object, as `serde_json` reads it. If it is, `store` has its
 /// members at the names that count; otherwise the contents of `store` mean nothing. Texts without
-/// escapes are borrowed from the line, the others from the scratch, which grows to the length of the
-/// line. Returns an error if there is no memory for the scratch or for what is stored.
+/// escapes are borrowed from the line, the others from the scratch, which grows to the line's
+/// length. Returns an error if there is no memory for the scratch or for what is stored.
 pub(crate) fn read_object<'a, S: MemberStore<'a>>(
     alloc: Global,
     line: &'a [u8],

@@ -19,7 +19,8 @@ const FIRST: usize = 256;
 
 /// Writes bytes, unless a call of the sink has failed. Returns true if one has.
 fn pass<S: Sink>(sink: &mut S, failed: bool, bytes: &[u8]) -> bool
-    ensures { Passes failed (writer_of S.Sink sink.old) result (writer_of S.Sink sink.new) bytes.now }
+    ensures { Passes failed (writer_of S.Sink sink.old)
+        result (writer_of S.Sink sink.new) bytes.now }
 {
     if failed {
         return true;
