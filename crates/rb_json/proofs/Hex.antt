@@ -1,6 +1,6 @@
 -- Hexadecimal digits, made byte by byte.
-use Rattle.std.proofs.Common.{◌≡◌, ◌+◌, ◌<◌, ◌/◌, ◌%◌, ℕ, zero, suc, List, [], ◌∷◌, ◌++◌, take, length, get_or, encode_utf8}
-use Rattle.std.proofs.Common.{drop, refl, ap, ◌∙◌, sym, arith, append_assoc}
+use Rattle.std.proofs.Common.{◌≡◌, ◌<◌, ◌/◌, ◌%◌, ℕ, zero, suc, List, [], ◌∷◌, ◌++◌, take, length, get_or}
+use Rattle.std.proofs.Common.{drop, refl, ap, arith}
 use Rattle.std.specs.List.{slice_index}
 use Rattle.hex.specs.Hex.{encode_with}
 

@@ -1,23 +1,23 @@
 -- The indented text of a value is that of its tokens, and a tree's value has few brackets one inside another.
-use Rattle.std.proofs.Common.{◌≡◌, ◌≤◌, ◌+◌, ◌-◌, ◌^◌, ℕ, zero, suc, List, [], ◌∷◌, ◌++◌, Bool, true, false, cond, map, refl, ap, sym, ◌∙◌, append_assoc, append-nil, arith}
+use Rattle.std.proofs.Common.{◌≡◌, ◌≤◌, ◌+◌, ◌-◌, ◌^◌, ℕ, List, [], ◌∷◌, ◌++◌, Bool, true, false, cond, map, refl, ap, sym, ◌∙◌, append_assoc, append-nil, arith}
 use Rattle.std.specs.Prelude.{min, codes, ℤ, encode_utf8_all}
 use Rattle.std.specs.Char.Utf16.{has_unpaired_surrogate, utf16_lossy_chars}
 use Rattle.json.specs.Token.{Token, begin_array, end_array, begin_object, end_object}
 use Rattle.json.specs.Token as token
-use Rattle.json.specs.Tree.{json_tokens, items_tokens, members_tokens}
+use Rattle.json.specs.Tree.{items_tokens, members_tokens}
 use Rattle.json.specs.Print.{begins, quoted, token_text}
 use Rattle.json.specs.Layout.{Last, nothing, bracket, name, value, line, piece, pretty_from}
 use Rattle.serde_json.specs.Data.{Data, unsigned, null, boolean, number, string, array, object, Items, no_items, item, Members, no_members, member, depth, items_depth, members_depth}
 use Rattle.serde_json.specs.Find.{of_integer}
 use Rattle.serde_json.specs.View.{items_of}
-use Rattle.serde_json.specs.Written.{comma_if, outline, items_outline, members_outline, number_text}
+use Rattle.serde_json.specs.Written.{comma_if, items_outline, members_outline, number_text}
 use Rattle.rb_tree.specs.Resource.{Resource, int, ints, binary, alias, table, Resources, no_trees, tree_and, no_entries, entry_and, height, trees_height, entries_height}
 use Rattle.rb_tree.specs.Resource as tree
 use Rattle.rb_json.specs.Laid.{indented, indented_items, indented_members, laid_at}
 use Rattle.rb_json.specs.Leaf.{numbers_data, units_data}
 use Rattle.rb_json.specs.Printed.{laid_out}
 use Rattle.rb_json.specs.Tokens.{data_tokens}
-use Rattle.rb_json.specs.Value.{items_value, members_value, tagged, text_or_units, value_of}
+use Rattle.rb_json.specs.Value.{items_value, members_value, tagged, value_of}
 use Rattle.rb_json.specs.declared.layout.Layout.{Layout}
 use Rattle.rb_json.specs.declared.layout.Layout.TheVariants.{Compact, Pretty}
 

@@ -1,8 +1,8 @@
 -- The texts of values in a layout, part by part.
-use Rattle.std.proofs.Common.{◌≡◌, ◌≤◌, ◌<◌, ◌+◌, ℕ, zero, suc, List, [], ◌∷◌, ◌++◌, Bool, true, false, cond, map, length, length-append, refl, ap, sym, subst, ◌∙◌, append_assoc, append-nil, arith}
+use Rattle.std.proofs.Common.{drop, ◌≡◌, ◌≤◌, ◌<◌, ◌+◌, ℕ, zero, suc, List, [], ◌∷◌, ◌++◌, Bool, true, false, map, length, length-append, refl, ap, sym, subst, ◌∙◌, append_assoc, arith}
 use Rattle.json.specs.Print.{quoted}
 use Rattle.json.specs.Layout.{line}
-use Rattle.serde_json.specs.Data.{Num, Data, null, boolean, number, string, array, object, Items, no_items, item, Members, no_members, member}
+use Rattle.serde_json.specs.Data.{Num, Data, number, string, array, object, Items, no_items, item, Members, no_members, member}
 use Rattle.serde_json.specs.View.{items_of}
 use Rattle.serde_json.specs.Written.{comma_if, compact_text, items_text, members_text, number_text}
 use Rattle.rb_tree.specs.Resource.{Resource, table, Resources, no_trees, tree_and, no_entries, entry_and}
@@ -34,13 +34,7 @@ array_laid : {A : Type 0} (y : Layout) (depth : ℕ) (g : A → Data) (xs : List
     ≡ 91 ∷ (listed (λ x. item_at y (depth + 1) (g x)) xs ++ (end_line y depth (length xs) ++ 93 ∷ []))
 array_laid {A} Compact depth g xs = array_told g xs
 array_laid {A} Pretty depth g [] = refl
-array_laid {A} Pretty depth g (x ∷ xs) =
-    let f : A → List ℕ = λ x. item_at Pretty (depth + 1) (g x) in
-    let text = indented (depth + 1) (g x) in
-    let rest = after_commas f xs in
-    let end = line depth ++ 93 ∷ [] in
-    ap (λ (t : List ℕ). 91 ∷ (line (depth + 1) ++ (text ++ t))) (items_laid depth g xs)
-    ∙ ap (λ (t : List ℕ). 91 ∷ t) (sym (append_assoc (line (depth + 1)) text (rest ++ end)) ∙ sym (append_assoc (line (depth + 1) ++ text) rest end))
+array_laid {A} Pretty depth g (x ∷ xs) = ap (λ (t : List ℕ). 91 ∷ drop 1 t) (items_laid depth g (x ∷ xs))
 
 same_items : (ts : Resources) → items_value ts ≡ items_of (map value_of (items ts))
 same_items no_trees = refl
@@ -83,17 +77,9 @@ pretty_members depth (entry_and k t es) =
 object_laid : (y : Layout) (depth : ℕ) (es : tree.Members) → laid_at y depth (object (members_value es))
     ≡ 123 ∷ (listed (entry_at y (depth + 1)) (pairs es) ++ (end_line y depth (length (pairs es)) ++ 125 ∷ []))
 object_laid Compact depth no_entries = refl
-object_laid Compact depth (entry_and k t es) =
-    let text = compact_text (value_of t) in
-    ap (λ (r : List ℕ). 123 ∷ (quoted (key_text k) ++ 58 ∷ (text ++ r))) (compact_members es)
-    ∙ ap (λ (r : List ℕ). 123 ∷ r) (compact_member (key_text k) text (after_commas (entry_at Compact 0) (pairs es)) (125 ∷ []))
+object_laid Compact depth (entry_and k t es) = ap (λ (r : List ℕ). 123 ∷ drop 1 r) (compact_members (entry_and k t es))
 object_laid Pretty depth no_entries = refl
-object_laid Pretty depth (entry_and k t es) =
-    let name = member_name Pretty (key_text k) in
-    let text = indented (depth + 1) (value_of t) in
-    let inner = line (depth + 1) in
-    ap (λ (r : List ℕ). 123 ∷ (inner ++ (name ++ (text ++ r)))) (pretty_members depth es)
-    ∙ ap (λ (r : List ℕ). 123 ∷ r) (pretty_member inner name text (after_commas (entry_at Pretty (depth + 1)) (pairs es)) (line depth ++ 125 ∷ []))
+object_laid Pretty depth (entry_and k t es) = ap (λ (r : List ℕ). 123 ∷ drop 1 r) (pretty_members depth (entry_and k t es))
 
 pub entries_laid : (y : Layout) (depth : ℕ) (t : Resource) → kind_of t ≡ Kinds.Table → laid_at y depth (value_of t)
     ≡ 123 ∷ (listed (entry_at y (depth + 1)) (pairs_of t) ++ (end_line y depth (length (pairs_of t)) ++ 125 ∷ []))
@@ -167,12 +153,9 @@ module _ {S : Type 0} (Takes : S → S → List ℕ → Type 0) (joined : (x y z
 -- ---- an indented text is no shorter than the compact one
 mutual
   longer : (depth : ℕ) (d : Data) → length (compact_text d) ≤ length (indented depth d)
-  longer depth null = omega arith
-  longer depth (boolean b) = omega arith
-  longer depth (number n) = omega arith
-  longer depth (string s) = omega arith
   longer depth (array ds) = omega (arith, longer_items depth false ds)
   longer depth (object ms) = omega (arith, longer_members depth false ms)
+  longer depth _ = omega arith
 
   longer_items : (depth : ℕ) (later : Bool) (ds : Items) → length (items_text later ds) ≤ length (indented_items depth later ds)
   longer_items depth true no_items = omega (arith, length-append (line depth) (93 ∷ []))

@@ -1,29 +1,27 @@
 -- The values of items without children.
-use Rattle.std.proofs.Common.{◌≡◌, ◌≤◌, ℕ, List, [], ◌∷◌, ◌++◌, Bool, true, false, codes, cond, length, encode_utf8_all, take, ◌+◌, ◌∙◌, sym, refl, ap, subst, append_assoc, arith}
+use Rattle.std.proofs.Common.{◌≡◌, ◌≤◌, ℕ, List, [], Bool, true, false, codes, cond, length, encode_utf8_all, take, ◌+◌, ◌∙◌, sym, refl, ap, arith}
 use Rattle.std.specs.Prelude.{not}
 use Rattle.std.specs.Char.Utf16.{has_unpaired_surrogate, utf16_lossy_chars}
-use Rattle.json.specs.Print.{quoted}
 use Rattle.hex.specs.Hex.{encode_lower}
-use Rattle.serde_json.specs.Data.{Data, no_members, number, string}
-use Rattle.serde_json.specs.Find.{of_integer}
+use Rattle.serde_json.specs.Data.{Data, no_members, string}
 use Rattle.serde_json.specs.Written.{compact_text}
 use Rattle.rb_tree.specs.Resource.{Resource, int, ints, binary, alias}
 use Rattle.rb_tree.specs.Resource as tree
-use Rattle.rb_tree.specs.Parts.{bytes_of, int_of, kind_of, len_of, numbers_of, units_of}
+use Rattle.rb_tree.specs.Parts.{bytes_of, kind_of, len_of, numbers_of, units_of}
 use Rattle.rb_tree.specs.declared.kind.Kind.TheVariants as Kinds
-use Rattle.rb_json.specs.Leaf.{numbers_data, signed_of, units_data}
-use Rattle.rb_json.specs.Value.{string_value, tagged, text_or_units, value_of}
+use Rattle.rb_json.specs.Leaf.{numbers_data, units_data}
+use Rattle.rb_json.specs.Value.{leaf_value, string_value, tagged, text_or_units, value_of}
 use Rattle.std.proofs.lemmas.Str.{encodes-IsAscii}
 use Rattle.rb_json.specs.inner.Run.{IsRun}
 use Rattle.rb_json.proofs.Lengths.{le-characters, le-units, member-le}
 use Rattle.rb_json.proofs.Runs.{run_read}
 use Rattle.rb_json.proofs.Surrogates.{ReadSoFar, all_read}
 
-pub binary_value : (t : Resource) → kind_of t ≡ Kinds.Binary → value_of t ≡ tagged (codes ":bin") (string (encode_lower (bytes_of t)))
+pub binary_value : (t : Resource) → kind_of t ≡ Kinds.Binary → leaf_value t ≡ tagged (codes ":bin") (string (encode_lower (bytes_of t)))
 binary_value (binary bs) h = refl
 binary_value _ h = absurd cc
 
-pub ints_value : (t : Resource) → kind_of t ≡ Kinds.Ints → value_of t ≡ tagged (codes ":intvector") (numbers_data (numbers_of t))
+pub ints_value : (t : Resource) → kind_of t ≡ Kinds.Ints → leaf_value t ≡ tagged (codes ":intvector") (numbers_data (numbers_of t))
 ints_value (ints zs) h = refl
 ints_value _ h = absurd cc
 
@@ -68,7 +66,7 @@ pub ascii_value : (t : Resource) (block : List ℕ) (n : ℕ) → kind_of t ≡ 
 ascii_value (tree.string us) block n h run all = ascii_text us block n run all
 ascii_value _ block n h run all = absurd cc
 
-pub alias_value : (t : Resource) → kind_of t ≡ Kinds.Alias → value_of t ≡ tagged (codes ":alias") (text_or_units (units_of t))
+pub alias_value : (t : Resource) → kind_of t ≡ Kinds.Alias → leaf_value t ≡ tagged (codes ":alias") (text_or_units (units_of t))
 alias_value (alias us) h = refl
 alias_value _ h = absurd cc
 

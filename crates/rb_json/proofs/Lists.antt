@@ -34,10 +34,7 @@ items_told g (x ∷ xs) =
 
 pub array_told : {A : Type 0} (g : A → Data) (xs : List A) → compact_text (array (items_of (map g xs))) ≡ 91 ∷ (listed (λ x. compact_text (g x)) xs ++ 93 ∷ [])
 array_told g [] = refl
-array_told g (x ∷ xs) =
-    let text = compact_text (g x) in
-    ap (λ (t : List ℕ). 91 ∷ (text ++ t)) (items_told g xs)
-    ∙ ap (λ (t : List ℕ). 91 ∷ t) (sym (append_assoc text (after_commas (λ y. compact_text (g y)) xs) (93 ∷ [])))
+array_told g (x ∷ xs) = ap (λ (t : List ℕ). 91 ∷ drop 1 t) (items_told g (x ∷ xs))
 
 -- what follows the first items
 after_rest : {A : Type 0} (f : A → List ℕ) (xs : List A) (i : ℕ) → after_commas f xs ≡ after_commas f (take i xs) ++ after_commas f (drop i xs)
@@ -54,8 +51,7 @@ rest_of f xs (suc i) = after_commas f (drop (suc i) xs)
 listed_rest : {A : Type 0} (f : A → List ℕ) (xs : List A) (i : ℕ) → listed f xs ≡ listed f (take i xs) ++ rest_of f xs i
 listed_rest f xs zero = refl
 listed_rest f [] (suc i) = refl
-listed_rest f (x ∷ xs) (suc i) =
-    ap (λ (t : List ℕ). f x ++ t) (after_rest f xs i) ∙ sym (append_assoc (f x) (after_commas f (take i xs)) (after_commas f (drop i xs)))
+listed_rest f (x ∷ xs) (suc i) = ap (drop 1) (after_rest f (x ∷ xs) (suc i))
 
 module _ {S : Type 0} (Takes : S → S → List ℕ → Type 0) (joined : (x y z : S) (a b : List ℕ) → Takes x y a → Takes y z b → Takes x z (a ++ b)) where
   one_more : {A : Type 0} (w x y z : S) (f : A → List ℕ) (xs : List A) (i : ℕ) (item : A) → Takes w x (listed f (take i xs)) → Takes x y (comma_before i)

@@ -32,30 +32,10 @@ pub value_members : (valid : Option (List ℕ)) (d : Data) (word : List ℕ) →
 value_members None d word = refl
 value_members (Some valid) d word = refl
 
-pub values_members : (valid : Option (List ℕ)) (d : Data) (word : List ℕ) → with_valid valid (put (codes "values") d (of_type word))
-    ≡ member (codes "type") (string word) (before valid (member (codes "values") d no_members))
-values_members None d word = refl
-values_members (Some valid) d word = refl
-
 pub int_members : (valid : Option (List ℕ)) (s u : Data) (word : List ℕ) → with_valid valid (put (codes "signed") s (put (codes "unsigned") u (of_type word)))
     ≡ member (codes "signed") s (member (codes "type") (string word) (member (codes "unsigned") u (before valid no_members)))
 int_members None s u word = refl
 int_members (Some valid) s u word = refl
-
-pub hex_members : (valid : Option (List ℕ)) (d : Data) (word : List ℕ) → with_valid valid (put (codes "hex") d (of_type word))
-    ≡ member (codes "hex") d (with_valid valid (of_type word))
-hex_members None d word = refl
-hex_members (Some valid) d word = refl
-
-pub len_members : (valid : Option (List ℕ)) (d : Data) (word : List ℕ) → with_valid valid (put (codes "len") d (of_type word))
-    ≡ member (codes "len") d (with_valid valid (of_type word))
-len_members None d word = refl
-len_members (Some valid) d word = refl
-
-pub keys_members : (valid : Option (List ℕ)) (d : Data) (word : List ℕ) → with_valid valid (put (codes "keys") d (of_type word))
-    ≡ member (codes "keys") d (with_valid valid (of_type word))
-keys_members None d word = refl
-keys_members (Some valid) d word = refl
 
 -- `actual` comes before all other members of an item
 abbrev with_actual : List ℕ → List ℕ → Members → Members
@@ -73,12 +53,8 @@ units_after a v us word = text_after (has_unpaired_surrogate us) a v (units_data
 
 pub actual_first : (a v : List ℕ) (t : Resource) → put (codes "actual") (text_data a) (put (codes "valid") (text_data v) (item_members t)) ≡ with_actual a v (item_members t)
 actual_first a v (tree.string us) = units_after a v us (codes "string")
-actual_first a v (int n) = refl
-actual_first a v (ints zs) = refl
-actual_first a v (binary bs) = refl
 actual_first a v (alias us) = units_after a v us (codes "alias")
-actual_first a v (array ts) = refl
-actual_first a v (table es) = refl
+actual_first a v _ = refl
 
 -- `rest` comes before the members of an alias
 text_rest : (b : Bool) (rest u s : Data) (word : List ℕ)
@@ -97,12 +73,7 @@ alias_item _ rest h = absurd cc
 
 pub other_item : (t : Resource) (rest : List ℕ) → (kind_of t ≡ Kinds.Alias → ⊥) → item_data t rest ≡ object (item_members t)
 other_item (alias us) rest h = absurd (h refl)
-other_item (tree.string us) rest h = refl
-other_item (int n) rest h = refl
-other_item (ints zs) rest h = refl
-other_item (binary bs) rest h = refl
-other_item (array ts) rest h = refl
-other_item (table es) rest h = refl
+other_item _ rest h = refl
 
 -- ---- a String that was found
 
@@ -136,6 +107,12 @@ module _ {S : Type 0} (Takes : S → S → List ℕ → Type 0) (joined : (x y z
       let tail = compact_text d ++ members_text true ms in
       subst (Takes w z) (append_assoc (comma_if later) (quoted k ++ 58 ∷ []) tail ∙ ap (λ (t : List ℕ). comma_if later ++ t) (append_assoc (quoted k) (58 ∷ []) tail))
       (joined w x z (name_text later k) tail name (joined x y z (compact_text d) (members_text true ms) value rest))
+
+  -- members of which the first is known
+  pub first_taken : (w x y z : S) (later : Bool) (k : List ℕ) (d : Data) (rest ms : Members) → ms ≡ member k d rest → Takes w x (name_text later k)
+      → Takes x y (compact_text d) → Takes y z (members_text true rest) → Takes w z (members_text later ms)
+  first_taken w x y z later k d rest ms is name value others =
+      subst (λ (m : Members). Takes w z (members_text later m)) (sym is) (member_taken w x y z later k d rest name value others)
 
   -- `valid`, if it is given, and the members after it
   pub valid_taken : (x y z : S) (valid : Option (List ℕ)) (ms : Members) → Takes x y (valid_text valid) → Takes y z (members_text true ms)

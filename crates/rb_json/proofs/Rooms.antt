@@ -1,7 +1,7 @@
 -- The remainder of a limit of weight, child by child.
 use Rattle.std.proofs.Common.{◌≡◌, ◌≤◌, ◌<◌, ◌+◌, ℕ, zero, suc, max, List, [], ◌∷◌, Some, drop, length, refl, ap, sym, ◌∙◌, arith}
 use Rattle.std.specs.List.{slice_get}
-use Rattle.rb_tree.specs.Resource.{Resource, height, weight, trees_height, trees_weight, entries_height, entries_weight, string, int, ints, binary, alias, array, table, Resources, no_trees, tree_and, Members, no_entries, entry_and}
+use Rattle.rb_tree.specs.Resource.{Resource, height, weight, trees_height, trees_weight, entries_height, entries_weight, string, array, table, Resources, no_trees, tree_and, Members, no_entries, entry_and}
 use Rattle.rb_tree.specs.Keys.{items, pairs}
 use Rattle.rb_tree.specs.Parts.{children_of, kind_of, pairs_of}
 use Rattle.rb_tree.specs.declared.kind.Kind.TheVariants as Kinds
@@ -43,12 +43,7 @@ pairs_weight (entry_and k t es) = ap (λ (n : ℕ). 9 + length k + weight t + n)
 
 pub height_above : (t : Resource) → 0 < height t
 height_above (string us) = omega arith
-height_above (int n) = omega arith
-height_above (ints zs) = omega arith
-height_above (binary bs) = omega arith
-height_above (alias us) = omega arith
-height_above (array ts) = omega arith
-height_above (table es) = omega arith
+height_above _ = omega arith
 
 -- of children of a tree of height h and weight w, some are left, whose greatest height is k and whose weight is v
 pub record IsLeft (h w k v levels room left : ℕ) : Type 0 where

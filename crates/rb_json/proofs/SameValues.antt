@@ -29,7 +29,7 @@ no_text c bs h =
     let long : 0 ≡ length (encode_utf8 c ++ bs) = ap length h in
     omega (arith, long, length-append (encode_utf8 c) bs, length-encode c, some_bytes c)
 
-encoded : (cs ds : List ℕ) → encode_utf8_all cs ≡ encode_utf8_all ds → cs ≡ ds
+pub encoded : (cs ds : List ℕ) → encode_utf8_all cs ≡ encode_utf8_all ds → cs ≡ ds
 encoded [] [] h = refl
 encoded [] (d ∷ ds) h = absurd (no_text d (encode_utf8_all ds) h)
 encoded (c ∷ cs) [] h = absurd (no_text c (encode_utf8_all cs) (sym h))
@@ -38,7 +38,7 @@ encoded (c ∷ cs) (d ∷ ds) h =
     λ i. same.0 i ∷ encoded cs ds same.1 i
 
 -- ---- units
-abbrev units_for : List ℕ → List ℕ
+abbrev pub units_for : List ℕ → List ℕ
 units_for [] = []
 units_for (c ∷ cs) = encode_utf16 c ++ units_for cs
 
@@ -200,7 +200,7 @@ key_back : (k : List ℕ) → without_colon (with_colon k) ≡ k
 key_back [] = refl
 key_back (b ∷ bs) = key_step b bs (b == 58) refl
 
-key_same : (k l : List ℕ) → key_text k ≡ key_text l → k ≡ l
+pub key_same : (k l : List ℕ) → key_text k ≡ key_text l → k ≡ l
 key_same k l h = sym (key_back k) ∙ ap without_colon (encoded (with_colon k) (with_colon l) h) ∙ key_back l
 
 -- ---- kinds: what the name of a first member says
@@ -260,13 +260,8 @@ string_shape false d s = refl
 
 shape_is : (t : Resource) → IsSound t → shape (value_of t) ≡ kind_number t
 shape_is (tree.string us) h = string_shape (has_unpaired_surrogate us) (units_data us) (encode_utf8_all (utf16_lossy_chars us))
-shape_is (int n) h = refl
-shape_is (ints zs) h = refl
-shape_is (binary bs) h = refl
-shape_is (alias us) h = refl
-shape_is (tree.array ts) h = refl
-shape_is (table no_entries) h = refl
 shape_is (table (entry_and k t es)) h = key_tag k h.0
+shape_is _ h = refl
 
 shapes_same : (t u : Resource) → IsSound t → IsSound u → value_of t ≡ value_of u → kind_number t ≡ kind_number u
 shapes_same t u s r h = sym (shape_is t s) ∙ ap shape h ∙ shape_is u r

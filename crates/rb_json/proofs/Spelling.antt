@@ -50,6 +50,10 @@ module _ {S : Type 0} (Takes : S → S → List ℕ → Type 0) (joined : (x y z
     front = h.front ∙ (ap (λ (ys : List ℕ). h.text ++ ys) k.front ∙ sym (append_assoc h.text k.text (encode_utf8_all (utf16_lossy_chars (drop next us)))));
   }
 
+  -- the outlet needed more
+  pub spells_on : (x y z : S) (us : List ℕ) (at next : ℕ) → Takes x y [] → Spells (Takes y z) us at next → Spells (Takes x z) us at next
+  spells_on x y z us at next h k = record { text = k.text; taken = joined x y z [] (escape k.text) h k.taken; front = k.front }
+
   pub spells_all : (x y : S) (us : List ℕ) (at : ℕ) → Spells (Takes x y) us 0 at → length us ≤ at → Takes x y (escape (encode_utf8_all (utf16_lossy_chars us)))
   spells_all x y us at h over =
       let whole : encode_utf8_all (utf16_lossy_chars us) ≡ h.text = rw (utf16_chars-drop_all us at over, append-nil) at h.front in

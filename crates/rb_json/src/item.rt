@@ -75,18 +75,14 @@ pub fn put_name<O: Outlet>(out: &mut O, later: bool, name: &str)
     put_member_name(out, name)
 }
 
-fn put_valid_name<O: Outlet>(out: &mut O, valid: &[u8])
-    ensures { O.takes out.old out.new (valid_text (Some valid.now)) }
-{
-    put_name(out, true, "valid");
-    spell_bytes(out, valid)
-}
-
 fn put_valid<O: Outlet>(out: &mut O, valid: Option<&[u8]>)
     ensures { O.takes out.old out.new (valid_text (option_map (λ v. v.now) valid.entry)) }
 {
     match valid {
-        Some(valid) => put_valid_name(out, valid),
+        Some(valid) => {
+            put_name(out, true, "valid");
+            spell_bytes(out, valid)
+        }
         None => {}
     }
 }
@@ -131,25 +127,6 @@ fn put_well_formed<O: Outlet, N: Node>(
     out.put(b"}")
 }
 
-/// Writes the members of a text, by its characters or else its units.
-fn put_text_members<O: Outlet, N: Node>(
-    out: &mut O,
-    later: bool,
-    node: N,
-    word: &str,
-    valid: Option<&[u8]>,
-)
-    requires { HasUnits (kind_of (N.tree node)) }
-    ensures { O.takes out.old out.new (rest_text later (option_map (λ v. v.now) valid.entry)
-        (with_text (units_of (N.tree node)) (of_type word.now))) }
-{
-    if is_well_formed(node) {
-        put_well_formed(out, later, node, word, valid)
-    } else {
-        put_ill_formed(out, later, node, word, valid)
-    }
-}
-
 /// Writes the members of a text, of which not even a unit is read if the outlet has no room for
 /// one byte for each.
 fn put_text<O: Outlet, N: Node>(out: &mut O, later: bool, node: N, word: &str, valid: Option<&[u8]>)
@@ -160,7 +137,11 @@ fn put_text<O: Outlet, N: Node>(out: &mut O, later: bool, node: N, word: &str, v
     if out.skips(node.len() as u64) {
         return;
     }
-    put_text_members(out, later, node, word, valid)
+    if is_well_formed(node) {
+        put_well_formed(out, later, node, word, valid)
+    } else {
+        put_ill_formed(out, later, node, word, valid)
+    }
 }
 
 /// Writes the last members of an item whose own precede its type, and the closing brace.
@@ -201,36 +182,6 @@ fn put_ints<O: Outlet, N: Node>(out: &mut O, later: bool, node: N, valid: Option
     out.put(b"}")
 }
 
-fn put_binary<O: Outlet, N: Node>(out: &mut O, later: bool, node: N, valid: Option<&[u8]>)
-    requires { kind_of (N.tree node) ≡ Kinds.Binary }
-    ensures { O.takes out.old out.new
-        (rest_text later (option_map (λ v. v.now) valid.entry) (item_members (N.tree node))) }
-{
-    put_name(out, later, "hex");
-    spell_hex(out, node);
-    put_type_last(out, "bin", valid)
-}
-
-fn put_array<O: Outlet, N: Node>(out: &mut O, later: bool, node: N, valid: Option<&[u8]>)
-    requires { kind_of (N.tree node) ≡ Kinds.Array }
-    ensures { O.takes out.old out.new
-        (rest_text later (option_map (λ v. v.now) valid.entry) (item_members (N.tree node))) }
-{
-    put_name(out, later, "len");
-    spell_unsigned(out, node.len() as u64);
-    put_type_last(out, "array", valid)
-}
-
-fn put_table<O: Outlet, N: Node>(out: &mut O, later: bool, node: N, valid: Option<&[u8]>)
-    requires { kind_of (N.tree node) ≡ Kinds.Table }
-    ensures { O.takes out.old out.new
-        (rest_text later (option_map (λ v. v.now) valid.entry) (item_members (N.tree node))) }
-{
-    put_name(out, later, "keys");
-    put_keys(out, node);
-    put_type_last(out, "table", valid)
-}
-
 /// Writes the members of an item ascending, with `valid` if it is given, and the closing brace.
 fn put_members<O: Outlet, N: Node>(out: &mut O, later: bool, node: N, valid: Option<&[u8]>)
     ensures { O.takes out.old out.new
@@ -240,10 +191,22 @@ fn put_members<O: Outlet, N: Node>(out: &mut O, later: bool, node: N, valid: Opt
         Kind::String => put_text(out, later, node, "string", valid),
         Kind::Int => put_int(out, later, node.int(), valid),
         Kind::Ints => put_ints(out, later, node, valid),
-        Kind::Binary => put_binary(out, later, node, valid),
+        Kind::Binary => {
+            put_name(out, later, "hex");
+            spell_hex(out, node);
+            put_type_last(out, "bin", valid)
+        }
         Kind::Alias => put_text(out, later, node, "alias", valid),
-        Kind::Array => put_array(out, later, node, valid),
-        Kind::Table => put_table(out, later, node, valid),
+        Kind::Array => {
+            put_name(out, later, "len");
+            spell_unsigned(out, node.len() as u64);
+            put_type_last(out, "array", valid)
+        }
+        Kind::Table => {
+            put_name(out, later, "keys");
+            put_keys(out, node);
+            put_type_last(out, "table", valid)
+        }
     }
 }
 

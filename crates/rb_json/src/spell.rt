@@ -77,21 +77,6 @@ fn plain_len(bytes: &[u8]) -> usize
     len
 }
 
-/// Writes some first bytes, of which there is at least one, and returns how many.
-fn put_first<O: Outlet>(out: &mut O, bytes: &[u8]) -> usize
-    requires { 0 < length bytes.now }
-    ensures bound { (0 < result) × (result ≤ length bytes.now) }
-    ensures taken { O.takes out.old out.new (escape (take result bytes.now)) }
-{
-    let run = plain_len(bytes);
-    if run == 0 {
-        put_escape(out, bytes[0]);
-        return 1;
-    }
-    out.put(&bytes[..run]);
-    run
-}
-
 /// Writes some first bytes and returns how many: all of them if the outlet needs none.
 fn put_front<O: Outlet>(out: &mut O, bytes: &[u8]) -> usize
     requires { 0 < length bytes.now }
@@ -101,7 +86,13 @@ fn put_front<O: Outlet>(out: &mut O, bytes: &[u8]) -> usize
     if out.skips(0) {
         return bytes.len();
     }
-    put_first(out, bytes)
+    let run = plain_len(bytes);
+    if run == 0 {
+        put_escape(out, bytes[0]);
+        return 1;
+    }
+    out.put(&bytes[..run]);
+    run
 }
 
 fn put_escaped<O: Outlet>(out: &mut O, bytes: &[u8])
@@ -226,27 +217,8 @@ pub fn is_well_formed<N: Node>(node: N) -> bool
     true
 }
 
-/// Writes a span of ASCII units or one character, and returns the index of the next unit.
-fn put_next<O: Outlet, N: Node>(out: &mut O, node: N, at: usize, len: usize) -> usize
-    requires units { HasUnits (kind_of (N.tree node)) }
-    requires len { len ≡ len_of (N.tree node) }
-    requires in_range { at < len }
-    ensures more { (at < result) × (result ≤ len) }
-    ensures spelled { Spells (O.takes out.old out.new) (units_of (N.tree node)) at result }
-{
-    let mut block = [0; RUN];
-    let run = ascii_run(&mut block, node, at, len);
-    if run > 0 {
-        put_escaped(out, &block[..run]);
-        return at + run;
-    }
-    let (character, next) = character_at(node, at, len);
-    put_character(out, character.unwrap_or(char::REPLACEMENT_CHARACTER));
-    next
-}
-
-/// Writes the next characters and returns the index of the next unit: the last index if the outlet
-/// needs none of them.
+/// Writes a span of ASCII units or one character, and returns the index of the next unit: the
+/// length if the outlet needs none of them.
 fn put_run<O: Outlet, N: Node>(out: &mut O, node: N, at: usize, len: usize) -> usize
     requires units { HasUnits (kind_of (N.tree node)) }
     requires len { len ≡ len_of (N.tree node) }
@@ -257,7 +229,15 @@ fn put_run<O: Outlet, N: Node>(out: &mut O, node: N, at: usize, len: usize) -> u
     if out.skips(0) {
         return len;
     }
-    put_next(out, node, at, len)
+    let mut block = [0; RUN];
+    let run = ascii_run(&mut block, node, at, len);
+    if run > 0 {
+        put_escaped(out, &block[..run]);
+        return at + run;
+    }
+    let (character, next) = character_at(node, at, len);
+    put_character(out, character.unwrap_or(char::REPLACEMENT_CHARACTER));
+    next
 }
 
 pub(crate) fn put_runs<O: Outlet, N: Node>(out: &mut O, node: N)

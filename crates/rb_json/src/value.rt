@@ -66,18 +66,6 @@ fn end_tagged<O: Outlet>(out: &mut O, layout: Layout, depth: u64)
     out.put(b"}")
 }
 
-/// Writes a String by its units.
-fn put_ill_formed<O: Outlet, N: Node>(out: &mut O, node: N, layout: Layout, depth: u64)
-    requires units { HasUnits (kind_of (N.tree node)) }
-    requires depth { depth ≤ 64 }
-    ensures { O.takes out.old out.new
-        (laid_at layout depth (tagged (codes ":units") (units_data (units_of (N.tree node))))) }
-{
-    begin_tagged(out, ":units", layout, depth);
-    put_units(out, node, layout, depth + 1);
-    end_tagged(out, layout, depth)
-}
-
 /// Writes a String, of which not even a unit is read if the outlet has no room for one byte for
 /// each.
 fn put_string<O: Outlet, N: Node>(out: &mut O, node: N, layout: Layout, depth: u64)
@@ -97,9 +85,11 @@ fn put_string<O: Outlet, N: Node>(out: &mut O, node: N, layout: Layout, depth: u
     }
     if is_well_formed(node) {
         spell_units(out, node);
-    } else {
-        put_ill_formed(out, node, layout, depth);
+        return;
     }
+    begin_tagged(out, ":units", layout, depth);
+    put_units(out, node, layout, depth + 1);
+    end_tagged(out, layout, depth)
 }
 
 /// Writes a text, or its units if it isn't well-formed UTF-16.
@@ -116,36 +106,6 @@ fn put_text_or_units<O: Outlet, N: Node>(out: &mut O, node: N, layout: Layout, d
     }
 }
 
-fn put_alias<O: Outlet, N: Node>(out: &mut O, node: N, layout: Layout, depth: u64)
-    requires alias { kind_of (N.tree node) ≡ Kinds.Alias }
-    requires depth { depth ≤ 64 }
-    ensures { O.takes out.old out.new (laid_at layout depth (value_of (N.tree node))) }
-{
-    begin_tagged(out, ":alias", layout, depth);
-    put_text_or_units(out, node, layout, depth + 1);
-    end_tagged(out, layout, depth)
-}
-
-fn put_binary<O: Outlet, N: Node>(out: &mut O, node: N, layout: Layout, depth: u64)
-    requires binary { kind_of (N.tree node) ≡ Kinds.Binary }
-    requires depth { depth ≤ 64 }
-    ensures { O.takes out.old out.new (laid_at layout depth (value_of (N.tree node))) }
-{
-    begin_tagged(out, ":bin", layout, depth);
-    spell_hex(out, node);
-    end_tagged(out, layout, depth)
-}
-
-fn put_ints<O: Outlet, N: Node>(out: &mut O, node: N, layout: Layout, depth: u64)
-    requires ints { kind_of (N.tree node) ≡ Kinds.Ints }
-    requires depth { depth ≤ 64 }
-    ensures { O.takes out.old out.new (laid_at layout depth (value_of (N.tree node))) }
-{
-    begin_tagged(out, ":intvector", layout, depth);
-    put_numbers(out, node, layout, depth + 1);
-    end_tagged(out, layout, depth)
-}
-
 /// Returns a number of 28 bits with its sign, like ICU's `ures_getInt`.
 pub(crate) fn signed(bits: u32) -> i64
     ensures { result ≡ signed_of bits }
@@ -158,13 +118,6 @@ pub(crate) fn signed(bits: u32) -> i64
     }
 }
 
-fn put_int<O: Outlet, N: Node>(out: &mut O, node: N, layout: Layout, depth: u64)
-    requires { kind_of (N.tree node) ≡ Kinds.Int }
-    ensures { O.takes out.old out.new (laid_at layout depth (value_of (N.tree node))) }
-{
-    spell_integer(out, signed(node.int()))
-}
-
 /// Writes an item inside a number of brackets; of an array or a table the brackets alone.
 pub fn put_leaf<O: Outlet, N: Node>(out: &mut O, node: N, layout: Layout, depth: u64)
     requires { depth ≤ 64 }
@@ -172,10 +125,22 @@ pub fn put_leaf<O: Outlet, N: Node>(out: &mut O, node: N, layout: Layout, depth:
 {
     match node.kind() {
         Kind::String => put_string(out, node, layout, depth),
-        Kind::Int => put_int(out, node, layout, depth),
-        Kind::Ints => put_ints(out, node, layout, depth),
-        Kind::Binary => put_binary(out, node, layout, depth),
-        Kind::Alias => put_alias(out, node, layout, depth),
+        Kind::Int => spell_integer(out, signed(node.int())),
+        Kind::Ints => {
+            begin_tagged(out, ":intvector", layout, depth);
+            put_numbers(out, node, layout, depth + 1);
+            end_tagged(out, layout, depth)
+        }
+        Kind::Binary => {
+            begin_tagged(out, ":bin", layout, depth);
+            spell_hex(out, node);
+            end_tagged(out, layout, depth)
+        }
+        Kind::Alias => {
+            begin_tagged(out, ":alias", layout, depth);
+            put_text_or_units(out, node, layout, depth + 1);
+            end_tagged(out, layout, depth)
+        }
         Kind::Array => out.put(b"[]"),
         Kind::Table => out.put(b"{}"),
     }
@@ -197,18 +162,6 @@ fn put_items<O: Outlet, N: Node>(out: &mut O, node: N, layout: Layout, depth: u6
 }
 
 #[cycle(value)]
-fn put_array<O: Outlet, N: Node>(out: &mut O, node: N, layout: Layout, depth: u64)
-    requires array { kind_of (N.tree node) ≡ Kinds.Array }
-    requires depth { depth + height (N.tree node) ≤ 64 }
-    ensures { O.takes out.old out.new (laid_at layout depth (value_of (N.tree node))) }
-{
-    out.put(b"[");
-    put_items(out, node, layout, depth + 1);
-    put_end_line(out, layout, depth, node.len());
-    out.put(b"]")
-}
-
-#[cycle(value)]
 fn put_entries<O: Outlet, N: Node>(out: &mut O, node: N, layout: Layout, depth: u64)
     requires table { kind_of (N.tree node) ≡ Kinds.Table }
     requires depth { depth + height (N.tree node) ≤ 65 }
@@ -225,18 +178,6 @@ fn put_entries<O: Outlet, N: Node>(out: &mut O, node: N, layout: Layout, depth: 
     }
 }
 
-#[cycle(value)]
-fn put_table<O: Outlet, N: Node>(out: &mut O, node: N, layout: Layout, depth: u64)
-    requires table { kind_of (N.tree node) ≡ Kinds.Table }
-    requires depth { depth + height (N.tree node) ≤ 64 }
-    ensures { O.takes out.old out.new (laid_at layout depth (value_of (N.tree node))) }
-{
-    out.put(b"{");
-    put_entries(out, node, layout, depth + 1);
-    put_end_line(out, layout, depth, node.len());
-    out.put(b"}")
-}
-
 /// Writes a tree inside a number of brackets.
 #[cycle(value)]
 fn put_tree<O: Outlet, N: Node>(out: &mut O, node: N, layout: Layout, depth: u64)
@@ -244,8 +185,18 @@ fn put_tree<O: Outlet, N: Node>(out: &mut O, node: N, layout: Layout, depth: u64
     ensures { O.takes out.old out.new (laid_at layout depth (value_of (N.tree node))) }
 {
     match node.kind() {
-        Kind::Array => put_array(out, node, layout, depth),
-        Kind::Table => put_table(out, node, layout, depth),
+        Kind::Array => {
+            out.put(b"[");
+            put_items(out, node, layout, depth + 1);
+            put_end_line(out, layout, depth, node.len());
+            out.put(b"]")
+        }
+        Kind::Table => {
+            out.put(b"{");
+            put_entries(out, node, layout, depth + 1);
+            put_end_line(out, layout, depth, node.len());
+            out.put(b"}")
+        }
         _ => put_leaf(out, node, layout, depth),
     }
 }

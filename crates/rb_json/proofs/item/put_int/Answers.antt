@@ -1,11 +1,11 @@
-use Rattle.std.proofs.Common.{codes, sym, subst, true, ◌∙◌, ℤ, rules, FitsSigned, w64}
+use Rattle.std.proofs.Common.{codes, subst, true, ◌∙◌, ℤ, rules, FitsSigned, w64}
 use Rattle.std.specs.Prelude.{option_map}
 use Rattle.std.proofs.lemmas.Int.{to_z-of_z}
-use Rattle.serde_json.specs.Data.{Members, member, no_members, number, string, unsigned}
+use Rattle.serde_json.specs.Data.{member, no_members, number, string, unsigned}
 use Rattle.serde_json.specs.Find.{of_integer}
-use Rattle.serde_json.specs.Written.{members_text, number_text}
+use Rattle.serde_json.specs.Written.{number_text}
 use Rattle.rb_json.specs.Leaf.{signed_of}
-use Rattle.rb_json.proofs.Objects.{before, int_members, member_taken, valid_taken}
+use Rattle.rb_json.proofs.Objects.{before, first_taken, int_members, member_taken, valid_taken}
 use Rattle.rb_json.proofs.item.put_int.Goals as goal
 
 pub returns : goal.returns
@@ -21,8 +21,8 @@ returns g c =
     let m2 = member (codes "unsigned") u (before valid no_members) in
     let m1 = member (codes "type") (string word) m2 in
     let end = c.put.new.self in
-    subst (λ (ms : Members). g.O.Outlet.takes c.args.out.now end (members_text c.args.later ms)) (sym (int_members valid s u word))
-    (taken c.args.out.now c.put_name.new.out c.spell_integer.new.out end c.args.later (codes "signed") s m1 c.put_name.ensures signs
+    first_taken g.O.Outlet.takes g.met.O.Outlet.joined c.args.out.now c.put_name.new.out c.spell_integer.new.out end c.args.later (codes "signed") s m1 _
+    (int_members valid s u word) c.put_name.ensures signs
     (taken c.spell_integer.new.out c.put_name-2.new.out c.spell_text.new.out end true (codes "type") (string word) m2 c.put_name-2.ensures c.spell_text.ensures
     (taken c.spell_text.new.out c.put_name-3.new.out c.spell_unsigned.new.out end true (codes "unsigned") u (before valid no_members) c.put_name-3.ensures (rw c.from.ensures at c.spell_unsigned.ensures)
-    (valid_taken g.O.Outlet.takes g.met.O.Outlet.joined c.spell_unsigned.new.out c.put_valid.new.out end valid no_members c.put_valid.ensures c.put.ensures))))
+    (valid_taken g.O.Outlet.takes g.met.O.Outlet.joined c.spell_unsigned.new.out c.put_valid.new.out end valid no_members c.put_valid.ensures c.put.ensures)))

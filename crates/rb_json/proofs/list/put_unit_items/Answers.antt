@@ -1,7 +1,7 @@
-use Rattle.std.proofs.Common.{◌≡◌, ◌<◌, ◌∙◌, decimal, get_or, length, arith}
+use Rattle.std.proofs.Common.{◌≡◌, ◌<◌, ◌∙◌, get_or, length, arith}
 use Rattle.serde_json.specs.Data.{number, unsigned}
 use Rattle.rb_tree.specs.Parts.{units_of}
-use Rattle.rb_json.specs.inner.Lines.{item_at, line_at}
+use Rattle.rb_json.specs.inner.Lines.{item_at}
 use Rattle.rb_json.proofs.Elements.{is_at}
 use Rattle.rb_json.proofs.OfKinds.{units_len}
 use Rattle.rb_json.proofs.Laid.{number_told}

@@ -1,4 +1,4 @@
-use Rattle.std.proofs.Common.{ℕ, length, subst, sym, ◌∙◌}
+use Rattle.std.proofs.Common.{ℕ, subst, sym, ◌∙◌}
 use Rattle.serde_json.specs.Data.{number, unsigned}
 use Rattle.rb_tree.specs.Parts.{units_of}
 use Rattle.rb_json.specs.inner.Lines.{end_line}

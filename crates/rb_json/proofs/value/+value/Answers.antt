@@ -1,10 +1,9 @@
-use Rattle.std.proofs.Common.{◌≡◌, ◌≤◌, ◌<◌, ◌+◌, ◌∙◌, ℕ, List, arith, length, subst, sym}
+use Rattle.std.proofs.Common.{◌≤◌, ◌<◌, ◌+◌, ◌∙◌, ℕ, List, arith, length, subst, sym}
 use Rattle.std.proofs.lemmas.List.{take_all}
 use Rattle.rb_tree.specs.Resource.{Resource, height}
 use Rattle.rb_tree.specs.Parts.{children_of, pairs_of}
 use Rattle.rb_tree.specs.inner.Lower.{child_lower}
-use Rattle.rb_json.specs.Laid.{laid_at}
-use Rattle.rb_json.specs.Value.{key_text, value_of}
+use Rattle.rb_json.specs.Value.{value_of}
 use Rattle.rb_json.specs.inner.Lines.{end_line, entry_at, tree_at}
 use Rattle.rb_json.specs.inner.Listed.{listed}
 use Rattle.rb_json.proofs.Growth.{entry_at as entry_here}
@@ -12,18 +11,6 @@ use Rattle.rb_json.proofs.Laid.{bracketed, children_laid, entries_laid, entry_to
 use Rattle.rb_json.proofs.Lists.{list_more, list_skipped}
 use Rattle.rb_json.proofs.OfKinds.{as_many_entries, as_many_items}
 use Rattle.rb_json.proofs.value.+value.Goals as goal
-
-pub put_array-put_items-requires : goal.put_array-put_items-requires
-put_array-put_items-requires g t c κs within = (omega (arith, c.decreases), (within.0, (within.1, (c.requires.array, omega (arith, c.requires.depth)))))
-
-pub put_array-returns : goal.put_array-returns
-put_array-returns g t c =
-    let t' = g.N.Node.tree c.args.node in
-    let end = subst (λ (n : ℕ). g.O.Outlet.takes c.put_items.new.out c.put_end_line.new.out (end_line c.args.layout c.args.depth n))
-    (c.len.ensures ∙ sym (as_many_items t' c.requires.array)) c.put_end_line.ensures in
-    bracketed g.O.Outlet.takes g.met.O.Outlet.joined c.args.out.now c.put.new.self c.put_items.new.out c.put_end_line.new.out c.put-2.new.self 91 93
-    (listed (tree_at c.args.layout (c.args.depth + 1)) (children_of t')) (end_line c.args.layout c.args.depth (length (children_of t'))) _
-    (children_laid c.args.layout c.args.depth t' c.requires.array) c.put.ensures c.put_items.ensures end c.put-2.ensures
 
 pub put_entries-returns-then-skips_items : goal.put_entries-returns-then-skips_items
 put_entries-returns-then-skips_items g t c =
@@ -81,20 +68,30 @@ put_items-returns g t c =
     subst (λ (l : List Resource). g.O.Outlet.takes c.args.out.now c.loop-i.out (listed (tree_at c.args.layout c.args.depth) l))
     (take_all c.loop-i.i ts past) c.loop-i.invariant
 
-pub put_table-put_entries-requires : goal.put_table-put_entries-requires
-put_table-put_entries-requires g t c κs within = (omega (arith, c.decreases), (within.0, (within.1, (c.requires.table, omega (arith, c.requires.depth)))))
+pub put_tree-put_items-requires : goal.put_tree-put_items-requires
+put_tree-put_items-requires g t c κs within =
+    (omega (arith, c.decreases), (within.0, (within.1, (sym c.in-Array.ensures, omega (arith, c.requires)))))
 
-pub put_table-returns : goal.put_table-returns
-put_table-returns g t c =
+pub put_tree-returns-in-Array : goal.put_tree-returns-in-Array
+put_tree-returns-in-Array g t c =
     let t' = g.N.Node.tree c.args.node in
-    let end = subst (λ (n : ℕ). g.O.Outlet.takes c.put_entries.new.out c.put_end_line.new.out (end_line c.args.layout c.args.depth n))
-    (c.len.ensures ∙ sym (as_many_entries t' c.requires.table)) c.put_end_line.ensures in
-    bracketed g.O.Outlet.takes g.met.O.Outlet.joined c.args.out.now c.put.new.self c.put_entries.new.out c.put_end_line.new.out c.put-2.new.self 123 125
+    let kind = sym c.in-Array.ensures in
+    let end = subst (λ (n : ℕ). g.O.Outlet.takes c.put_items.new.out c.put_end_line.new.out (end_line c.args.layout c.args.depth n))
+    (c.len.ensures ∙ sym (as_many_items t' kind)) c.put_end_line.ensures in
+    bracketed g.O.Outlet.takes g.met.O.Outlet.joined c.args.out.now c.put.new.self c.put_items.new.out c.put_end_line.new.out c.put-in-Array.new.self 91 93
+    (listed (tree_at c.args.layout (c.args.depth + 1)) (children_of t')) (end_line c.args.layout c.args.depth (length (children_of t'))) _
+    (children_laid c.args.layout c.args.depth t' kind) c.put.ensures c.put_items.ensures end c.put-in-Array.ensures
+
+pub put_tree-put_entries-requires : goal.put_tree-put_entries-requires
+put_tree-put_entries-requires g t c κs within =
+    (omega (arith, c.decreases), (within.0, (within.1, (sym c.in-Table.ensures, omega (arith, c.requires)))))
+
+pub put_tree-returns-in-Table : goal.put_tree-returns-in-Table
+put_tree-returns-in-Table g t c =
+    let t' = g.N.Node.tree c.args.node in
+    let kind = sym c.in-Table.ensures in
+    let end = subst (λ (n : ℕ). g.O.Outlet.takes c.put_entries.new.out c.put_end_line-in-Table.new.out (end_line c.args.layout c.args.depth n))
+    (c.len-in-Table.ensures ∙ sym (as_many_entries t' kind)) c.put_end_line-in-Table.ensures in
+    bracketed g.O.Outlet.takes g.met.O.Outlet.joined c.args.out.now c.put-in-Table.new.self c.put_entries.new.out c.put_end_line-in-Table.new.out c.put-in-Table-2.new.self 123 125
     (listed (entry_at c.args.layout (c.args.depth + 1)) (pairs_of t')) (end_line c.args.layout c.args.depth (length (pairs_of t'))) _
-    (entries_laid c.args.layout c.args.depth t' c.requires.table) c.put.ensures c.put_entries.ensures end c.put-2.ensures
-
-pub put_tree-put_array-requires : goal.put_tree-put_array-requires
-put_tree-put_array-requires g t c κs within = (omega (arith, c.decreases), (within.0, (within.1, (sym c.in-Array.ensures, c.requires))))
-
-pub put_tree-put_table-requires : goal.put_tree-put_table-requires
-put_tree-put_table-requires g t c κs within = (omega (arith, c.decreases), (within.0, (within.1, (sym c.in-Table.ensures, c.requires))))
+    (entries_laid c.args.layout c.args.depth t' kind) c.put-in-Table.ensures c.put_entries.ensures end c.put-in-Table-2.ensures

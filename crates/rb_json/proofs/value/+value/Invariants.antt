@@ -5,20 +5,14 @@ use Rattle.rb_json.specs.inner.Lines.{entry_at, tree_at}
 use Rattle.rb_json.specs.inner.Listed.{listed}
 use Rattle.rb_json.proofs.value.+value.Given as goal
 
-abbrev pub decreases-put_array : goal.decreases-put_array
-decreases-put_array g l = 3 * height (g.N.Node.tree l.node) + 1
-
 abbrev pub decreases-put_entries : goal.decreases-put_entries
-decreases-put_entries g l = 3 * height (g.N.Node.tree l.node)
+decreases-put_entries g l = 2 * height (g.N.Node.tree l.node)
 
 abbrev pub decreases-put_items : goal.decreases-put_items
-decreases-put_items g l = 3 * height (g.N.Node.tree l.node)
-
-abbrev pub decreases-put_table : goal.decreases-put_table
-decreases-put_table g l = 3 * height (g.N.Node.tree l.node) + 1
+decreases-put_items g l = 2 * height (g.N.Node.tree l.node)
 
 abbrev pub decreases-put_tree : goal.decreases-put_tree
-decreases-put_tree g l = 3 * height (g.N.Node.tree l.node) + 2
+decreases-put_tree g l = 2 * height (g.N.Node.tree l.node) + 1
 
 abbrev pub invariant-put_entries-loop-i : goal.invariant-put_entries-loop-i
 invariant-put_entries-loop-i g l =
