@@ -1,19 +1,16 @@
 -- Aliases whose texts can't be read.
-use Rattle.std.proofs.Common.{◌≡◌, ℕ, List, [], ◌∷◌, ◌∙◌, Bool, true, false, cond, codes, length, nat_lt, Option, Some, None, Result, Ok, Err, refl, sym, ap, subst}
+use Rattle.std.proofs.Common.{◌≡◌, ℕ, List, [], ◌∷◌, ◌∙◌, Bool, true, false, cond, codes, length, nat_lt, Option, Some, None, refl, ap}
 use Rattle.std.specs.List.{list_all, slice_split}
 use Rattle.std.specs.Str.{bytes_eq}
-use Rattle.std.specs.Prelude.{IfOk}
 use Rattle.rb_tree.specs.Path.{is_slash}
-use Rattle.rb_tree.specs.Resource.{Resource}
 use Rattle.rb_tree.specs.declared.node.Node.{Ghosts}
 use Rattle.rb_fallback.specs.Alias.{Aim, aim, aims, is_plain, located, no_package, no_text, packaged, plain_aim, with_path}
 use Rattle.rb_fallback.specs.declared.fault.LookError.{LookError}
-use Rattle.rb_inherit.specs.declared.error.WalkError.{WalkError}
 use Rattle.rb_inherit.specs.declared.follow.Link.{Link}
 use Rattle.rb_inherit.specs.declared.found.Found.{Found}
 use Rattle.rb_inherit.specs.declared.layer.Layer.{Layer}
-use Rattle.rb_inherit.specs.Merged.{alias_fault, fault_of}
-use Rattle.rb_inherit.specs.inner.AtPath.{RefusesAfter, RefusesLink}
+use Rattle.rb_inherit.specs.Merged.{fault_of}
+use Rattle.rb_inherit.specs.inner.AtPath.{RefusesLink}
 use Rattle.rb_inherit.specs.inner.Earlier.{Refuses, closed_of}
 use Rattle.rb_inherit.proofs.Earliest.{error_closed}
 
@@ -49,17 +46,6 @@ fault_same m n us = package_by (list_all is_plain us) (plain_aim m us) (plain_ai
 
 -- ---- what follows
 pub refused_on : {N : Type 0} {G : Ghosts N} (o : Option LookError) (before : Found N) (old : List (Layer N G)) (f : Found N) (l : Option (Link N)) (mid : List (Layer N G))
-    (r : Result (Found N) WalkError) (new : List (Layer N G)) → RefusesLink o before old f l mid → (l ≡ None → IfOk r (λ a. a ≡ closed_of f))
-    → (l ≡ None → new ≡ mid) → IfOk r (λ a. Refuses o before old a new)
-refused_on None before old f l mid (Ok a) new h c s = tt
-refused_on (Some e) before old f l mid (Ok a) new h c s = (c h.0 ∙ (ap closed_of h.1.0 ∙ error_closed before e), s h.0 ∙ h.1.1)
-refused_on o before old f l mid (Err x) new h c s = tt
-
-pub refuses_some : {N : Type 0} {G : Ghosts N} (tree : N → Resource) (o : Option (Link N)) (l : Link N) (before : Found N) (old : List (Layer N G))
-    (r : Result (Found N) WalkError) (new : List (Layer N G)) → o ≡ Some l → IfOk r (λ a. Refuses (alias_fault (tree l.node)) before old a new)
-    → IfOk r (λ a. RefusesAfter tree o before old a new)
-refuses_some tree None l before old r new e h = absurd cc
-refuses_some tree (Some m) l before old (Err x) new e h = tt
-refuses_some {N} {G} tree (Some m) l before old (Ok a) new e h =
-    let same : m ≡ l = cc in
-    subst (λ (x : Link N). Refuses (alias_fault (tree x.node)) before old a new) (sym same) h
+    (a : Found N) (new : List (Layer N G)) → RefusesLink o before old f l mid → (l ≡ None → a ≡ closed_of f) → (l ≡ None → new ≡ mid) → Refuses o before old a new
+refused_on None before old f l mid a new h c s = tt
+refused_on (Some e) before old f l mid a new h c s = (c h.0 ∙ (ap closed_of h.1.0 ∙ error_closed before e), s h.0 ∙ h.1.1)

@@ -1,6 +1,5 @@
 -- The values of places, as they are written.
-use Rattle.std.proofs.Common.{◌≡◌, ◌++◌, ℕ, zero, suc, List, [], ◌∷◌, Result, Ok, Err, codes, refl, sym, subst}
-use Rattle.std.specs.Prelude.{IfOk}
+use Rattle.std.proofs.Common.{◌≡◌, ◌++◌, ℕ, zero, suc, List, [], ◌∷◌, codes, refl, sym, subst}
 use Rattle.serde_json.specs.Data.{Data, array, object}
 use Rattle.serde_json.specs.View.{items_of}
 use Rattle.serde_json.specs.Written.{compact_text}
@@ -9,7 +8,6 @@ use Rattle.rb_tree.specs.declared.kind.Kind.{Kind}
 use Rattle.rb_tree.specs.declared.kind.Kind.TheVariants as kind
 use Rattle.rb_fallback.specs.Words.{look_word}
 use Rattle.rb_fallback.specs.declared.fault.LookError.{LookError}
-use Rattle.rb_inherit.specs.declared.error.WalkError.{WalkError}
 use Rattle.rb_inherit.specs.Merged.{Here, IsItem, IsTree, IsValue, Layered, Part, error_data, fails, item, members_data, nothing, tables}
 use Rattle.rb_inherit.specs.inner.Written.{IsLeafOf, WritesItems, WritesMembers}
 use Rattle.rb_inherit.specs.Merged.{Writes}
@@ -51,11 +49,6 @@ level_value Takes levels below used h g e same w = record {
   takes = w.takes;
   is = tree_is levels below used h w.value e (subst (λ (x : Here). IsValue (IsTree below) used x w.value) (sym same) w.is);
 }
-
-pub ok_level_value : (r : Result (Unit {0}) WalkError) (Takes : List ℕ → Type 0) (levels below used : ℕ) (h g : Here) → levels ≡ suc below → h ≡ g
-    → IfOk r (λ _. Writes Takes (IsValue (IsTree below) used g)) → IfOk r (λ _. Writes Takes (IsTree levels used h))
-ok_level_value (Ok u) Takes levels below used h g e same w = level_value Takes levels below used h g e same w
-ok_level_value (Err f) Takes levels below used h g e same w = tt
 
 leaf_is : (Is : ℕ → Here → Data → Type 0) (used : ℕ) (k : Kind) (p : Part) (d : Data) → (k ≡ kind.Array → ⊥) → IsLeafOf k p.tree d → IsItem Is used k p d
 leaf_is Is used kind.Array p d other is = absurd (other refl)

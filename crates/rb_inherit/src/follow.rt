@@ -218,37 +218,8 @@ fn add_link<T: Stops>(
     }
 }
 
-/// Adds what the levels have to which aliases lead, one after another. No later stop is asked: the
-/// result after an alias is final.
-#[tactic(auto, using(crate::proofs::Earliest::stays_itself, crate::proofs::Earliest::stays_on, crate::proofs::Earliest::grows_itself, crate::proofs::Earliest::grows_on))]
-fn add_links<T: Stops>(
-    shelves: T,
-    place: &mut Place<T::N>,
-    before: After<T::N>,
-) -> Result<Found<T::N>, WalkError>
-    ensures stays { IfOk result (Stays before.found) }
-    ensures closed { IfOk result (λ after. is_open_of after ≡ false) }
-    ensures layers { IfOk result (λ _. Grows place.old.layers.items place.new.layers.items) }
-    ensures keys { place.new.keys.items ≡ place.old.keys.items }
-    ensures none { before.link ≡ None → IfOk result (λ after. after ≡ closed_of before.found) }
-    ensures stay { before.link ≡ None → place.new ≡ place.old }
-{
-    let After {
-        mut found,
-        mut link,
-    } = before;
-    'links: for _ in 0..LEVEL_LIMIT {
-        let Some(here) = link else {
-            break;
-        };
-        let after = add_link(shelves, place, found, here)?;
-        found = after.found;
-        link = after.link;
-    }
-    Ok(found.closed())
-}
-
-/// Adds what a level's alias leads to, if the level ends at one.
+/// Adds what the levels have to which aliases lead, one after another, if a level ends at one. No
+/// later stop is asked: the result after an alias is final.
 #[tactic(auto, using(crate::proofs::Earliest::stays_itself, crate::proofs::Earliest::stays_on, crate::proofs::Earliest::grows_itself, crate::proofs::Earliest::grows_on))]
 fn add_after<T: Stops>(
     shelves: T,
@@ -265,34 +236,21 @@ fn add_after<T: Stops>(
         place.old.layers.items after place.new.layers.items) }
 {
     let After { found, link } = before;
-    let Some(link) = link else {
-        return Ok(found.closed());
+    let Some(first) = link else {
+        return Ok(found.with_error(LookError::Missing));
     };
-    let after = add_link(shelves, place, found, link)?;
-    add_links(shelves, place, after)
-}
-
-/// Adds what an alias leads to that is a child of a table or an array.
-fn add_alias<T: Stops>(
-    shelves: T,
-    place: &mut Place<T::N>,
-    found: Found<T::N>,
-    node: T::N,
-    level: Level,
-) -> Result<Found<T::N>, WalkError>
-    ensures stays { IfOk result (Stays found) }
-    ensures closed { IfOk result (λ after. is_open_of after ≡ false) }
-    ensures layers { IfOk result (λ _. Grows place.old.layers.items place.new.layers.items) }
-    ensures keys { place.new.keys.items ≡ place.old.keys.items }
-    ensures refuses { IfOk result (λ after. Refuses (alias_fault (T.N.tree node)) found
-        place.old.layers.items after place.new.layers.items) }
-{
-    let link = Some(Link {
-        node,
-        level,
-        rest: 0,
-    });
-    add_after(shelves, place, After { found, link })
+    let first = add_link(shelves, place, found, first)?;
+    let mut found = first.found;
+    let mut link = first.link;
+    'links: for _ in 0..LEVEL_LIMIT {
+        let Some(here) = link else {
+            break;
+        };
+        let after = add_link(shelves, place, found, here)?;
+        found = after.found;
+        link = after.link;
+    }
+    Ok(found.with_error(LookError::Missing))
 }
 
 /// Adds a child of a table or an array to what the place has, which its key already names.
@@ -312,7 +270,11 @@ pub(crate) fn add_child<T: Stops>(
         return Ok(found.with_error(LookError::PathTooLong));
     }
     match node.kind() {
-        Kind::Alias => add_alias(shelves, place, found, node, level),
+        Kind::Alias => {
+            let rest = 0;
+            let link = Some(Link { node, level, rest });
+            add_after(shelves, place, After { found, link })
+        }
         Kind::Table => place.add_table(found, node, level),
         _ => Ok(found.with_item(node, level)),
     }

@@ -19,7 +19,7 @@ pub(crate) enum Found<N> {
 impl<N: Copy> Found<N> {
     ghost use Rattle.std.specs.Prelude.{◌≡◌, false};
     ghost use Rattle.rb_inherit.specs.inner.Earlier.{Stays, and_error, and_item, and_table};
-    ghost use Rattle.rb_inherit.specs.inner.Earlier.{closed_of, is_open_of};
+    ghost use Rattle.rb_inherit.specs.inner.Earlier.{is_open_of};
 
     /// Returns true if a later stop may add to it.
     pub(crate) fn is_open(&self) -> bool
@@ -55,22 +55,10 @@ impl<N: Copy> Found<N> {
         }
     }
 
-    /// Returns what a place has if no later stop is asked, as after an alias.
-    pub(crate) fn closed(self) -> Found<N>
-        ensures stays { Stays self result }
-        ensures closed { is_open_of result ≡ false }
-        ensures is { result ≡ closed_of self }
-    {
-        match self {
-            Found::Nothing => Found::Failed(LookError::Missing),
-            Found::Tables { .. } => Found::Tables { is_open: false },
-            found => found,
-        }
-    }
-
     /// Returns what a place has if a lookup of it fails at the next stop, which ends tables.
     pub(crate) fn with_error(self, error: LookError) -> Found<N>
         ensures stays { Stays self result }
+        ensures closed { is_open_of result ≡ false }
         ensures is { result ≡ and_error self error }
     {
         match self {

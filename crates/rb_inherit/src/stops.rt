@@ -88,34 +88,6 @@ fn roots_of<T: Stops>(
     Ok(roots)
 }
 
-/// Makes the trail of a name the last one.
-fn read_trail<T: Stops>(
-    shelves: T,
-    place: &mut Place<T::N>,
-    icudata: bool,
-    name: &Name,
-) -> Result<Result<(), TrailFault>, WalkError>
-    ensures rest { place.new ≡ record place.old { trail = place.new.trail } }
-    ensures trail { IfOk result (IsTrailOf T.N.tree (T.bundles shelves icudata)
-        (T.parents shelves) name.now place.new.trail.roots.items) }
-    ensures kept { IsKept T.N.tree (T.bundles shelves) (T.parents shelves) place.old.trail
-        → IsKept T.N.tree (T.bundles shelves) (T.parents shelves) place.new.trail }
-{
-    let route = match shelves.route(icudata, name) {
-        Ok(route) => route,
-        Err(fault) => return Ok(Err(fault)),
-    };
-    let roots = roots_of(place.alloc, shelves, icudata, &route)?;
-    place.trail = LastTrail {
-        is_known: true,
-        icudata,
-        name: *name,
-        names: route.names.len() as u64,
-        roots,
-    };
-    Ok(Ok(()))
-}
-
 /// Makes the trail of a name the last one, unless it is.
 pub(crate) fn find_stops<T: Stops>(
     shelves: T,
@@ -131,8 +103,19 @@ pub(crate) fn find_stops<T: Stops>(
         → IsKept T.N.tree (T.bundles shelves) (T.parents shelves) place.new.trail }
 {
     if place.trail.is_of(icudata, name) {
-        Ok(Ok(()))
-    } else {
-        read_trail(shelves, place, icudata, name)
+        return Ok(Ok(()));
     }
+    let route = match shelves.route(icudata, name) {
+        Ok(route) => route,
+        Err(fault) => return Ok(Err(fault)),
+    };
+    let roots = roots_of(place.alloc, shelves, icudata, &route)?;
+    place.trail = LastTrail {
+        is_known: true,
+        icudata,
+        name: *name,
+        names: route.names.len() as u64,
+        roots,
+    };
+    Ok(Ok(()))
 }

@@ -106,29 +106,6 @@ fn put_at<T: Stops, O: Outlet>(
     Ok(())
 }
 
-/// Writes the layers from an index on as one table.
-#[cycle(tree)]
-fn put_tables<T: Stops, O: Outlet>(
-    shelves: T,
-    place: &mut Place<T::N>,
-    out: &mut O,
-    from: usize,
-    levels: u64,
-) -> Result<(), WalkError>
-    requires { from ≤ length place.old.layers.items }
-    ensures writes { IfOk result (λ _. Writes (O.takes out.old out.new) (IsValue (IsTree levels)
-        (length place.old.keys.items)
-        (tables (layered_in T.N.tree (drop from place.old.layers.items))))) }
-    ensures layers { IfOk result (λ _. take from place.new.layers.items
-        ≡ take from place.old.layers.items) }
-    ensures keys { IfOk result (λ _. place.new.keys.items ≡ place.old.keys.items) }
-{
-    out.put(b"{");
-    put_entries(shelves, place, out, from, levels)?;
-    out.put(b"}");
-    Ok(())
-}
-
 /// Writes the entries of the layers from an index on.
 #[cycle(tree)]
 fn put_entries<T: Stops, O: Outlet>(
@@ -221,27 +198,6 @@ fn put_items<T: Stops, O: Outlet>(
     Ok(())
 }
 
-#[cycle(tree)]
-fn put_array<T: Stops, O: Outlet>(
-    shelves: T,
-    place: &mut Place<T::N>,
-    out: &mut O,
-    node: T::N,
-    level: Level,
-    levels: u64,
-) -> Result<(), WalkError>
-    requires { kind_of (T.N.tree node) ≡ Kinds.Array }
-    ensures writes { IfOk result (λ _. Writes (O.takes out.old out.new) (IsValue (IsTree levels)
-        (length place.old.keys.items) (item (part_of T.N.tree node level)))) }
-    ensures layers { IfOk result (λ _. place.new.layers.items ≡ place.old.layers.items) }
-    ensures keys { IfOk result (λ _. place.new.keys.items ≡ place.old.keys.items) }
-{
-    out.put(b"[");
-    put_items(shelves, place, out, node, level, levels)?;
-    out.put(b"]");
-    Ok(())
-}
-
 /// Writes what a place has, with at most `levels` levels. Its tables are the layers from an index
 /// on.
 #[cycle(tree)]
@@ -266,21 +222,21 @@ pub(crate) fn put_found<T: Stops, O: Outlet>(
         return Ok(());
     }
     match found {
-        Found::Tables { .. } => put_tables(shelves, place, out, from, levels - 1),
+        Found::Tables { .. } => {
+            out.put(b"{");
+            put_entries(shelves, place, out, from, levels - 1)?;
+            out.put(b"}")
+        }
         Found::Item { node, level } => match node.kind() {
-            Kind::Array => put_array(shelves, place, out, node, level, levels - 1),
-            _ => {
-                put_leaf(out, node);
-                Ok(())
+            Kind::Array => {
+                out.put(b"[");
+                put_items(shelves, place, out, node, level, levels - 1)?;
+                out.put(b"]")
             }
+            _ => put_leaf(out, node),
         },
-        Found::Failed(error) => {
-            put_error(out, error.word());
-            Ok(())
-        }
-        Found::Nothing => {
-            put_error(out, "Missing");
-            Ok(())
-        }
+        Found::Failed(error) => put_error(out, error.word()),
+        Found::Nothing => put_error(out, "Missing"),
     }
+    Ok(())
 }

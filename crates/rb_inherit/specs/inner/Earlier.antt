@@ -46,10 +46,7 @@ and_error (Item n level) e = Item n level
 and_error (Failed first) e = Failed first
 
 abbrev pub closed_of : {N : Type 0} → Found N → Found N
-closed_of Nothing = Failed look.Missing
-closed_of (Tables is_open) = Tables false
-closed_of (Item n level) = Item n level
-closed_of (Failed e) = Failed e
+closed_of before = and_error before look.Missing
 
 abbrev pub is_open_of : {N : Type 0} → Found N → Bool
 is_open_of Nothing = true

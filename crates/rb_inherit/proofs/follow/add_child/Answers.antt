@@ -14,9 +14,9 @@ returns-in-Table-clause-adds g c =
 
 pub returns-in-Alias-clause-adds : goal.returns-in-Alias-clause-adds
 returns-in-Alias-clause-adds g c =
-    ok_alias_adds g.T.N.Node.tree (length c.args.place.now.keys.items) c.args.node c.args.level c.args.found c.args.place.now.layers.items c.add_alias.result
-    c.add_alias.new.place.layers.items (sym c.is_long.ensures ∙ c.if-is_long.false) (sym c.kind.ensures ∙ c.in-Alias.is) c.requires
-    c.add_alias.ensures.stays c.add_alias.ensures.closed c.add_alias.ensures.layers c.add_alias.ensures.refuses
+    ok_alias_adds g.T.N.Node.tree (length c.args.place.now.keys.items) c.args.node c.args.level c.args.found c.args.place.now.layers.items c.add_after.result
+    c.add_after.new.place.layers.items (sym c.is_long.ensures ∙ c.if-is_long.false) (sym c.kind.ensures ∙ c.in-Alias.is) c.requires
+    c.add_after.ensures.stays c.add_after.ensures.closed c.add_after.ensures.layers c.add_after.ensures.refuses
 
 pub returns-in_default : goal.returns-in_default
 returns-in_default g c = record {

@@ -7,19 +7,8 @@ use Rattle.rb_inherit.specs.inner.Merging.{key_in, key_of}
 use Rattle.rb_inherit.proofs.Entries.{entered_all, entered_more, entered_none, entered_skipped, items_more, items_skipped}
 use Rattle.rb_inherit.proofs.Members.{tree_some}
 use Rattle.rb_inherit.proofs.Places.{item_written, key_len}
-use Rattle.rb_inherit.proofs.Values.{array_value, deep_value, error_value, leaf_value, missing_value, ok_level_value, tables_value}
+use Rattle.rb_inherit.proofs.Values.{array_value, deep_value, error_value, leaf_value, level_value, missing_value, tables_value}
 use Rattle.rb_inherit.proofs.tree.+tree.Goals as goal
-
-pub put_array-returns-clause-writes : goal.put_array-returns-clause-writes
-put_array-returns-clause-writes g t c =
-    array_value g.O.Outlet.takes g.met.O.Outlet.joined (IsTree c.args.levels) (length c.args.place.now.keys.items) (part_of g.T.N.Node.tree c.args.node c.args.level)
-    c.args.out.now c.put.new.self c.put_items.new.out c.put-2.new.self c.requires c.put.ensures c.in_ok-put_items.ensures.writes c.put-2.ensures
-
-pub put_tables-returns-clause-writes : goal.put_tables-returns-clause-writes
-put_tables-returns-clause-writes g t c =
-    tables_value g.O.Outlet.takes g.met.O.Outlet.joined (IsTree c.args.levels) (length c.args.place.now.keys.items)
-    (layered_in g.T.N.Node.tree (drop c.args.from c.args.place.now.layers.items))
-    c.args.out.now c.put.new.self c.put_entries.new.out c.put-2.new.self c.put.ensures c.in_ok-put_entries.ensures.writes c.put-2.ensures
 
 pub put_element-returns-clause-writes : goal.put_element-returns-clause-writes
 put_element-returns-clause-writes g t c =
@@ -97,20 +86,28 @@ put_found-returns-then-levels-eq0-clause-writes g t c =
     deep_value (g.O.Outlet.takes c.args.out.now c.put_error.new.out) c.args.levels (length c.args.place.now.keys.items)
     (here_of g.T.N.Node.tree c.args.found (layered_in g.T.N.Node.tree (drop c.args.from c.args.place.now.layers.items))) c.if-levels-eq0.true c.put_error.ensures
 
-pub put_found-returns-in-Tables-clause-writes : goal.put_found-returns-in-Tables-clause-writes
-put_found-returns-in-Tables-clause-writes g t c =
+pub put_found-returns-in_ok-put_entries-in-Tables-clause-writes : goal.put_found-returns-in_ok-put_entries-in-Tables-clause-writes
+put_found-returns-in_ok-put_entries-in-Tables-clause-writes g t c =
     let ls = layered_in g.T.N.Node.tree (drop c.args.from c.args.place.now.layers.items) in
     let below : c.args.levels ≡ suc (c.args.levels - 1) = omega arith in
-    ok_level_value c.put_tables.result (g.O.Outlet.takes c.args.out.now c.put_tables.new.out) c.args.levels (c.args.levels - 1) (length c.args.place.now.keys.items)
-    (here_of g.T.N.Node.tree c.args.found ls) (tables ls) below (ap (λ f. here_of g.T.N.Node.tree f ls) c.in-Tables.is) c.put_tables.ensures.writes
+    let used = length c.args.place.now.keys.items in
+    let end = c.put-in-Tables.new.self in
+    level_value (g.O.Outlet.takes c.args.out.now end) c.args.levels (c.args.levels - 1) used (here_of g.T.N.Node.tree c.args.found ls) (tables ls) below
+    (ap (λ f. here_of g.T.N.Node.tree f ls) c.in-Tables.is)
+    (tables_value g.O.Outlet.takes g.met.O.Outlet.joined (IsTree (c.args.levels - 1)) used ls c.args.out.now c.put.new.self c.put_entries.new.out end
+    c.put.ensures c.in_ok-put_entries-in-Tables.ensures.writes c.put-in-Tables.ensures)
 
-pub put_found-returns-in-Array-clause-writes : goal.put_found-returns-in-Array-clause-writes
-put_found-returns-in-Array-clause-writes g t c =
+pub put_found-returns-in_ok-put_items-in-Array-clause-writes : goal.put_found-returns-in_ok-put_items-in-Array-clause-writes
+put_found-returns-in_ok-put_items-in-Array-clause-writes g t c =
     let ls = layered_in g.T.N.Node.tree (drop c.args.from c.args.place.now.layers.items) in
     let below : c.args.levels ≡ suc (c.args.levels - 1) = omega arith in
-    ok_level_value c.put_array.result (g.O.Outlet.takes c.args.out.now c.put_array.new.out) c.args.levels (c.args.levels - 1) (length c.args.place.now.keys.items)
-    (here_of g.T.N.Node.tree c.args.found ls) (item (part_of g.T.N.Node.tree c.in-Item.node c.in-Item.level)) below
-    (ap (λ f. here_of g.T.N.Node.tree f ls) c.in-Item.is) c.put_array.ensures.writes
+    let used = length c.args.place.now.keys.items in
+    let part = part_of g.T.N.Node.tree c.in-Item.node c.in-Item.level in
+    let end = c.put-in-Array-2.new.self in
+    level_value (g.O.Outlet.takes c.args.out.now end) c.args.levels (c.args.levels - 1) used (here_of g.T.N.Node.tree c.args.found ls) (item part) below
+    (ap (λ f. here_of g.T.N.Node.tree f ls) c.in-Item.is)
+    (array_value g.O.Outlet.takes g.met.O.Outlet.joined (IsTree (c.args.levels - 1)) used part c.args.out.now c.put-in-Array.new.self c.put_items.new.out end
+    (sym c.in-Array.ensures) c.put-in-Array.ensures c.in_ok-put_items-in-Array.ensures.writes c.put-in-Array-2.ensures)
 
 pub put_found-returns-in_default : goal.put_found-returns-in_default
 put_found-returns-in_default g t c =

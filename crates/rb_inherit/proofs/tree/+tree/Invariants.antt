@@ -5,25 +5,19 @@ use Rattle.rb_inherit.proofs.Entries.{Entered, ItemsSoFar}
 use Rattle.rb_inherit.proofs.tree.+tree.Given as goal
 
 abbrev pub decreases-put_found : goal.decreases-put_found
-decreases-put_found g l = 4 * l.levels
-
-abbrev pub decreases-put_tables : goal.decreases-put_tables
-decreases-put_tables g l = 4 * l.levels + 3
+decreases-put_found g l = 3 * l.levels
 
 abbrev pub decreases-put_entries : goal.decreases-put_entries
-decreases-put_entries g l = 4 * l.levels + 2
+decreases-put_entries g l = 3 * l.levels + 2
 
 abbrev pub decreases-put_at : goal.decreases-put_at
-decreases-put_at g l = 4 * l.levels + 1
-
-abbrev pub decreases-put_array : goal.decreases-put_array
-decreases-put_array g l = 4 * l.levels + 3
+decreases-put_at g l = 3 * l.levels + 1
 
 abbrev pub decreases-put_items : goal.decreases-put_items
-decreases-put_items g l = 4 * l.levels + 2
+decreases-put_items g l = 3 * l.levels + 2
 
 abbrev pub decreases-put_element : goal.decreases-put_element
-decreases-put_element g l = 4 * l.levels + 1
+decreases-put_element g l = 3 * l.levels + 1
 
 abbrev pub invariant-put_entries-loop-i : goal.invariant-put_entries-loop-i
 invariant-put_entries-loop-i g l = record {
