@@ -70,12 +70,7 @@ said Is used false kind.Binary p Rest h e same is v = at_item Is used kind.Binar
 
 pub says_shows : (k : Kind) (t : Resource) (e : Data) → (k ≡ kind.Alias → ⊥) → Says false k t e → Shows k t e
 says_shows kind.Alias t e a h = absurd (a refl)
-says_shows kind.String t e a h = h
-says_shows kind.Int t e a h = h
-says_shows kind.Ints t e a h = h
-says_shows kind.Binary t e a h = h
-says_shows kind.Array t e a h = h
-says_shows kind.Table t e a h = h
+says_shows _ t e a h = h
 
 says_error : (k : Kind) (t : Resource) (e : Data) (f : LookError) → k ≡ kind.Alias → alias_fault t ≡ Some f → Says false k t e → e ≡ error_data (look_word f)
 says_error kind.Alias t e f k a h = h f a
@@ -103,11 +98,7 @@ front_of most used (p ∷ ps) more f m = by (λ rest r. front_of most used ps re
         let f = on j.0 j.1.1 in
         record { front = p ∷ f.front; back = f.back; split = ap (λ l. p ∷ l) f.split; layers = j.1.0 ∙ ap (λ l. layered p ∷ l) f.layers; are = (e, f.are) }
     by on false kind.Alias e a j = absurd (a e)
-    by on false kind.String e a j = none j
-    by on false kind.Int e a j = none j
-    by on false kind.Ints e a j = none j
-    by on false kind.Binary e a j = none j
-    by on false kind.Array e a j = none j
+    by on false _ e a j = none j
 
 pub fine_ascend : (most : ℕ) (ps : List Part) → AreFine most ps → AllByRecursion Ascends (map layered ps)
 fine_ascend most [] f = tt

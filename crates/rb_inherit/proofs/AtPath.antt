@@ -8,7 +8,7 @@ use Rattle.rb_tree.specs.Walk.{Walked, ends, links, gone, walk}
 use Rattle.rb_tree.specs.declared.node.Node.{Ghosts}
 use Rattle.rb_fallback.specs.declared.fault.LookError.TheVariants as look
 use Rattle.rb_inherit.specs.declared.found.Found.{Found}
-use Rattle.rb_inherit.specs.declared.found.Found.TheVariants.{Nothing, Tables, Item, Failed}
+use Rattle.rb_inherit.specs.declared.found.Found.TheVariants.{Nothing, Tables}
 use Rattle.rb_inherit.specs.declared.follow.Link.{Link}
 use Rattle.rb_inherit.specs.declared.layer.Layer.{Layer}
 use Rattle.rb_inherit.specs.declared.place.Level.{Level}
@@ -56,9 +56,7 @@ ends_closed : {N : Type 0} (tree : N → Resource) (used : ℕ) (f : Found N) (l
     → is_open_of f ≡ false → Ends tree used f ls ps h → Ends tree used f ls qs h
 ends_closed tree used Nothing ls ps qs h o x = absurd cc
 ends_closed tree used (Tables true) ls ps qs h o x = absurd cc
-ends_closed tree used (Tables false) ls ps qs h o x = x
-ends_closed tree used (Item n level) ls ps qs h o x = x
-ends_closed tree used (Failed e) ls ps qs h o x = x
+ends_closed tree used _ ls ps qs h o x = x
 
 -- one that is final hides the rest
 pub all_closed : {N : Type 0} {G : Ghosts N} (tree : N → Resource) (used : ℕ) (ps others : List Part) (before after : Found N)
@@ -238,9 +236,7 @@ all_decides tree used ps found new a =
 closed_here : {N : Type 0} (tree : N → Resource) (f : Found N) (ls : List Layered) → ((l : List Layered) → BeginsEmpty f l)
     → here_of tree (closed_of f) ls ≡ here_of tree f ls
 closed_here tree Nothing ls b = absurd (let e = b (record { entries = []; most = 0 } ∷ []) in cc)
-closed_here tree (Tables is_open) ls b = refl
-closed_here tree (Item n level) ls b = refl
-closed_here tree (Failed e) ls b = refl
+closed_here tree _ ls b = refl
 
 open_decides : {N : Type 0} {G : Ghosts N} (tree : N → Resource) (used : ℕ) (ps : List Part) (found : Found N) (new : List (Layer N G)) → 0 < length ps
     → AddsSome tree used ps Nothing [] found new → Decides used ps (here_of tree (closed_of found) (layered_in tree new))

@@ -23,10 +23,8 @@ stays_itself (Item n level) = refl
 stays_itself (Failed e) = refl
 
 tables_stay : {N : Type 0} (f g : Found N) → IsTables f → Stays f g → IsTables g
-tables_stay Nothing g h k = absurd h
 tables_stay (Tables is_open) g h k = k
-tables_stay (Item n level) g h k = absurd h
-tables_stay (Failed e) g h k = absurd h
+tables_stay _ g h k = absurd h
 
 pub stays_on : {N : Type 0} (f g h : Found N) → Stays f g → Stays g h → Stays f h
 stays_on Nothing g h a b = tt
@@ -98,9 +96,7 @@ step_table tree used p b k Nothing o = λ ls ps h e x.
     begins_table _ _ p _ h b k (x.0, (x.1.0 ∙ ap (λ (l : List Layered). tables ((l ++ layered p ∷ []) ++ x.0)) e, x.1.1))
 step_table tree used p b k (Tables true) o = λ ls ps h e x.
     (layered p ∷ x.0, (x.1.0 ∙ ap tables (append_assoc ls (layered p ∷ []) x.0), joins_table _ _ p _ _ x.0 b k refl x.1.1))
-step_table tree used p b k (Tables false) o = absurd cc
-step_table tree used p b k (Item n level) o = absurd cc
-step_table tree used p b k (Failed e) o = absurd cc
+step_table tree used p b k _ o = absurd cc
 
 step_item : {N : Type 0} (tree : N → Resource) (used : ℕ) (n : N) (level : Level) → nat_lt level.keys_most used ≡ false
     → (kind_of (tree n) ≡ kind.Table → ⊥) → (kind_of (tree n) ≡ kind.Alias → ⊥)
@@ -108,17 +104,13 @@ step_item : {N : Type 0} (tree : N → Resource) (used : ℕ) (n : N) (level : L
 step_item tree used n level b t a Nothing o = λ ls ps h e x. begins_item _ _ (part_of tree n level) _ h b t a x
 step_item tree used n level b t a (Tables true) o = λ ls ps h e x.
     ([], (x, joins_item _ _ (part_of tree n level) _ [] b t a refl))
-step_item tree used n level b t a (Tables false) o = absurd cc
-step_item tree used n level b t a (Item m other) o = absurd cc
-step_item tree used n level b t a (Failed e) o = absurd cc
+step_item tree used n level b t a _ o = absurd cc
 
 step_long : {N : Type 0} (tree : N → Resource) (used : ℕ) (p : Part) → nat_lt p.most used ≡ true
     → (before : Found N) → is_open_of before ≡ true → Step tree used p before (and_error before look.PathTooLong) []
 step_long tree used p b Nothing o = λ ls ps h e x. begins_long _ _ p _ h b x
 step_long tree used p b (Tables true) o = λ ls ps h e x. ([], (x, joins_long _ _ p _ [] b refl))
-step_long tree used p b (Tables false) o = absurd cc
-step_long tree used p b (Item n level) o = absurd cc
-step_long tree used p b (Failed e) o = absurd cc
+step_long tree used p b _ o = absurd cc
 
 -- what an alias adds that can't be read: its error, and no tables
 abbrev pub Fails : {N : Type 0} → Option LookError → Found N → Found N → List Layered → Type 0
@@ -137,12 +129,10 @@ alias_joins (Some e) before after more f = f.1
 alias_tables : {N : Type 0} (tree : N → Resource) (used : ℕ) (p : Part) → nat_lt p.most used ≡ false → kind_of p.tree ≡ kind.Alias
     → (after : Found N) → is_open_of after ≡ false → IsTables after → (more : List Layered) → Fails (alias_fault p.tree) (Tables true) after more
     → Step tree used p (Tables true) after more
-alias_tables tree used p b k Nothing o s more f = absurd s
 alias_tables tree used p b k (Tables true) o s more f = absurd cc
 alias_tables {N} tree used p b k (Tables false) o s more f = λ ls ps h e x.
     (more, (x, joins_alias _ _ p _ more b k (alias_joins {N = N} (alias_fault p.tree) (Tables true) (Tables false) more f)))
-alias_tables tree used p b k (Item n level) o s more f = absurd s
-alias_tables tree used p b k (Failed e) o s more f = absurd s
+alias_tables tree used p b k _ o s more f = absurd s
 
 step_alias : {N : Type 0} (tree : N → Resource) (used : ℕ) (p : Part) → nat_lt p.most used ≡ false → kind_of p.tree ≡ kind.Alias
     → (before : Found N) → is_open_of before ≡ true → (after : Found N) → is_open_of after ≡ false → Stays before after
@@ -150,9 +140,7 @@ step_alias : {N : Type 0} (tree : N → Resource) (used : ℕ) (p : Part) → na
 step_alias tree used p b k Nothing o after c s more f = λ ls ps h e x.
     begins_alias _ _ p _ h b k (alias_begins tree used (alias_fault p.tree) after ls more ps h f x)
 step_alias tree used p b k (Tables true) o after c s more f = alias_tables tree used p b k after c s more f
-step_alias tree used p b k (Tables false) o after c s more f = absurd cc
-step_alias tree used p b k (Item n level) o after c s more f = absurd cc
-step_alias tree used p b k (Failed e) o after c s more f = absurd cc
+step_alias tree used p b k _ o after c s more f = absurd cc
 
 step_closed : {N : Type 0} (tree : N → Resource) (used : ℕ) (p : Part) (before : Found N) → is_open_of before ≡ false → Step tree used p before before []
 step_closed tree used p Nothing o = absurd cc
@@ -163,27 +151,19 @@ step_closed tree used p (Failed e) o = λ ls ps h f x. x
 
 pub decided_closed : {N : Type 0} (f : Found N) → is_open_of f ≡ false → (ls : List Layered) → BeginsEmpty f ls
 decided_closed Nothing o ls = absurd cc
-decided_closed (Tables is_open) o ls = tt
-decided_closed (Item n level) o ls = tt
-decided_closed (Failed e) o ls = tt
+decided_closed _ o ls = tt
 
 decided_table : {N : Type 0} (f : Found N) (ls : List Layered) → BeginsEmpty (and_table f) ls
 decided_table Nothing ls = tt
-decided_table (Tables is_open) ls = tt
-decided_table (Item n level) ls = tt
-decided_table (Failed e) ls = tt
+decided_table _ ls = tt
 
 decided_item : {N : Type 0} (f : Found N) (n : N) (level : Level) (ls : List Layered) → BeginsEmpty (and_item f n level) ls
 decided_item Nothing n level ls = tt
-decided_item (Tables is_open) n level ls = tt
-decided_item (Item m other) n level ls = tt
-decided_item (Failed e) n level ls = tt
+decided_item _ n level ls = tt
 
 decided_long : {N : Type 0} (f : Found N) (ls : List Layered) → BeginsEmpty (and_error f look.PathTooLong) ls
 decided_long Nothing ls = tt
-decided_long (Tables is_open) ls = tt
-decided_long (Item n level) ls = tt
-decided_long (Failed e) ls = tt
+decided_long _ ls = tt
 
 -- ---- the records of one stop more
 pub table_adds : {N : Type 0} {G : Ghosts N} (tree : N → Resource) (used : ℕ) (n : N) (level : Level) (before : Found N) (old : List (Layer N G)) (after : Found N)
@@ -257,11 +237,8 @@ closed_adds tree used p before old o = record {
 
 -- no stop is left
 pub ends_here : {N : Type 0} (tree : N → Resource) (used : ℕ) (f : Found N) (ls : List Layered) → Ends tree used f ls [] (here_of tree f ls)
-ends_here tree used Nothing ls = refl
 ends_here tree used (Tables true) ls = ([], (sym (ap tables (append-nil ls)), refl))
-ends_here tree used (Tables false) ls = refl
-ends_here tree used (Item n level) ls = refl
-ends_here tree used (Failed e) ls = refl
+ends_here tree used _ ls = refl
 
 -- ---- the cases above, for what a call returned
 pub ok_table_adds : {N : Type 0} {G : Ghosts N} (tree : N → Resource) (used : ℕ) (n : N) (level : Level) (before : Found N) (old : List (Layer N G))
@@ -281,6 +258,4 @@ ok_alias_adds tree used n level before old (Err e) new b k o s c g f = tt
 -- ---- errors of aliases
 pub error_closed : {N : Type 0} (f : Found N) (e : LookError) → closed_of (and_error f e) ≡ and_error f e
 error_closed Nothing e = refl
-error_closed (Tables is_open) e = refl
-error_closed (Item n level) e = refl
-error_closed (Failed first) e = refl
+error_closed _ e = refl

@@ -93,11 +93,7 @@ module _ (bundles : Bundles) (sorted : AreSorted bundles) (plain : HasNoAliases 
       by on true k e j = none j
       by on false kind.Table e j = subst (λ (l : List Layered). AllByRecursion IsTableFrom l) (sym j.1.0) (layered_from p f.0 e, on j.0 j.1.1)
       by on false kind.Alias e j = absurd (from_no_alias p.tree f.0 e)
-      by on false kind.String e j = none j
-      by on false kind.Int e j = none j
-      by on false kind.Ints e j = none j
-      by on false kind.Binary e j = none j
-      by on false kind.Array e j = none j
+      by on false _ e j = none j
 
   fine_here : (used : ℕ) (ps : List Part) (h : Here) → AreFrom ps → Decides used ps h → IsFine h
   fine_here used [] h f d = subst IsFine (sym d) tt
@@ -110,11 +106,7 @@ module _ (bundles : Bundles) (sorted : AreSorted bundles) (plain : HasNoAliases 
       by true k e b = subst IsFine (sym b) tt
       by false kind.Table e b = subst IsFine (sym b.1.0) (layered_from p f.0 e, fine_merges used ps b.0 f.1 b.1.1)
       by false kind.Alias e b = absurd (from_no_alias p.tree f.0 e)
-      by false kind.String e b = is_item kind.String e (λ x. cc) b
-      by false kind.Int e b = is_item kind.Int e (λ x. cc) b
-      by false kind.Ints e b = is_item kind.Ints e (λ x. cc) b
-      by false kind.Binary e b = is_item kind.Binary e (λ x. cc) b
-      by false kind.Array e b = is_item kind.Array e (λ x. cc) b
+      by false k e b = is_item k e (λ x. cc) b
 
   -- ---- one place
   merges_one : (used : ℕ) (ps : List Part) (a b : List Layered) → AreFrom ps → Merges used ps a → Merges used ps b → a ≡ b
@@ -126,11 +118,7 @@ module _ (bundles : Bundles) (sorted : AreSorted bundles) (plain : HasNoAliases 
       by on true k e x y = x ∙ sym y
       by on false kind.Table e x y = x.1.0 ∙ ap (λ (l : List Layered). layered p ∷ l) (on x.0 y.0 x.1.1 y.1.1) ∙ sym y.1.0
       by on false kind.Alias e x y = absurd (from_no_alias p.tree f.0 e)
-      by on false kind.String e x y = x ∙ sym y
-      by on false kind.Int e x y = x ∙ sym y
-      by on false kind.Ints e x y = x ∙ sym y
-      by on false kind.Binary e x y = x ∙ sym y
-      by on false kind.Array e x y = x ∙ sym y
+      by on false _ e x y = x ∙ sym y
 
   decides_one : (used : ℕ) (ps : List Part) (h g : Here) → AreFrom ps → Decides used ps h → Decides used ps g → h ≡ g
   decides_one used [] h g f x y = x ∙ sym y
@@ -140,11 +128,7 @@ module _ (bundles : Bundles) (sorted : AreSorted bundles) (plain : HasNoAliases 
       by true k e x y = x ∙ sym y
       by false kind.Table e x y = x.1.0 ∙ ap (λ (l : List Layered). tables (layered p ∷ l)) (merges_one used ps x.0 y.0 f.1 x.1.1 y.1.1) ∙ sym y.1.0
       by false kind.Alias e x y = absurd (from_no_alias p.tree f.0 e)
-      by false kind.String e x y = x ∙ sym y
-      by false kind.Int e x y = x ∙ sym y
-      by false kind.Ints e x y = x ∙ sym y
-      by false kind.Binary e x y = x ∙ sym y
-      by false kind.Array e x y = x ∙ sym y
+      by false _ e x y = x ∙ sym y
 
   from_key : (k : List ℕ) (ls : List Layered) → AllByRecursion IsTableFrom ls → AreFrom (at_key k ls)
   from_key k [] f = tt
@@ -197,10 +181,7 @@ module _ (bundles : Bundles) (sorted : AreSorted bundles) (plain : HasNoAliases 
       x.1.0 ∙ ap (λ (l : List Data). array (items_of l)) (items_one Is one used p.most 0 (children_of p.tree) x.0 y.0 (from_items p.tree f.0 k) x.1.1 y.1.1) ∙ sym y.1.0
   item_one Is one used kind.Table p d e k f x y = absurd (f.1.0 k)
   item_one Is one used kind.Alias p d e k f x y = absurd (f.1.1 k)
-  item_one Is one used kind.String p d e k f x y = x ∙ sym y
-  item_one Is one used kind.Int p d e k f x y = x ∙ sym y
-  item_one Is one used kind.Ints p d e k f x y = x ∙ sym y
-  item_one Is one used kind.Binary p d e k f x y = x ∙ sym y
+  item_one Is one used _ p d e k f x y = x ∙ sym y
 
   value_one : (Is : ℕ → Here → Data → Type 0) → IsOne Is → (used : ℕ) (h : Here) (d e : Data) → IsFine h → IsValue Is used h d → IsValue Is used h e → d ≡ e
   value_one Is one used nothing d e f x y = x ∙ sym y

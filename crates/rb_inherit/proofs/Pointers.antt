@@ -1,7 +1,6 @@
 -- Children of JSON values by their keys and indices.
-use Rattle.std.proofs.Common.{◌≡◌, ◌<◌, ◌+◌, ◌-◌, ◌*◌, ◌==◌, ◌&&◌, ◌||◌, ◌∙◌, ◌++◌, ℕ, zero, suc, List, [], ◌∷◌, Bool, true, false, not, cond, Some, None, refl, ap, sym, subst, arith, length, length-append, encode_utf8, encode_utf8_all, fold, get_or, slice_index, slice_get, decimal, nat_le, nat_lt}
+use Rattle.std.proofs.Common.{◌≡◌, ◌<◌, ◌+◌, ◌-◌, ◌*◌, ◌==◌, ◌&&◌, ◌||◌, ◌∙◌, ◌++◌, ℕ, zero, suc, List, [], ◌∷◌, Bool, true, false, not, cond, Some, None, refl, ap, sym, subst, arith, length, encode_utf8_all, fold, get_or, slice_index, slice_get, decimal, nat_le, nat_lt}
 use Rattle.std.specs.List.{AllByRecursion, list_all}
-use Rattle.std.specs.Char.{len_utf8}
 use Rattle.std.specs.Ordering.{match_ordering, nat_cmp, is_eq}
 use Rattle.std.specs.declared.cmp.Ordering.{Ordering}
 use Rattle.std.specs.declared.cmp.Ordering.TheVariants.{Less, Equal, Greater}
@@ -10,48 +9,18 @@ use Rattle.std.proofs.lemmas.Bool.{and_from, and_parts, eq-eqb, eqb-true, le-leb
 use Rattle.std.proofs.lemmas.Fmt.{decimal-digits_value, decimal_digit, decimal_nonempty, digits_decimal, digits_value-decimal, first_decimal}
 use Rattle.std.proofs.lemmas.Map.Text.{is_eq-slice_cmp}
 use Rattle.std.proofs.lemmas.Slice.Eq.{bytes_eq-Decides}
-use Rattle.std.proofs.lemmas.Str.{encode_ascii, encode_same, length-encode}
+use Rattle.std.proofs.lemmas.Str.{encode_ascii}
 use Rattle.std.proofs.lemmas.Str.Parse.{FoldsDigits, IsDigitsTest, IsNumeralModel, numerals_by_fold}
 use Rattle.serde_json.specs.Data.{Data}
 use Rattle.serde_json.specs.Find.{get_item, get_member}
 use Rattle.serde_json.specs.View.{items_of}
 use Rattle.rb_tree.specs.Path.{index_of, is_decimal, is_digit, value_of}
 use Rattle.rb_json.specs.Value.{key_text, tagged, with_colon}
+use Rattle.rb_json.proofs.SameValues.{encoded, key_same}
 use Rattle.rb_inherit.specs.Agreement.{child_data}
 use Rattle.rb_inherit.specs.Merged.{members_data}
 
 -- ---- keys and their texts
-some_bytes : (c : ℕ) → 0 < len_utf8 c
-some_bytes c = grind arith
-
-no_text : (c : ℕ) (bs : List ℕ) → [] ≡ encode_utf8 c ++ bs → ⊥
-no_text c bs h =
-    let long : 0 ≡ length (encode_utf8 c ++ bs) = ap length h in
-    omega (arith, long, length-append (encode_utf8 c) bs, length-encode c, some_bytes c)
-
-encoded : (cs ds : List ℕ) → encode_utf8_all cs ≡ encode_utf8_all ds → cs ≡ ds
-encoded [] [] h = refl
-encoded [] (d ∷ ds) h = absurd (no_text d (encode_utf8_all ds) h)
-encoded (c ∷ cs) [] h = absurd (no_text c (encode_utf8_all cs) (sym h))
-encoded (c ∷ cs) (d ∷ ds) h =
-    let same = encode_same c d (encode_utf8_all cs) (encode_utf8_all ds) h in
-    λ i. same.0 i ∷ encoded cs ds same.1 i
-
-abbrev without_colon : List ℕ → List ℕ
-without_colon [] = []
-without_colon (b ∷ bs) = cond (b == 58) bs (b ∷ bs)
-
-key_step : (b : ℕ) (bs : List ℕ) (t : Bool) → (b == 58) ≡ t → without_colon (cond t (58 ∷ b ∷ bs) (b ∷ bs)) ≡ b ∷ bs
-key_step b bs true e = refl
-key_step b bs false e = ap (λ (t : Bool). cond t bs (b ∷ bs)) e
-
-key_back : (k : List ℕ) → without_colon (with_colon k) ≡ k
-key_back [] = refl
-key_back (b ∷ bs) = key_step b bs (b == 58) refl
-
-pub key_same : (k l : List ℕ) → key_text k ≡ key_text l → k ≡ l
-key_same k l h = sym (key_back k) ∙ ap without_colon (encoded (with_colon k) (with_colon l) h) ∙ key_back l
-
 -- a tag is no key's text
 tag_by : (b : ℕ) (bs : List ℕ) (c : ℕ) (cs : List ℕ) (t : Bool) → (b == 58) ≡ t → (c == 58) ≡ false → cond t (58 ∷ b ∷ bs) (b ∷ bs) ≡ 58 ∷ c ∷ cs → ⊥
 tag_by b bs c cs true e f h =

@@ -322,13 +322,10 @@ next_array most j used k B p u h d low fine same_kind entered dec v =
     }
 
 shows_leaf : (k : Kind) (t : Resource) (d : Data) → IsLeaf k → Shows k t d → d ≡ value_of t
-shows_leaf kind.String t d l h = h
-shows_leaf kind.Int t d l h = h
-shows_leaf kind.Ints t d l h = h
-shows_leaf kind.Binary t d l h = h
 shows_leaf kind.Alias t d l h = absurd l
 shows_leaf kind.Array t d l h = absurd l
 shows_leaf kind.Table t d l h = absurd l
+shows_leaf _ t d l h = h
 
 before_tables : (most : ℕ) (bundles : Bundles) (ns ss : List (List ℕ)) → NoLinks bundles ns ss
     → AllByRecursion (λ m. (t : Resource) → walk_of (bundles m) ss ≡ ends t → kind_of t ≡ kind.Table) ns → AreTables (at_path most bundles ns ss)
@@ -391,10 +388,7 @@ module _ (bundles : Bundles) (before after : List (List ℕ)) (stop : List ℕ) 
           subst (λ (l : List Part). Next j used k (enters k l) (record { tree = u; most = p.most }) B d) (sym empty)
           (next_array most j used k B p u h d low one same e (subst (λ (l : List Part). Decides used (l ++ p ∷ B) h) empty dec) v)
       by kind.Alias same fine one e dec v = absurd (one.no_alias same)
-      by kind.String same fine one e dec v = leaf (λ t. let f = sym same ∙ t in cc) (λ t. let f = sym same ∙ t in cc) e
-      by kind.Int same fine one e dec v = leaf (λ t. let f = sym same ∙ t in cc) (λ t. let f = sym same ∙ t in cc) e
-      by kind.Ints same fine one e dec v = leaf (λ t. let f = sym same ∙ t in cc) (λ t. let f = sym same ∙ t in cc) e
-      by kind.Binary same fine one e dec v = leaf (λ t. let f = sym same ∙ t in cc) (λ t. let f = sym same ∙ t in cc) e
+      by _ same fine one e dec v = leaf (λ t. let f = sym same ∙ t in cc) (λ t. let f = sym same ∙ t in cc) e
 
   shown : (ks ss : List (List ℕ)) (j used : ℕ) (p : Part) (B qs : List Part) (h : Here) (d : Data) (t : Resource) → NoLinks bundles all_stops (ss ++ ks)
       → at_path most bundles all_stops ss ≡ (at_path most bundles before ss ++ p ∷ B) ++ qs → walk_of (bundles stop) ss ≡ ends p.tree

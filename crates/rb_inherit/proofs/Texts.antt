@@ -1,5 +1,5 @@
 -- The texts of merged tables and arrays, entry by entry.
-use Rattle.std.proofs.Common.{◌≡◌, ◌+◌, ℕ, true, List, [], ◌∷◌, ◌++◌, Some, length, map, take, refl, sym, ap, subst, ◌∙◌, append_assoc}
+use Rattle.std.proofs.Common.{◌≡◌, ◌+◌, ℕ, true, List, [], ◌∷◌, ◌++◌, Some, drop, length, map, take, refl, sym, ap, subst, ◌∙◌, append_assoc}
 use Rattle.std.proofs.Math.Seq.{take-append_seam, take-length}
 use Rattle.std.proofs.lemmas.List.{length-append}
 use Rattle.std.specs.List.{slice_get}
@@ -25,12 +25,7 @@ members_told (e ∷ es) =
 
 object_told : (es : List (List ℕ × Data)) → compact_text (object (members_data es)) ≡ 123 ∷ (listed entry_text es ++ 125 ∷ [])
 object_told [] = refl
-object_told (e ∷ es) =
-    let name = quoted (key_text e.0) in
-    let text = compact_text e.1 in
-    ap (λ (t : List ℕ). 123 ∷ (name ++ 58 ∷ (text ++ t))) (members_told es)
-    ∙ ap (λ (t : List ℕ). 123 ∷ t) (sym (append_assoc (name ++ 58 ∷ text) (after_commas entry_text es) (125 ∷ [])
-    ∙ append_assoc name (58 ∷ text) (after_commas entry_text es ++ 125 ∷ [])))
+object_told (e ∷ es) = ap (λ (t : List ℕ). 123 ∷ drop 1 t) (members_told (e ∷ es))
 
 same_map : (ds : List Data) → map (λ d. d) ds ≡ ds
 same_map [] = refl

@@ -6,7 +6,7 @@ use Rattle.std.proofs.lemmas.List.Elements.{All-tail}
 use Rattle.std.proofs.lemmas.List.Splits.{slice_split_first, slice_split_none}
 use Rattle.std.proofs.lemmas.List.Sums.{fails_before_first}
 use Rattle.std.proofs.lemmas.List.{drop_all, take_all, length-drop, drop-drop}
-use Rattle.rb_tree.specs.Resource.{Resource, string, int, ints, binary, alias, array, table}
+use Rattle.rb_tree.specs.Resource.{Resource, alias}
 use Rattle.rb_tree.specs.Parts.{kind_of}
 use Rattle.rb_tree.specs.declared.kind.Kind.TheVariants as kind
 use Rattle.rb_tree.specs.Walk.{Walked, ends, links, gone, enter, after, onward, walk}
@@ -106,13 +106,8 @@ reached_gone t u path at k r a h e none =
     r.walks ∙ ap (afters r.front) one ∙ afters_gone r.front
 
 walk_none : (u : Resource) → (kind_of u ≡ kind.Alias → ⊥) → walk u [] ≡ ends u
-walk_none (string us) k = refl
-walk_none (int i) k = refl
-walk_none (ints zs) k = refl
-walk_none (binary bs) k = refl
 walk_none (alias us) k = absurd (k refl)
-walk_none (array ts) k = refl
-walk_none (table es) k = refl
+walk_none _ k = refl
 
 pub reached_end : (t u : Resource) (path : List ℕ) (at : ℕ) → Reached t path u at → (kind_of u ≡ kind.Alias → ⊥) → length path ≤ at
     → walk t (steps_of path) ≡ ends u
@@ -126,12 +121,7 @@ record Alias (u : Resource) : Type 0 where
 
 alias_of : (u : Resource) → kind_of u ≡ kind.Alias → Alias u
 alias_of (alias us) k = record { units = us; is = refl }
-alias_of (string us) k = absurd cc
-alias_of (int i) k = absurd cc
-alias_of (ints zs) k = absurd cc
-alias_of (binary bs) k = absurd cc
-alias_of (array ts) k = absurd cc
-alias_of (table es) k = absurd cc
+alias_of _ k = absurd cc
 
 left_over : (path : List ℕ) (at left : ℕ) → left ≡ length path - at → drop (length path - left) path ≡ drop at path
 left_over path at left e = by (nat_lt at (length path)) refl
