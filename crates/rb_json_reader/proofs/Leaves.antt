@@ -3,7 +3,7 @@ use Rattle.std.proofs.Common.{◌≡◌, ◌∷◌, [], ◌++◌, ℕ, ℤ, List
 use Rattle.std.specs.Char.Utf16.{has_unpaired_surrogate, utf16_lossy_chars}
 use Rattle.json.specs.Token.{Token, begin_array, end_array, begin_object, end_object, key}
 use Rattle.json.specs.Token as token
-use Rattle.serde_json.specs.Data.{Data, number, string, array, unsigned}
+use Rattle.serde_json.specs.Data.{Data, Num, number, string, array}
 use Rattle.serde_json.specs.View.{items_of}
 use Rattle.serde_json.specs.Find.{of_integer}
 use Rattle.serde_json.specs.Written.{number_text}
@@ -22,11 +22,8 @@ each_push f [] x = append-nil (f x)
 each_push f (y ∷ xs) x = ap (λ ts. f y ++ ts) (each_push f xs x) ∙ sym (append_assoc (f y) (each f xs) (f x))
 
 -- ---- lists of numbers
-abbrev pub unit_data : ℕ → Data
-unit_data u = number (unsigned u)
-
-abbrev pub element_data : ℤ → Data
-element_data z = number (of_integer z)
+abbrev pub number_by : {A : Type 0} → (A → Num) → A → Data
+number_by f x = number (f x)
 
 -- the first of the tokens are those of these items, and the others follow
 abbrev pub Items : {A : Type 0} → (A → Data) → List Token → List A → List Token → Type 0

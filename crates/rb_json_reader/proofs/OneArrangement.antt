@@ -1,19 +1,15 @@
 -- Trees that are arranged from one tree are equal.
 use Rattle.std.proofs.Common.{◌≡◌, ◌∷◌, ℕ, List, ap, ap₂, subst, sym, ◌∙◌}
-use Rattle.rb_tree.specs.Resource.{Resource, string, int, ints, binary, alias, array, table, Resources, no_trees, tree_and, Members, no_entries, entry_and}
+use Rattle.rb_tree.specs.Resource.{Resource, array, table, Resources, no_trees, tree_and, Members, no_entries, entry_and}
 use Rattle.rb_tree.specs.Table.{IsTableOf}
 use Rattle.rb_tree.proofs.OneTable.{one_table}
 use Rattle.rb_json_reader.specs.Arranged.{Arranges, ItemsArrange, EntriesArrange}
 
 mutual
   pub one_arranged : (u t v : Resource) → Arranges u t → Arranges u v → t ≡ v
-  one_arranged (string us) t v a b = a ∙ sym b
-  one_arranged (int n) t v a b = a ∙ sym b
-  one_arranged (ints zs) t v a b = a ∙ sym b
-  one_arranged (binary bs) t v a b = a ∙ sym b
-  one_arranged (alias us) t v a b = a ∙ sym b
   one_arranged (array us) t v a b = a.1 ∙ ap array (one_items us a.0 b.0 a.2 b.2) ∙ sym b.1
   one_arranged (table es) t v a b = one_table b.0 t v (subst (λ ps. IsTableOf ps t) (one_entries es a.0 b.0 a.1 b.1) a.3) b.3
+  one_arranged _ t v a b = a ∙ sym b
 
   one_items : (us ts vs : Resources) → ItemsArrange us ts → ItemsArrange us vs → ts ≡ vs
   one_items no_trees ts vs a b = a ∙ sym b

@@ -7,11 +7,7 @@ use Rattle.std.specs.Char.Utf16.{utf16_chars, utf16_lossy_chars, has_unpaired_su
 use Rattle.std.proofs.lemmas.Bool.{ltb-true, ltb-false, leb-true}
 use Rattle.std.proofs.lemmas.Str.{utf16_chars-nil, utf16_chars_lone, utf16_chars_pair}
 use Rattle.std.proofs.str.Utf16.{IsPair, lone_unit_char_low, lone_unit_char_high}
-
--- the units of characters
-abbrev pub units_for : List ℕ → List ℕ
-units_for [] = []
-units_for (c ∷ cs) = encode_utf16 c ++ units_for cs
+use Rattle.rb_json.proofs.SameValues.{units_for}
 
 abbrev Range : ℕ → Type 0
 Range c = (c < 0xD800) ⊎ ((0xE000 ≤ c) × (c < 0x11_0000))

@@ -67,10 +67,15 @@ pub(crate) struct Fault {
     pub at: usize,
 }
 
-const MEMORY: Fault = Fault {
-    kind: JsonFaultKind::Memory,
-    at: 0,
-};
+impl Fault {
+    ghost use Rattle.std.specs.Prelude.{◌≡◌};
+
+    pub fn new(kind: JsonFaultKind, at: usize) -> Fault
+        ensures { result.kind ≡ kind }
+    {
+        Fault { kind, at }
+    }
+}
 
 impl From<AllocError> for Fault {
     ghost use Rattle.std.specs.Prelude.{◌≡◌};
@@ -79,7 +84,7 @@ impl From<AllocError> for Fault {
     ghost from_gives = { λ _ e. e.kind ≡ Memory };
 
     fn from(_: AllocError) -> Self {
-        MEMORY
+        Fault::new(JsonFaultKind::Memory, 0)
     }
 }
 
@@ -90,6 +95,6 @@ impl<T: Drop> From<AllocFailed<T>> for Fault {
     ghost from_gives = { λ _ e. e.kind ≡ Memory };
 
     fn from(_: AllocFailed<T>) -> Self {
-        MEMORY
+        Fault::new(JsonFaultKind::Memory, 0)
     }
 }

@@ -24,10 +24,7 @@ impl<'a> Input<'a> {
         ensures { self.new.reader ≡ self.old.reader }
     {
         if weight > self.weight_left {
-            return Err(Fault {
-                kind: JsonFaultKind::TooLarge,
-                at,
-            });
+            return Err(Fault::new(JsonFaultKind::TooLarge, at));
         }
         self.weight_left -= weight;
         Ok(())
@@ -50,10 +47,7 @@ impl<'a> Input<'a> {
         let at = self.at();
         match self.reader.next() {
             Some(token) => Ok(token),
-            None => Err(Fault {
-                kind: JsonFaultKind::NotJson,
-                at,
-            }),
+            None => Err(Fault::new(JsonFaultKind::NotJson, at)),
         }
     }
 
@@ -68,10 +62,7 @@ impl<'a> Input<'a> {
         match self.reader.next() {
             Some(Token::Key(key)) => Ok(Some(key)),
             Some(Token::EndObject) => Ok(None),
-            _ => Err(Fault {
-                kind: JsonFaultKind::NotJson,
-                at,
-            }),
+            _ => Err(Fault::new(JsonFaultKind::NotJson, at)),
         }
     }
 }

@@ -1,9 +1,10 @@
-ghost use Rattle.std.specs.Prelude.{◌≡◌, ◌<◌, ◌∷◌, [], ◌++◌, length, true, false, codes};
+ghost use Rattle.std.specs.Prelude.{◌≡◌, ◌<◌, ◌∷◌, [], ◌++◌, length, map, true, false};
 ghost use Rattle.std.specs.Prelude.{IfOk, OnOk, encode_utf8_all};
 ghost use Rattle.std.specs.Char.Utf16.{has_unpaired_surrogate, utf16_lossy_chars};
 ghost use Rattle.hex.specs.Hex.{encode_lower};
 ghost use Rattle.json.specs.Token as spec;
-ghost use Rattle.rb_json.specs.Leaf.{numbers_data, units_data};
+ghost use Rattle.serde_json.specs.Data.{array, number};
+ghost use Rattle.serde_json.specs.View.{items_of};
 ghost use Rattle.rb_json.specs.Tokens.{data_tokens};
 ghost use Rattle.rb_json.specs.Value.{value_of};
 ghost use Rattle.rb_tree.specs.Parts.{HasUnits, kind_of, units_of};
@@ -13,18 +14,13 @@ ghost use Rattle.rb_json_reader.specs.inner.Reading.{ReadsLeaf, ReadsTag};
 
 use crate::fault::{Fault, JsonFaultKind};
 use crate::input::Input;
-use crate::number::{read_int, read_integer, read_unit};
+use crate::number::{Element, read_int};
 use crate::text::units_of;
 use hex::FromHexError;
 use json::Token;
 use rb_json::is_well_formed;
-use rb_tree::{ByteList, NumberList, Tree, UnitList};
+use rb_tree::{ByteList, OwnedList, Tree, UnitList};
 use std::alloc::Global;
-
-/// Makes a fault.
-fn fault(kind: JsonFaultKind, at: usize) -> Fault {
-    Fault { kind, at }
-}
 
 /// Counts the weight of a String or an Alias of this many units.
 fn spend_units(input: &mut Input, at: usize, len: usize) -> Result<(), Fault>
@@ -69,7 +65,7 @@ pub(crate) fn read_number(at: usize, text: &str) -> Result<Tree, Fault>
 {
     match read_int(text) {
         Some(number) => Ok(Tree::Int(number)),
-        None => Err(fault(JsonFaultKind::BadNumber, at)),
+        None => Err(Fault::new(JsonFaultKind::BadNumber, at)),
     }
 }
 
@@ -82,47 +78,27 @@ fn number_text<'a>(input: &mut Input<'a>) -> Result<&'a str, Fault>
     let at = input.at();
     match input.token()? {
         Token::Number(text) => Ok(text),
-        Token::Bad => Err(fault(JsonFaultKind::NotJson, at)),
-        _ => Err(fault(JsonFaultKind::BadNumber, at)),
+        Token::Bad => Err(Fault::new(JsonFaultKind::NotJson, at)),
+        _ => Err(Fault::new(JsonFaultKind::BadNumber, at)),
     }
 }
 
-/// Reads the units of a list, and its closing bracket.
-#[tactic(auto, using(crate::proofs::Leaves::items_more, crate::proofs::Leaves::items_all))]
-fn read_unit_list(alloc: Global, input: &mut Input) -> Result<UnitList, Fault>
-    ensures tokens { IfOk result (λ us. spec.begin_array ∷ input.old.reader
-        ≡ data_tokens (units_data us) ++ input.new.reader) }
+/// Reads the numbers of a list, and its closing bracket.
+fn read_list<E: Element>(alloc: Global, input: &mut Input) -> Result<OwnedList<E>, Fault>
+    ensures tokens { IfOk result (λ xs. spec.begin_array ∷ input.old.reader
+        ≡ data_tokens (array (items_of (map (λ x. number (E.number x)) xs))) ++ input.new.reader) }
     ensures shorter { OnOk result (length input.new.reader < length input.old.reader) }
 {
-    let mut units = Vec::new(alloc);
+    let mut elements = Vec::new(alloc);
     while !input.take_end_array() {
         let at = input.at();
-        let Some(unit) = read_unit(number_text(input)?) else {
-            return Err(fault(JsonFaultKind::BadNumber, at));
+        let Some(element) = E::read(number_text(input)?) else {
+            return Err(Fault::new(JsonFaultKind::BadNumber, at));
         };
-        input.spend(at, 2)?;
-        units.push(unit)?;
+        input.spend(at, E::WEIGHT)?;
+        elements.push(element)?;
     }
-    Ok(UnitList::from_vec(units))
-}
-
-/// Reads the numbers of a vector, and its closing bracket.
-#[tactic(auto, using(crate::proofs::Leaves::items_more, crate::proofs::Leaves::items_all))]
-fn read_number_list(alloc: Global, input: &mut Input) -> Result<NumberList, Fault>
-    ensures tokens { IfOk result (λ zs. spec.begin_array ∷ input.old.reader
-        ≡ data_tokens (numbers_data zs) ++ input.new.reader) }
-    ensures shorter { OnOk result (length input.new.reader < length input.old.reader) }
-{
-    let mut numbers = Vec::new(alloc);
-    while !input.take_end_array() {
-        let at = input.at();
-        let Some(number) = read_integer(number_text(input)?) else {
-            return Err(fault(JsonFaultKind::BadNumber, at));
-        };
-        input.spend(at, 4)?;
-        numbers.push(number)?;
-    }
-    Ok(NumberList::from_vec(numbers))
+    Ok(OwnedList::from_vec(elements))
 }
 
 /// Returns the tree if its text isn't well-formed UTF-16, as one that is given by its units.
@@ -133,64 +109,9 @@ fn ill_formed(at: usize, tree: Tree) -> Result<Tree, Fault>
         (λ t. has_unpaired_surrogate (units_of (view_of t)) ≡ true) }
 {
     if is_well_formed(&tree) {
-        return Err(fault(JsonFaultKind::BadUnits, at));
+        return Err(Fault::new(JsonFaultKind::BadUnits, at));
     }
     Ok(tree)
-}
-
-/// Reads the value of `:units`.
-#[tactic(auto, using(crate::proofs::Leaves::units_read))]
-fn read_units(alloc: Global, input: &mut Input) -> Result<Tree, Fault>
-    ensures reads { IfOk result (λ t.
-        ReadsTag (codes ":units") input.old.reader (view_of t) input.new.reader) }
-    ensures shorter { OnOk result (length input.new.reader < length input.old.reader) }
-{
-    let at = input.at();
-    match input.token()? {
-        Token::BeginArray => {
-            input.spend(at, 8)?;
-            ill_formed(at, Tree::String(read_unit_list(alloc, input)?))
-        }
-        Token::Bad => Err(fault(JsonFaultKind::NotJson, at)),
-        _ => Err(fault(JsonFaultKind::BadTag, at)),
-    }
-}
-
-/// Reads the value of `:alias`.
-#[tactic(auto, using(crate::proofs::Leaves::alias_read, crate::proofs::Leaves::lone_alias_read))]
-fn read_alias(alloc: Global, input: &mut Input) -> Result<Tree, Fault>
-    ensures reads { IfOk result (λ t.
-        ReadsTag (codes ":alias") input.old.reader (view_of t) input.new.reader) }
-    ensures shorter { OnOk result (length input.new.reader < length input.old.reader) }
-{
-    let at = input.at();
-    match input.token()? {
-        Token::String(text) => Ok(Tree::Alias(read_text(alloc, input, at, text)?)),
-        Token::BeginArray => {
-            input.spend(at, 8)?;
-            ill_formed(at, Tree::Alias(read_unit_list(alloc, input)?))
-        }
-        Token::Bad => Err(fault(JsonFaultKind::NotJson, at)),
-        _ => Err(fault(JsonFaultKind::BadTag, at)),
-    }
-}
-
-/// Reads the value of `:intvector`.
-#[tactic(auto, using(crate::proofs::Leaves::ints_read))]
-fn read_ints(alloc: Global, input: &mut Input) -> Result<Tree, Fault>
-    ensures reads { IfOk result (λ t.
-        ReadsTag (codes ":intvector") input.old.reader (view_of t) input.new.reader) }
-    ensures shorter { OnOk result (length input.new.reader < length input.old.reader) }
-{
-    let at = input.at();
-    match input.token()? {
-        Token::BeginArray => {
-            input.spend(at, 4)?;
-            Ok(Tree::Ints(read_number_list(alloc, input)?))
-        }
-        Token::Bad => Err(fault(JsonFaultKind::NotJson, at)),
-        _ => Err(fault(JsonFaultKind::BadTag, at)),
-    }
 }
 
 /// Reads bytes from lower-case hexadecimal digits, two a byte.
@@ -199,48 +120,85 @@ fn read_bytes(alloc: Global, at: usize, text: &str) -> Result<Vec<u8>, Fault>
 {
     let bytes = match hex::decode(alloc, text) {
         Ok(bytes) => bytes,
-        Err(FromHexError::OutOfMemory) => return Err(fault(JsonFaultKind::Memory, 0)),
-        Err(_) => return Err(fault(JsonFaultKind::BadBinary, at)),
+        Err(FromHexError::OutOfMemory) => return Err(Fault::new(JsonFaultKind::Memory, 0)),
+        Err(_) => return Err(Fault::new(JsonFaultKind::BadBinary, at)),
     };
     // Digits are compared with those that are printed: others would be a second text of the bytes.
     let printed = hex::encode(alloc, bytes.as_slice())?;
     if printed.as_str() != text {
-        return Err(fault(JsonFaultKind::BadBinary, at));
+        return Err(Fault::new(JsonFaultKind::BadBinary, at));
     }
     Ok(bytes)
 }
 
-/// Reads the value of `:bin`.
-#[tactic(auto, using(crate::proofs::Leaves::binary_read))]
-fn read_binary(alloc: Global, input: &mut Input) -> Result<Tree, Fault>
+/// Reads the value of a tag that is a string.
+#[tactic(auto, using(crate::proofs::Leaves::alias_read, crate::proofs::Leaves::binary_read))]
+fn read_string_tag(
+    alloc: Global,
+    input: &mut Input,
+    at: usize,
+    name: &str,
+    text: &str,
+) -> Result<Tree, Fault>
+    ensures same { input.new.reader ≡ input.old.reader }
     ensures reads { IfOk result (λ t.
-        ReadsTag (codes ":bin") input.old.reader (view_of t) input.new.reader) }
-    ensures shorter { OnOk result (length input.new.reader < length input.old.reader) }
+        ReadsTag name.now (spec.string text.now ∷ input.old.reader) (view_of t) input.new.reader) }
 {
-    let at = input.at();
-    match input.token()? {
-        Token::String(text) => {
+    match name {
+        ":alias" => Ok(Tree::Alias(read_text(alloc, input, at, text)?)),
+        ":bin" => {
             let bytes = read_bytes(alloc, at, text)?;
             input.spend(at, (bytes.len() as u64).saturating_add(20))?;
             Ok(Tree::Binary(ByteList::from_vec(bytes)))
         }
-        Token::Bad => Err(fault(JsonFaultKind::NotJson, at)),
-        _ => Err(fault(JsonFaultKind::BadTag, at)),
+        _ => Err(Fault::new(JsonFaultKind::BadTag, at)),
     }
 }
 
-/// Reads the value of a tag that begins at this byte.
-fn read_tag_value(alloc: Global, input: &mut Input, at: usize, name: &str) -> Result<Tree, Fault>
+/// Reads the value of a tag that is a list, after its opening bracket.
+#[tactic(auto, using(crate::proofs::Leaves::lone_alias_read, crate::proofs::Leaves::ints_read, crate::proofs::Leaves::units_read))]
+fn read_list_tag(alloc: Global, input: &mut Input, at: usize, name: &str) -> Result<Tree, Fault>
+    ensures reads { IfOk result (λ t.
+        ReadsTag name.now (spec.begin_array ∷ input.old.reader) (view_of t) input.new.reader) }
+    ensures shorter { OnOk result (length input.new.reader < length input.old.reader) }
+{
+    match name {
+        ":alias" => {
+            input.spend(at, 8)?;
+            ill_formed(at, Tree::Alias(read_list(alloc, input)?))
+        }
+        ":intvector" => {
+            input.spend(at, 4)?;
+            Ok(Tree::Ints(read_list(alloc, input)?))
+        }
+        ":units" => {
+            input.spend(at, 8)?;
+            ill_formed(at, Tree::String(read_list(alloc, input)?))
+        }
+        _ => Err(Fault::new(JsonFaultKind::BadTag, at)),
+    }
+}
+
+/// Reads the value of a tag, whose name begins at a byte.
+fn read_tag_value(
+    alloc: Global,
+    input: &mut Input,
+    name_at: usize,
+    name: &str,
+) -> Result<Tree, Fault>
     ensures reads { IfOk result (λ t.
         ReadsTag name.now input.old.reader (view_of t) input.new.reader) }
     ensures shorter { OnOk result (length input.new.reader < length input.old.reader) }
 {
-    match name {
-        ":alias" => read_alias(alloc, input),
-        ":bin" => read_binary(alloc, input),
-        ":intvector" => read_ints(alloc, input),
-        ":units" => read_units(alloc, input),
-        _ => Err(fault(JsonFaultKind::BadTag, at)),
+    if !matches!(name, ":alias" | ":bin" | ":intvector" | ":units") {
+        return Err(Fault::new(JsonFaultKind::BadTag, name_at));
+    }
+    let at = input.at();
+    match input.token()? {
+        Token::String(text) => read_string_tag(alloc, input, at, name, text),
+        Token::BeginArray => read_list_tag(alloc, input, at, name),
+        Token::Bad => Err(Fault::new(JsonFaultKind::NotJson, at)),
+        _ => Err(Fault::new(JsonFaultKind::BadTag, at)),
     }
 }
 
@@ -260,6 +218,6 @@ pub(crate) fn read_tagged(
     let at = input.at();
     match input.key()? {
         None => Ok(tree),
-        Some(_) => Err(fault(JsonFaultKind::BadTag, at)),
+        Some(_) => Err(Fault::new(JsonFaultKind::BadTag, at)),
     }
 }

@@ -42,14 +42,11 @@ impl Rows {
         let Rows { pairs, places } = self;
         match Tree::keyed_table(alloc, pairs) {
             Ok(tree) => Ok(tree),
-            Err(TableFault::Memory) => Err(Fault {
-                kind: JsonFaultKind::Memory,
-                at: 0,
-            }),
-            Err(TableFault::DuplicateKey(i)) => Err(Fault {
-                kind: JsonFaultKind::DuplicateKey,
-                at: places.get(i).copied().unwrap_or(0),
-            }),
+            Err(TableFault::Memory) => Err(Fault::new(JsonFaultKind::Memory, 0)),
+            Err(TableFault::DuplicateKey(i)) => {
+                let at = places.get(i).copied().unwrap_or(0);
+                Err(Fault::new(JsonFaultKind::DuplicateKey, at))
+            }
         }
     }
 }

@@ -26,22 +26,13 @@ fn read_text(alloc: Global, text: &str) -> Result<Tree, Fault>
     let at = input.at();
     let tree = read_value(alloc, &mut input, HEIGHT_LIMIT)?;
     if input.at() < text.len() || input.reader.next().is_some() {
-        return Err(Fault {
-            kind: JsonFaultKind::TrailingText,
-            at: input.at(),
-        });
+        return Err(Fault::new(JsonFaultKind::TrailingText, input.at()));
     }
     if !matches!(tree, Tree::Table(_)) {
-        return Err(Fault {
-            kind: JsonFaultKind::NotTable,
-            at,
-        });
+        return Err(Fault::new(JsonFaultKind::NotTable, at));
     }
     if !tree.fits() {
-        return Err(Fault {
-            kind: JsonFaultKind::TooLarge,
-            at,
-        });
+        return Err(Fault::new(JsonFaultKind::TooLarge, at));
     }
     Ok(tree)
 }

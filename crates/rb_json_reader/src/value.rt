@@ -31,14 +31,11 @@ pub(crate) fn read_value(alloc: Global, input: &mut Input, depth: u64) -> Result
         Token::Number(text) => read_number(at, text),
         Token::BeginArray => read_array(alloc, input, at, depth - 1),
         Token::BeginObject => read_object(alloc, input, depth - 1),
-        Token::Bool(_) | Token::Null => Err(Fault {
-            kind: JsonFaultKind::UnknownValue,
+        Token::Bool(_) | Token::Null => Err(Fault::new(JsonFaultKind::UnknownValue, at)),
+        Token::EndObject | Token::EndArray | Token::Key(_) | Token::Bad => Err(Fault::new(
+            JsonFaultKind::NotJson,
             at,
-        }),
-        Token::EndObject | Token::EndArray | Token::Key(_) | Token::Bad => Err(Fault {
-            kind: JsonFaultKind::NotJson,
-            at,
-        }),
+        )),
     }
 }
 
@@ -48,7 +45,7 @@ fn depth_fault(at: usize, token: &Token) -> Fault {
         Token::EndObject | Token::EndArray | Token::Key(_) | Token::Bad => JsonFaultKind::NotJson,
         _ => JsonFaultKind::TooDeep,
     };
-    Fault { kind, at }
+    Fault::new(kind, at)
 }
 
 /// Reads the items of an array and its closing bracket. Each has at most `depth` levels.
@@ -122,16 +119,10 @@ fn key_at(alloc: Global, input: &mut Input, at: usize, name: &str) -> Result<Key
     ensures key { IfOk result (λ key. IsKey key × (key_text key ≡ name.now)) }
 {
     if is_tag(name.as_bytes()) {
-        return Err(Fault {
-            kind: JsonFaultKind::BadTag,
-            at,
-        });
+        return Err(Fault::new(JsonFaultKind::BadTag, at));
     }
     let Some(key) = read_key(alloc, name.as_bytes())? else {
-        return Err(Fault {
-            kind: JsonFaultKind::BadKey,
-            at,
-        });
+        return Err(Fault::new(JsonFaultKind::BadKey, at));
     };
     input.spend(at, (key.as_slice().len() as u64).saturating_add(9))?;
     Ok(key)
