@@ -1,7 +1,6 @@
 //! Trees with inheritance: an item with everything that its locale inherits, as one JSON value.
 #![tactic(auto)]
 
-mod count;
 mod error;
 mod follow;
 mod found;

@@ -11,7 +11,6 @@ ghost use Rattle.rb_inherit.specs.Lookups.{FollowsLookup, IsTreeOf};
 ghost use Rattle.rb_inherit.specs.Merged.{IsTreeAt, Writes};
 ghost use Rattle.rb_inherit.specs.inner.AtPath.{HasParts, IsNew};
 
-use crate::count::Count;
 use crate::error::{TreeError, WalkError};
 use crate::follow::add_root;
 use crate::leaf::put_leaf;
@@ -20,7 +19,7 @@ use crate::place::Place;
 use crate::shelves::{Shelves, Stops};
 use crate::tree::put_found;
 use rb_fallback::{Found, look};
-use rb_json::{Buffer, Outlet};
+use rb_json::{Buffer, Outlet, Room};
 use rb_locales::Name;
 use rb_parents::{Parents, Shelf};
 use rb_tree::{HEIGHT_LIMIT, Kind, Node};
@@ -159,13 +158,14 @@ pub fn tree_size<'a, S: Shelf<'a>, I: Shelf<'a, N = S::N>>(
     ensures valid { IfOk result
         (λ size. first_stop (S.bundles own) (parent_of parents.now) name.now ≡ Some size.valid) }
 {
-    let mut count = Count::new(TREE_LIMIT.min(limits.bytes));
-    let found = put_from(&mut count, alloc, own, icu, parents, name, path, limits)?;
-    match count.total() {
-        Some(bytes) => Ok(TreeSize {
+    let most = TREE_LIMIT.min(limits.bytes);
+    let mut room = Room { left: Some(most) };
+    let found = put_from(&mut room, alloc, own, icu, parents, name, path, limits)?;
+    match room.left {
+        Some(left) => Ok(TreeSize {
             actual: found.actual,
             valid: found.valid,
-            bytes,
+            bytes: most.saturating_sub(left),
         }),
         None => Err(TreeError::TreeTooLarge),
     }

@@ -6,6 +6,7 @@ pub mod Printed
 pub mod Sound
 pub mod Item
 pub mod Outlet
+pub mod Counted
 pub mod Parts
 pub mod Stored
 pub mod inner

@@ -8,6 +8,7 @@ mod layout;
 mod limit;
 mod list;
 mod outlet;
+mod room;
 mod spell;
 mod text;
 mod units;
@@ -19,6 +20,7 @@ pub use layout::Layout;
 pub use limit::is_within;
 pub use list::skips_items;
 pub use outlet::Outlet;
+pub use room::Room;
 pub use spell::{
     is_well_formed, spell_bytes, spell_hex, spell_integer, spell_text, spell_units, spell_unsigned,
 };

@@ -11,9 +11,9 @@ ghost use Rattle.rb_replies.specs.Extended.{stored_data, text_data, tree_line};
 ghost use Rattle.rb_replies.specs.Within.{IsAbove};
 ghost use Rattle.rb_replies.specs.inner.Refusals.{code_text, number_text};
 
-use crate::limit::{Room, is_above};
+use crate::limit::is_above;
 use crate::reply::put_line;
-use rb_json::{Outlet, put_name, skips_items, spell_bytes, spell_text, spell_unsigned};
+use rb_json::{Outlet, Room, put_name, skips_items, spell_bytes, spell_text, spell_unsigned};
 use rb_locales::Name;
 
 /// The members of a refusal's reply, except its code.

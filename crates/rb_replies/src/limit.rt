@@ -10,40 +10,8 @@ ghost use Rattle.rb_views.specs.Seen.{tree_seen};
 use crate::reply::{put_found_line, put_reply};
 use rb_engine::Reply;
 use rb_fallback::Found;
-use rb_json::{Outlet, put_found};
+use rb_json::{Room, put_found};
 use rb_views::Item;
-
-/// An outlet that counts down the bytes that a text may still have; `None` once the text is longer.
-#[derive(Clone, Copy)]
-pub(crate) struct Room {
-    pub(crate) left: Option<u64>,
-}
-
-impl Outlet for Room {
-    ghost use Rattle.rb_replies.specs.inner.Counted.{IsRoomAfter, room_joined, room_nothing};
-
-    ghost takes = { λ old new bytes. IsRoomAfter old.left new.left bytes };
-
-    ghost nothing = { λ room. room_nothing room.left };
-
-    ghost joined = { λ x y z first second. room_joined x.left y.left z.left first second };
-
-    fn put(&mut self, bytes: &[u8]) {
-        if let Some(left) = self.left {
-            self.left = left.checked_sub(bytes.len() as u64);
-        }
-    }
-
-    fn skips(&mut self, least: u64) -> bool {
-        match self.left {
-            Some(left) if least <= left => false,
-            _ => {
-                self.left = None;
-                true
-            }
-        }
-    }
-}
 
 /// Checks whether a line that a function writes exceeds a limit, if there is one.
 macro_rules! is_above {

@@ -1,4 +1,4 @@
--- For what is private. Defines the number of bytes that a text may still have, as its bytes are counted.
+-- Defines the number of bytes that a text may still have, as its bytes are counted.
 use Rattle.std.specs.Prelude.{◌≡◌, ◌+◌, ◌<◌, ℕ, List, [], ◌++◌, length, Option, Some, None}
 use Rattle.std.proofs.Common.{length-append, arith}
 
