@@ -87,48 +87,8 @@ fn put_valid<O: Outlet>(out: &mut O, valid: Option<&[u8]>)
     }
 }
 
-/// Writes the members of a text that isn't well-formed UTF-16.
-fn put_ill_formed<O: Outlet, N: Node>(
-    out: &mut O,
-    later: bool,
-    node: N,
-    word: &str,
-    valid: Option<&[u8]>,
-)
-    requires { HasUnits (kind_of (N.tree node)) }
-    ensures { O.takes out.old out.new (rest_text later (option_map (λ v. v.now) valid.entry)
-        (put (codes "units") (units_data (units_of (N.tree node))) (of_type word.now))) }
-{
-    put_name(out, later, "type");
-    spell_text(out, word);
-    put_name(out, true, "units");
-    put_units(out, node, Layout::Compact, 0);
-    put_valid(out, valid);
-    out.put(b"}")
-}
-
-fn put_well_formed<O: Outlet, N: Node>(
-    out: &mut O,
-    later: bool,
-    node: N,
-    word: &str,
-    valid: Option<&[u8]>,
-)
-    requires { HasUnits (kind_of (N.tree node)) }
-    ensures { O.takes out.old out.new (rest_text later (option_map (λ v. v.now) valid.entry)
-        (put (codes "value") (string (encode_utf8_all (utf16_lossy_chars (units_of (N.tree node)))))
-        (of_type word.now))) }
-{
-    put_name(out, later, "type");
-    spell_text(out, word);
-    put_valid(out, valid);
-    put_name(out, true, "value");
-    spell_units(out, node);
-    out.put(b"}")
-}
-
-/// Writes the members of a text, of which not even a unit is read if the outlet has no room for
-/// one byte for each.
+/// Writes the members of a text, by its characters or else its units. Not even a unit is read if
+/// the outlet has no room for one byte for each.
 fn put_text<O: Outlet, N: Node>(out: &mut O, later: bool, node: N, word: &str, valid: Option<&[u8]>)
     requires { HasUnits (kind_of (N.tree node)) }
     ensures { O.takes out.old out.new (rest_text later (option_map (λ v. v.now) valid.entry)
@@ -137,10 +97,18 @@ fn put_text<O: Outlet, N: Node>(out: &mut O, later: bool, node: N, word: &str, v
     if out.skips(node.len() as u64) {
         return;
     }
+    put_name(out, later, "type");
+    spell_text(out, word);
     if is_well_formed(node) {
-        put_well_formed(out, later, node, word, valid)
+        put_valid(out, valid);
+        put_name(out, true, "value");
+        spell_units(out, node);
+        out.put(b"}")
     } else {
-        put_ill_formed(out, later, node, word, valid)
+        put_name(out, true, "units");
+        put_units(out, node, Layout::Compact, 0);
+        put_valid(out, valid);
+        out.put(b"}")
     }
 }
 
