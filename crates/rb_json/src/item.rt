@@ -137,19 +137,6 @@ fn put_int<O: Outlet>(out: &mut O, later: bool, bits: u32, valid: Option<&[u8]>)
     out.put(b"}")
 }
 
-fn put_ints<O: Outlet, N: Node>(out: &mut O, later: bool, node: N, valid: Option<&[u8]>)
-    requires { kind_of (N.tree node) ≡ Kinds.Ints }
-    ensures { O.takes out.old out.new
-        (rest_text later (option_map (λ v. v.now) valid.entry) (item_members (N.tree node))) }
-{
-    put_name(out, later, "type");
-    spell_text(out, "intvector");
-    put_valid(out, valid);
-    put_name(out, true, "values");
-    put_numbers(out, node, Layout::Compact, 0);
-    out.put(b"}")
-}
-
 /// Writes the members of an item ascending, with `valid` if it is given, and the closing brace.
 fn put_members<O: Outlet, N: Node>(out: &mut O, later: bool, node: N, valid: Option<&[u8]>)
     ensures { O.takes out.old out.new
@@ -158,7 +145,14 @@ fn put_members<O: Outlet, N: Node>(out: &mut O, later: bool, node: N, valid: Opt
     match node.kind() {
         Kind::String => put_text(out, later, node, "string", valid),
         Kind::Int => put_int(out, later, node.int(), valid),
-        Kind::Ints => put_ints(out, later, node, valid),
+        Kind::Ints => {
+            put_name(out, later, "type");
+            spell_text(out, "intvector");
+            put_valid(out, valid);
+            put_name(out, true, "values");
+            put_numbers(out, node, Layout::Compact, 0);
+            out.put(b"}")
+        }
         Kind::Binary => {
             put_name(out, later, "hex");
             spell_hex(out, node);
