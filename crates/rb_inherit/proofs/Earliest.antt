@@ -181,29 +181,26 @@ table_adds {N} tree used n level before old after new b k o is a =
           (subst (λ (f : Found N). Ends tree used f (ls ++ layered_in tree (a.layer ∷ [])) ps h) is x));
     }
 
+no_layers : {N : Type 0} {G : Ghosts N} (tree : N → Resource) (used : ℕ) (p : Part) (before last : Found N) (old : List (Layer N G)) (after : Found N)
+    → after ≡ last → ((ls : List Layered) → BeginsEmpty last ls) → Step tree used p before last [] → Adds tree used p before old after old
+no_layers {N} tree used p before last old after is begins step = record {
+  more = [];
+  layers = sym (append-nil old);
+  decided = λ ls. rw is (begins ls);
+  ends = λ ls ps h e x. step ls ps h e (subst (λ (f : Found N). Ends tree used f (ls ++ []) ps h) is x);
+}
+
 pub item_adds : {N : Type 0} {G : Ghosts N} (tree : N → Resource) (used : ℕ) (n : N) (level : Level) (before : Found N) (old : List (Layer N G)) (after : Found N)
     → nat_lt level.keys_most used ≡ false → (kind_of (tree n) ≡ kind.Table → ⊥) → (kind_of (tree n) ≡ kind.Alias → ⊥) → is_open_of before ≡ true
     → after ≡ and_item before n level → Adds tree used (part_of tree n level) before old after old
-item_adds {N} tree used n level before old after b t a o is = record {
-  more = [];
-  layers = sym (append-nil old);
-  decided = λ ls. rw is (decided_item before n level ls);
-  ends = λ ls ps h e x.
-      step_item tree used n level b t a before o ls ps h e
-      (subst (λ (f : Found N). Ends tree used f (ls ++ []) ps h) is x);
-}
+item_adds tree used n level before old after b t a o is =
+    no_layers tree used (part_of tree n level) before (and_item before n level) old after is (decided_item before n level) (step_item tree used n level b t a before o)
 
 pub long_adds : {N : Type 0} {G : Ghosts N} (tree : N → Resource) (used : ℕ) (n : N) (level : Level) (before : Found N) (old : List (Layer N G)) (after : Found N)
     → nat_lt level.keys_most used ≡ true → is_open_of before ≡ true → after ≡ and_error before look.PathTooLong
     → Adds tree used (part_of tree n level) before old after old
-long_adds {N} tree used n level before old after b o is = record {
-  more = [];
-  layers = sym (append-nil old);
-  decided = λ ls. rw is (decided_long before ls);
-  ends = λ ls ps h e x.
-      step_long tree used (part_of tree n level) b before o ls ps h e
-      (subst (λ (f : Found N). Ends tree used f (ls ++ []) ps h) is x);
-}
+long_adds tree used n level before old after b o is =
+    no_layers tree used (part_of tree n level) before (and_error before look.PathTooLong) old after is (decided_long before) (step_long tree used (part_of tree n level) b before o)
 
 no_more : {A : Type 0} (old new more : List A) → new ≡ old ++ more → new ≡ old → more ≡ []
 no_more [] new more e f = sym e ∙ f
@@ -227,13 +224,7 @@ alias_adds tree used n level before old after new b k o c s g r = record {
 
 pub closed_adds : {N : Type 0} {G : Ghosts N} (tree : N → Resource) (used : ℕ) (p : Part) (before : Found N) (old : List (Layer N G))
     → is_open_of before ≡ false → Adds tree used p before old before old
-closed_adds tree used p before old o = record {
-  more = [];
-  layers = sym (append-nil old);
-  decided = λ ls. decided_closed before o ls;
-  ends = λ ls ps h e x.
-      step_closed tree used p before o ls ps h e x;
-}
+closed_adds tree used p before old o = no_layers tree used p before before old before refl (decided_closed before o) (step_closed tree used p before o)
 
 -- no stop is left
 pub ends_here : {N : Type 0} (tree : N → Resource) (used : ℕ) (f : Found N) (ls : List Layered) → Ends tree used f ls [] (here_of tree f ls)
