@@ -32,10 +32,9 @@ pub(crate) fn read_value(alloc: Global, input: &mut Input, depth: u64) -> Result
         Token::BeginArray => read_array(alloc, input, at, depth - 1),
         Token::BeginObject => read_object(alloc, input, depth - 1),
         Token::Bool(_) | Token::Null => Err(Fault::new(JsonFaultKind::UnknownValue, at)),
-        Token::EndObject | Token::EndArray | Token::Key(_) | Token::Bad => Err(Fault::new(
-            JsonFaultKind::NotJson,
-            at,
-        )),
+        Token::EndObject | Token::EndArray | Token::Key(_) | Token::Bad => {
+            Err(Fault::new(JsonFaultKind::NotJson, at))
+        }
     }
 }
 
