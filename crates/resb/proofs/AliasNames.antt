@@ -9,7 +9,8 @@ use Rattle.std.specs.Ordering.{nat_cmp}
 use Rattle.std.specs.Str.{bytes_eq}
 use Rattle.std.specs.Map.{values_of}
 use Rattle.std.specs.declared.alloc.Global.{Global}
-use Rattle.std.proofs.lemmas.List.{append_assoc, take_all}
+use Rattle.std.proofs.Math.Bool.{or-false, or-true, or_assoc}
+use Rattle.std.proofs.lemmas.List.{append-nil, append_assoc, take_all}
 use Rattle.std.proofs.lemmas.List.Folds.{list_any_more}
 use Rattle.std.proofs.lemmas.Map.Text.{btree_set_updates_text}
 use Rattle.std.proofs.lemmas.Option.{get_or_from_slice_get, slice_get_within}
@@ -20,14 +21,6 @@ use Rattle.rb_tree.specs.Resource.{Members, no_entries, entry_and}
 use Rattle.rb_views.specs.Parts.{alias_of}
 use Rattle.resb.specs.AliasTargets.{bundle_named, entries_name, is_alias_to, is_named, names, trees_name}
 use Rattle.resb.specs.Lists.{zero_ended}
-
-or_assoc : (a b c : Bool) → ((a || b) || c) ≡ (a || (b || c))
-or_assoc true b c = refl
-or_assoc false b c = refl
-
-or_none : (a : Bool) → (a || false) ≡ a
-or_none true = refl
-or_none false = refl
 
 trees_are : (name : List ℕ) (ts : Resources) → trees_name name ts ≡ list_any (names name) (items ts)
 trees_are name no_trees = refl
@@ -42,27 +35,24 @@ names_are name (string us) = refl
 names_are name (int n) = refl
 names_are name (ints zs) = refl
 names_are name (binary bs) = refl
-names_are name (alias us) = sym (or_none (is_named name us))
+names_are name (alias us) = sym (or-false (is_named name us))
 names_are name (array ts) = trees_are name ts
 names_are name (table es) = entries_are name es
 
+own_is : (name : List ℕ) (t : Resource) → is_alias_to name t ≡ unwrap_or (option_map (is_named name) (alias_of t)) false
+own_is name (string us) = refl
+own_is name (int n) = refl
+own_is name (ints zs) = refl
+own_is name (binary bs) = refl
+own_is name (alias us) = refl
+own_is name (array ts) = refl
+own_is name (table es) = refl
+
 pub own_none : (name : List ℕ) (t : Resource) → alias_of t ≡ None → is_alias_to name t ≡ false
-own_none name (string us) e = refl
-own_none name (int n) e = refl
-own_none name (ints zs) e = refl
-own_none name (binary bs) e = refl
-own_none name (alias us) e = cc
-own_none name (array ts) e = refl
-own_none name (table es) e = refl
+own_none name t e = rw e at (own_is name t)
 
 pub own_some : (name : List ℕ) (t : Resource) (us : List ℕ) → alias_of t ≡ Some us → is_alias_to name t ≡ is_named name us
-own_some name (string us) vs e = cc
-own_some name (int n) vs e = cc
-own_some name (ints zs) vs e = cc
-own_some name (binary bs) vs e = cc
-own_some name (alias us) vs e = let s : us ≡ vs = cc in ap (is_named name) s
-own_some name (array ts) vs e = cc
-own_some name (table es) vs e = cc
+own_some name t us e = rw e at (own_is name t)
 
 named_is : (name us text : List ℕ) (found : Option (List ℕ)) → text ≡ encode_utf8_all (utf16_lossy_chars us) → found ≡ bundle_named text
     → is_named name us ≡ unwrap_or (option_map (λ bs. bytes_eq bs name) found) false
@@ -72,13 +62,11 @@ named_is name us text found t e =
 pub adds_nothing : (name us text : List ℕ) (set : BTreeSet (String Global)) → text ≡ encode_utf8_all (utf16_lossy_chars us)
     → None ≡ bundle_named text → contains_text set name ≡ (contains_text set name || is_named name us)
 adds_nothing name us text set t e =
-    sym (or_none (contains_text set name)) ∙ ap (λ (b : Bool). contains_text set name || b) (sym (named_is name us text None t e))
+    sym (or-false (contains_text set name)) ∙ ap (λ (b : Bool). contains_text set name || b) (sym (named_is name us text None t e))
 
 or_cond : (b a : Bool) → cond b true a ≡ (a || b)
-or_cond true true = refl
-or_cond true false = refl
-or_cond false true = refl
-or_cond false false = refl
+or_cond true a = sym (or-true a)
+or_cond false a = sym (or-false a)
 
 pub adds_named : (name us text bs : List ℕ) (old new : BTreeSet (String Global)) → text ≡ encode_utf8_all (utf16_lossy_chars us)
     → Some bs ≡ bundle_named text → UpdatesBy string_cmp (λ (k : String Global). slice_cmp nat_cmp bs (string_bytes k)) old new true
@@ -94,7 +82,7 @@ AddsFirst t i old new = (name : List ℕ) → contains_text new name
 
 pub adds_none : (t : Resource) (old new : BTreeSet (String Global))
     → ((name : List ℕ) → contains_text new name ≡ (contains_text old name || is_alias_to name t)) → AddsFirst t 0 old new
-adds_none t old new h name = h name ∙ sym (or_none (contains_text old name || is_alias_to name t))
+adds_none t old new h name = h name ∙ sym (or-false (contains_text old name || is_alias_to name t))
 
 pub adds_more : (t child : Resource) (i : ℕ) (old so_far new : BTreeSet (String Global)) → Some child ≡ slice_get (children_of t) i
     → AddsFirst t i old so_far → ((name : List ℕ) → contains_text new name ≡ (contains_text so_far name || names name child))
@@ -117,10 +105,6 @@ adds_all t i old new past first name =
     ∙ or_assoc (contains_text old name) (is_alias_to name t) (list_any (names name) cs)
     ∙ ap (λ (b : Bool). contains_text old name || b) (sym (names_are name t))
 
-append_none : (xs : List ℕ) → xs ++ [] ≡ xs
-append_none [] = refl
-append_none (x ∷ xs) = ap (λ (ys : List ℕ). x ∷ ys) (append_none xs)
-
 -- names joined one by one
 pub joins_more : (out mid new name all : List ℕ) (x : String Global) (left rest : List (String Global)) → mid ≡ out ++ name → new ≡ mid ++ 0 ∷ []
     → name ≡ string_bytes x → left ≡ x ∷ rest → out ++ zero_ended (map string_bytes left) ≡ all → new ++ zero_ended (map string_bytes rest) ≡ all
@@ -132,4 +116,4 @@ joins_more out mid new name all x left rest p q e s so =
 
 pub joins_all : (out all : List ℕ) (left : List (String Global)) → left ≡ [] → out ++ zero_ended (map string_bytes left) ≡ all → out ≡ all
 joins_all out all left s so =
-    sym (append_none out) ∙ ap (λ (ss : List (String Global)). out ++ zero_ended (map string_bytes ss)) (sym s) ∙ so
+    sym (append-nil out) ∙ ap (λ (ss : List (String Global)). out ++ zero_ended (map string_bytes ss)) (sym s) ∙ so

@@ -1,5 +1,5 @@
 -- The place at which a lookup that finds an item searches, and the tree of the item there.
-use Rattle.std.proofs.Common.{◌≡◌, ◌≢◌, ◌⊎◌, inl, inr, ℕ, Bool, true, false, List, Option, Some, None, Result, Ok, Err, refl, sym, subst}
+use Rattle.std.proofs.Common.{◌≡◌, ◌≢◌, inl, inr, ℕ, Bool, true, false, List, Option, Some, None, Result, Ok, Err, refl, sym, subst}
 use Rattle.rb_tree.specs.Path.{IsPath, is_path, segments}
 use Rattle.rb_tree.proofs.Paths.{path_test}
 use Rattle.rb_parents.specs.Family.{parent_in}
@@ -72,12 +72,7 @@ pub named_copy : (kept : Kept) (app locale path a l : List ℕ) (own icu : Files
     → (p : Place) → place_of app locale ≡ Ok p
     → Copied path hit n count room copy (files_of p.app kept.packages) (icudata_files kept.packages) kept.parents p.name
 named_copy kept app locale path a l own icu pairs hit n count room copy is named e f g told p at =
-    let mine = subst (λ (files : Files). Copied path hit n count room copy files icu pairs l) e told in
-    let all = subst (λ (files : Files). Copied path hit n count room copy (files_of a kept.packages) files pairs l) f mine in
-    let family = subst
-    (λ (ps : List (List ℕ × List ℕ)). Copied path hit n count room copy (files_of a kept.packages) (icudata_files kept.packages) ps l) g all in
-    subst (λ (q : Place). Copied path hit n count room copy (files_of q.app kept.packages) (icudata_files kept.packages) kept.parents q.name)
-    (place_is app locale a l p is named at) family
+    rw (← place_is app locale a l p is named at, ← e, ← f, ← g) told
 
 -- the tree of the item that a lookup finds
 pub found_tree : (kept : Kept) (app locale path : List ℕ) (hit : Hit) (valid : List ℕ) (n count room : ℕ) (copy : List ℕ)

@@ -1,9 +1,9 @@
 -- The edits of a release, one after another.
-use Rattle.std.proofs.Common.{◌≡◌, ◌<◌, ◌≤◌, ◌+◌, ℕ, zero, suc, List, [], ◌∷◌, ◌++◌, Some, None, length, take, get_or, refl, sym, ◌∙◌, ap, subst, arith}
+use Rattle.std.proofs.Common.{◌≡◌, ◌<◌, ◌≤◌, ◌+◌, ℕ, List, [], ◌∷◌, ◌++◌, Some, None, length, take, get_or, refl, sym, ◌∙◌, ap, subst, arith}
 use Rattle.std.specs.Prelude.{map}
 use Rattle.std.proofs.Math.ListN.{set, length-set}
-use Rattle.std.proofs.Math.Seq.{take-suc}
-use Rattle.std.proofs.lemmas.List.{get_or-set_same, get_or-set_other, length-map, take_all}
+use Rattle.std.proofs.Math.Seq.{map-set_same}
+use Rattle.std.proofs.lemmas.List.{get_or-map, get_or-set_same, get_or-set_other, length-map, take_all, take_more}
 use borrow.Author.Count.{below_more}
 use Rattle.std.proofs.lemmas.Option.{slice_get-get_or}
 use Rattle.rb_packages.specs.Release.{Drafted}
@@ -16,16 +16,6 @@ takes_more : (first mid : Drafted) (cs : List Change) (c : Change) → Takes fir
 takes_more first mid [] c e n =
     (subst (λ (d : Drafted). change_number d c.0 c.1 ≡ 0) e n, ap (λ (d : Drafted). with_change c.0 c.1 d) e)
 takes_more first mid (x ∷ cs) c e n = (e.0, takes_more (with_change x.0 x.1 first) mid cs c e.1 n)
-
-get_or_map : {X Y : Type 0} (f : X → Y) (xs : List X) (i : ℕ) (x : X) (y : Y) → i < length xs → get_or (map f xs) i y ≡ f (get_or xs i x)
-get_or_map f [] i x y h = absurd (omega arith)
-get_or_map f (z ∷ xs) zero x y h = refl
-get_or_map f (z ∷ xs) (suc i) x y h = get_or_map f xs i x y (omega arith)
-
-map_set : {X Y : Type 0} (f : X → Y) (xs : List X) (i : ℕ) (new x : X) → i < length xs → f new ≡ f (get_or xs i x) → map f (set xs i new) ≡ map f xs
-map_set f [] i new x h e = absurd (omega arith)
-map_set f (z ∷ xs) zero new x h e = ap (λ (y : _). y ∷ map f xs) e
-map_set f (z ∷ xs) (suc i) new x h e = ap (λ (ys : _). f z ∷ ys) (map_set f xs i new x (omega arith) e)
 
 -- the first edits were added to a draft
 pub record SoFar (first : Drafted) (before : List Edit) (i : ℕ) (draft : Drafted) (edits : List Edit) : Type 0 where
@@ -51,23 +41,22 @@ next_change : (first : Drafted) (before : List Edit) (i : ℕ) (draft : Drafted)
     → i < length edits → old ≡ get_or edits i d → get_or (map change_of before) i (change_of old) ≡ change_of old
 next_change first before i draft edits d old so h is =
     let inside : i < length before = rw (← so.count) h in
-    get_or_map change_of before i d (change_of old) inside ∙ ap change_of (sym (so.rest i (omega arith) d) ∙ sym is)
+    get_or-map change_of before i d (change_of old) inside ∙ ap change_of (sym (so.rest i (omega arith) d) ∙ sym is)
 
 changes_more : (first : Drafted) (before : List Edit) (i : ℕ) (draft : Drafted) (edits : List Edit) (d old : Edit) → SoFar first before i draft edits
     → i < length edits → old ≡ get_or edits i d
     → take (i + 1) (map change_of before) ≡ take i (map change_of before) ++ change_of old ∷ []
 changes_more first before i draft edits d old so h is =
     let cs = map change_of before in
-    let up : i + 1 ≡ suc i = omega arith in
     let inside : i < length cs = rw (length-map, ← so.count) h in
-    ap (λ (n : ℕ). take n cs) up ∙ take-suc cs i (change_of old) inside
+    take_more cs i (change_of old) inside
     ∙ ap (λ (c : Change). take i cs ++ c ∷ []) (next_change first before i draft edits d old so h is)
 
 pub same_locales : (first : Drafted) (before : List Edit) (i : ℕ) (draft : Drafted) (edits : List Edit) (d old new : Edit)
     → SoFar first before i draft edits → i < length edits → old ≡ get_or edits i d → new.locale.now ≡ old.locale.now
     → locales_of (set edits i new) ≡ locales_of before
 same_locales first before i draft edits d old new so h is locale =
-    map_set (λ (e : Edit). e.locale.now) edits i new d h (locale ∙ ap (λ (e : Edit). e.locale.now) is) ∙ so.locales
+    map-set_same (λ (e : Edit). e.locale.now) edits i new d (locale ∙ ap (λ (e : Edit). e.locale.now) is) ∙ so.locales
 
 pub one_more : (first : Drafted) (before : List Edit) (i : ℕ) (draft next : Drafted) (edits : List Edit) (d old new : Edit)
     → SoFar first before i draft edits → i < length edits → old ≡ get_or edits i d

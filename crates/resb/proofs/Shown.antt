@@ -1,10 +1,10 @@
 -- The items of a table and of an array, one after another.
 use Rattle.std.proofs.Common.{◌≡◌, ◌∙◌, ◌<◌, ◌+◌, ◌++◌, ℕ, zero, suc, List, [], ◌∷◌, Some, length, take, ap, sym}
-use Rattle.std.specs.Prelude.{map, slice_get}
+use Rattle.std.specs.Prelude.{map, option_map, slice_get}
 use Rattle.std.specs.Map.{keys_of, values_of}
 use Rattle.std.proofs.Math.ListN.{set}
 use Rattle.std.proofs.lemmas.List.{map_push, take_more, take_more_set}
-use Rattle.std.proofs.lemmas.Option.{get_or_from_slice_get, slice_get_within}
+use Rattle.std.proofs.lemmas.Option.{get_or_from_slice_get, slice_get-map, slice_get_within}
 use Rattle.rb_tree.specs.Resource.{Resource}
 use Rattle.resb.specs.Children.{Shown, shown_child, shown_entry, shown_item, shown}
 use Rattle.resb.specs.declared.children.Child.{Child}
@@ -19,9 +19,7 @@ entry_shown (e ∷ es) zero k t p q =
 entry_shown (e ∷ es) (suc i) k t p q = entry_shown es i k t p q
 
 pub item_shown : (ts : List Resource) (i : ℕ) (t : Resource) → Some t ≡ slice_get ts i → Some (shown_item t) ≡ slice_get (map shown_item ts) i
-item_shown [] i t p = cc
-item_shown (u ∷ ts) zero t p = let a : t ≡ u = cc in ap (λ (x : Resource). Some (shown_item x)) a
-item_shown (u ∷ ts) (suc i) t p = item_shown ts i t p
+item_shown ts i t p = ap (option_map shown_item) p ∙ sym (slice_get-map shown_item ts i)
 
 pub one_more : (xs : List Child) (ys : List Shown) (i : ℕ) (y : Child) → i < length xs → Some (shown_child y) ≡ slice_get ys i
     → map shown_child (take i xs) ≡ take i ys → map shown_child (take (i + 1) (set xs i y)) ≡ take (i + 1) ys

@@ -3,7 +3,7 @@ use Rattle.rb_tree.specs.Parts.{children_of}
 use Rattle.rb_tree.specs.Resource.{height}
 use Rattle.rb_tree.specs.inner.Lower.{child_lower}
 use Rattle.rb_views.specs.Seen.{tree_seen}
-use Rattle.resb.proofs.AliasNames.{adds_all, adds_more, adds_none}
+use Rattle.resb.proofs.AliasNames.{adds_all, adds_more}
 use Rattle.resb.proofs.alias_targets.+add_names.Goals as goal
 
 pub add_names-requires : goal.add_names-requires
