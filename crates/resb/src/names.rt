@@ -9,7 +9,7 @@ type Name = [u8; 18];
 /// The name of a number that has none.
 const UNNAMED: &Name = b"\0\0\0\0\0\0\0\0\0\0\0\0\0\0\0\0\0\0";
 
-fn call_name(error: u32) -> &'static Name
+fn request_name(error: u32) -> &'static Name
     ensures { IsZeroEnded result.now }
 {
     match error {
@@ -22,14 +22,6 @@ fn call_name(error: u32) -> &'static Name
         6 => b"OtherKind\0\0\0\0\0\0\0\0\0",
         7 => b"NoEntry\0\0\0\0\0\0\0\0\0\0\0",
         8 => b"Stale\0\0\0\0\0\0\0\0\0\0\0\0\0",
-        _ => UNNAMED,
-    }
-}
-
-fn request_name(error: u32) -> &'static Name
-    ensures { IsZeroEnded result.now }
-{
-    match error {
         11 => b"BadApp\0\0\0\0\0\0\0\0\0\0\0\0",
         12 => b"Reserved\0\0\0\0\0\0\0\0\0\0",
         13 => b"BadLocale\0\0\0\0\0\0\0\0\0",
@@ -54,7 +46,7 @@ fn request_name(error: u32) -> &'static Name
     }
 }
 
-fn text_name(error: u32) -> &'static Name
+fn source_name(error: u32) -> &'static Name
     ensures { IsZeroEnded result.now }
 {
     match error {
@@ -72,14 +64,6 @@ fn text_name(error: u32) -> &'static Name
         42 => b"TextTooDeep\0\0\0\0\0\0\0",
         43 => b"TextTrailingText\0\0",
         44 => b"TextTooLarge\0\0\0\0\0\0",
-        _ => UNNAMED,
-    }
-}
-
-fn file_name(error: u32) -> &'static Name
-    ensures { IsZeroEnded result.now }
-{
-    match error {
         51 => b"FileTooLong\0\0\0\0\0\0\0",
         52 => b"FileHeader\0\0\0\0\0\0\0\0",
         53 => b"FileBigEndian\0\0\0\0\0",
@@ -99,7 +83,7 @@ fn file_name(error: u32) -> &'static Name
     }
 }
 
-fn parents_name(error: u32) -> &'static Name
+fn other_name(error: u32) -> &'static Name
     ensures { IsZeroEnded result.now }
 {
     match error {
@@ -111,14 +95,6 @@ fn parents_name(error: u32) -> &'static Name
         77 => b"IcuTarget\0\0\0\0\0\0\0\0\0",
         78 => b"IcuItems\0\0\0\0\0\0\0\0\0\0",
         79 => b"ReplyTooLong\0\0\0\0\0\0",
-        _ => UNNAMED,
-    }
-}
-
-fn json_name(error: u32) -> &'static Name
-    ensures { IsZeroEnded result.now }
-{
-    match error {
         81 => b"JsonTooLong\0\0\0\0\0\0\0",
         82 => b"JsonNotUtf8\0\0\0\0\0\0\0",
         83 => b"JsonNotJson\0\0\0\0\0\0\0",
@@ -141,12 +117,9 @@ fn name(error: u32) -> &'static Name
     ensures { IsZeroEnded result.now }
 {
     match error {
-        0..=9 => call_name(error),
-        10..=30 => request_name(error),
-        31..=50 => text_name(error),
-        51..=70 => file_name(error),
-        71..=80 => parents_name(error),
-        _ => json_name(error),
+        0..=30 => request_name(error),
+        31..=70 => source_name(error),
+        _ => other_name(error),
     }
 }
 
