@@ -20,3 +20,4 @@ pub mod Snapshots
 pub mod Start
 pub mod Texts
 pub mod Usage
+pub mod inner

@@ -10,9 +10,9 @@ ghost use Rattle.rb_printer.specs.Whole.{IsBundleText};
 ghost use Rattle.resb.specs.BundleForms.{CopiesJson, CopiesTextOf};
 ghost use Rattle.resb.specs.Copied.{CopiesBytes};
 
+use crate::held::with_bundle;
 use crate::lists::copy_bytes;
-use crate::numbers::{BAD_LOCALE, CLOSED, MEMORY, TEXT_TOO_LARGE, TREE_TOO_LARGE};
-use crate::prepared::take_bundle;
+use crate::numbers::{BAD_LOCALE, MEMORY, TEXT_TOO_LARGE, TREE_TOO_LARGE};
 use rb_handle::BundleHandle;
 use rb_json::{Buffer, Layout, is_within, put_value};
 use rb_locales::Name;
@@ -36,12 +36,7 @@ pub extern "C" fn resb_bundle_file(
     ensures unchanged { result ≢ 0 → out.new ≡ out.old }
     ensures discarded { IfNone handle.old.file (result ≡ 2) }
 {
-    let Some(bundle) = take_bundle(alloc, handle) else {
-        return CLOSED;
-    };
-    let result = copy_bytes(bundle.bytes(), out, len);
-    *handle = BundleHandle::of(bundle);
-    result
+    with_bundle!(alloc, handle, bundle => copy_bytes(bundle.bytes(), out, len))
 }
 
 /// Prints a bundle as a text under a name.
@@ -88,31 +83,7 @@ pub extern "C" fn resb_bundle_text(
     ensures unchanged { result ≢ 0 → out.new ≡ out.old }
     ensures discarded { IfNone handle.old.file (result ≡ 2) }
 {
-    let Some(bundle) = take_bundle(alloc, handle) else {
-        return CLOSED;
-    };
-    let result = copy_text(alloc, &bundle, locale, out, len);
-    *handle = BundleHandle::of(bundle);
-    result
-}
-
-/// Makes the JSON of a bundle, or returns the number of the error.
-fn json_of(alloc: Global, bundle: &Bundle) -> Result<Vec<u8>, u32>
-    ensures json { IfOk result (λ json. json.items ≡ compact_text (value_of (tree_of bundle.now))) }
-    ensures within { IfOk result (λ _. fits_json (tree_of bundle.now) ≡ true) }
-    ensures error { IfErr result
-        (λ n. (n ≡ 1) ⊎ ((n ≡ 20) × (fits_json (tree_of bundle.now) ≡ false))) }
-{
-    let item = root(bundle);
-    if !is_within(item) {
-        return Err(TREE_TOO_LARGE);
-    }
-    let mut json = Buffer::new(alloc);
-    put_value(&mut json, item, Layout::Compact);
-    match json.into_bytes() {
-        Ok(json) => Ok(json),
-        Err(_) => Err(MEMORY),
-    }
+    with_bundle!(alloc, handle, bundle => copy_text(alloc, &bundle, locale, out, len))
 }
 
 fn copy_json(alloc: Global, bundle: &Bundle, out: &mut [u8], len: &mut usize) -> u32
@@ -120,9 +91,15 @@ fn copy_json(alloc: Global, bundle: &Bundle, out: &mut [u8], len: &mut usize) ->
         (length out.old) (take len.new out.new) }
     ensures unchanged { result ≢ 0 → out.new ≡ out.old }
 {
-    match json_of(alloc, bundle) {
+    let item = root(bundle);
+    if !is_within(item) {
+        return TREE_TOO_LARGE;
+    }
+    let mut json = Buffer::new(alloc);
+    put_value(&mut json, item, Layout::Compact);
+    match json.into_bytes() {
         Ok(json) => copy_bytes(&json, out, len),
-        Err(number) => number,
+        Err(_) => MEMORY,
     }
 }
 
@@ -140,10 +117,5 @@ pub extern "C" fn resb_bundle_json(
     ensures unchanged { result ≢ 0 → out.new ≡ out.old }
     ensures discarded { IfNone handle.old.file (result ≡ 2) }
 {
-    let Some(bundle) = take_bundle(alloc, handle) else {
-        return CLOSED;
-    };
-    let result = copy_json(alloc, &bundle, out, len);
-    *handle = BundleHandle::of(bundle);
-    result
+    with_bundle!(alloc, handle, bundle => copy_json(alloc, &bundle, out, len))
 }

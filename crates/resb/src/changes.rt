@@ -1,15 +1,14 @@
 ghost use Rattle.std.specs.Prelude.{◌≡◌, ◌≢◌, ℕ, List, Ok, None, IfOk, IfErr, IfNone, IfSome};
 ghost use Rattle.rb_engine.specs.Source.{Reads, change_request};
-ghost use Rattle.rb_engine.specs.Version.{next_version};
 ghost use Rattle.rb_engine.specs.declared.request.Payload.{Payload};
 ghost use Rattle.rb_engine.specs.declared.request.Payload.TheVariants.{File};
 ghost use Rattle.rb_engine.specs.declared.request.Request.TheVariants as requests;
 ghost use Rattle.rb_handle.specs.Stored.{engine_of};
-ghost use Rattle.resb.specs.Changes.{payload_of, HandlesAs, LeadsTo, RaisesVersion};
+ghost use Rattle.resb.specs.Changes.{payload_of, LeadsTo, RaisesVersion};
+ghost use Rattle.resb.specs.inner.Changes.{Changes};
 
-use crate::held::take;
+use crate::held::{take_bundle, with_engine};
 use crate::numbers::{CLOSED, MEMORY, SHARED, reply_number};
-use crate::prepared::take_bundle;
 use rb_engine::{App, Change, Engine, IncomingBundle, Payload, Request};
 use rb_handle::{BundleHandle, Handle};
 use rb_locales::Name;
@@ -18,7 +17,7 @@ use rb_validator::Bundle;
 use std::alloc::{AllocError, Global};
 use std::sync::Arc;
 
-pub(crate) fn list_of(alloc: Global, bytes: &[u8]) -> Result<ByteList, AllocError>
+fn list_of(alloc: Global, bytes: &[u8]) -> Result<ByteList, AllocError>
     ensures { IfOk result (λ l. l ≡ bytes.now) }
 {
     Ok(ByteList::from_vec(bytes.to_vec(alloc)?))
@@ -40,10 +39,13 @@ fn request_of(
     change: Change,
     app: &[u8],
     locale: &[u8],
-    payload: Payload,
+    bytes: &[u8],
+    is_text: bool,
 ) -> Result<Request, AllocError>
-    ensures { IfOk result (λ r. r ≡ change_request change app.now locale.now payload) }
+    ensures { IfOk result (λ r. r
+        ≡ change_request change app.now locale.now (payload_of is_text bytes.now)) }
 {
+    let payload = payload_of(alloc, bytes, is_text)?;
     let app = list_of(alloc, app)?;
     let locale = list_of(alloc, locale)?;
     Ok(match change {
@@ -60,19 +62,6 @@ fn request_of(
     })
 }
 
-/// Handles a request if no other handle has the engine.
-fn handle_alone(engine: &mut Arc<Engine>, alloc: Global, request: Request) -> u32
-    ensures unchanged { result ≢ 0 → engine.new.value ≡ engine.old.value }
-    ensures version { result ≡ 0
-        → engine.new.value.version ≡ next_version engine.old.value.version }
-    ensures handled { result ≢ 4 → HandlesAs engine.old.value request result engine.new.value }
-{
-    match Arc::get_mut(engine) {
-        Some(engine) => reply_number(&engine.handle(alloc, request)),
-        None => SHARED,
-    }
-}
-
 fn change_in(
     engine: &mut Arc<Engine>,
     alloc: Global,
@@ -82,45 +71,17 @@ fn change_in(
     bytes: &[u8],
     is_text: bool,
 ) -> u32
-    ensures unchanged { result ≢ 0 → engine.new.value ≡ engine.old.value }
-    ensures version { result ≡ 0
-        → engine.new.value.version ≡ next_version engine.old.value.version }
-    ensures handled { result ≢ 1 → result ≢ 4 → HandlesAs engine.old.value
+    ensures { Changes engine.old.value
         (change_request change app.now locale.now (payload_of is_text bytes.now)) result
         engine.new.value }
 {
-    let Ok(payload) = payload_of(alloc, bytes, is_text) else {
+    let Ok(request) = request_of(alloc, change, app, locale, bytes, is_text) else {
         return MEMORY;
     };
-    let Ok(request) = request_of(alloc, change, app, locale, payload) else {
-        return MEMORY;
-    };
-    handle_alone(engine, alloc, request)
-}
-
-fn change(
-    alloc: Global,
-    handle: &mut Handle,
-    change: Change,
-    app: &[u8],
-    locale: &[u8],
-    bytes: &[u8],
-    is_text: bool,
-) -> u32
-    ensures there { IfSome (engine_of handle.old) (λ _. engine_of handle.new ≢ None) }
-    ensures unchanged { result ≢ 0 → engine_of handle.new ≡ engine_of handle.old }
-    ensures version { result ≡ 0 → RaisesVersion (engine_of handle.old) (engine_of handle.new) }
-    ensures handled { LeadsTo
-        (change_request change app.now locale.now (payload_of is_text bytes.now)) result
-        (engine_of handle.old) (engine_of handle.new) }
-    ensures closed { IfNone (engine_of handle.old) (result ≡ 2) }
-{
-    let Some(mut engine) = take(alloc, handle) else {
-        return CLOSED;
-    };
-    let result = change_in(&mut engine, alloc, change, app, locale, bytes, is_text);
-    *handle = Handle::of(engine);
-    result
+    match Arc::get_mut(engine) {
+        Some(engine) => reply_number(&engine.handle(alloc, request)),
+        None => SHARED,
+    }
 }
 
 /// Installs a bundle of an application, from a text or from a file.
@@ -141,7 +102,9 @@ pub extern "C" fn resb_install(
         (engine_of handle.old) (engine_of handle.new) }
     ensures closed { IfNone (engine_of handle.old) (result ≡ 2) }
 {
-    change(alloc, handle, Change::Install, app, locale, bytes, is_text)
+    with_engine!(alloc, handle, engine => {
+        change_in(&mut engine, alloc, Change::Install, app, locale, bytes, is_text)
+    })
 }
 
 /// Replaces a bundle of an application, from a text or from a file.
@@ -162,7 +125,9 @@ pub extern "C" fn resb_replace(
         (engine_of handle.old) (engine_of handle.new) }
     ensures closed { IfNone (engine_of handle.old) (result ≡ 2) }
 {
-    change(alloc, handle, Change::Replace, app, locale, bytes, is_text)
+    with_engine!(alloc, handle, engine => {
+        change_in(&mut engine, alloc, Change::Replace, app, locale, bytes, is_text)
+    })
 }
 
 /// Names a bundle that was checked before, or returns it if a name is invalid.
@@ -185,12 +150,9 @@ fn named(app: &[u8], locale: &[u8], bundle: Bundle) -> Result<IncomingBundle, Bu
 
 /// Stores a bundle if no other handle has the engine.
 fn put_alone(engine: &mut Arc<Engine>, change: Change, incoming: IncomingBundle) -> u32
-    ensures unchanged { result ≢ 0 → engine.new.value ≡ engine.old.value }
-    ensures version { result ≡ 0
-        → engine.new.value.version ≡ next_version engine.old.value.version }
-    ensures handled { (app locale : List ℕ) → (payload : Payload)
-        → Reads app locale payload (Ok incoming) → result ≢ 4
-        → HandlesAs engine.old.value (change_request change app locale payload) result
+    ensures { (app locale : List ℕ) → (payload : Payload)
+        → Reads app locale payload (Ok incoming)
+        → Changes engine.old.value (change_request change app locale payload) result
         engine.new.value }
 {
     match Arc::get_mut(engine) {
@@ -207,53 +169,14 @@ fn put_in(
     locale: &[u8],
     bundle: Bundle,
 ) -> u32
-    ensures unchanged { result ≢ 0 → engine.new.value ≡ engine.old.value }
-    ensures version { result ≡ 0
-        → engine.new.value.version ≡ next_version engine.old.value.version }
-    ensures handled { result ≢ 1 → result ≢ 4 → HandlesAs engine.old.value
-        (change_request change app.now locale.now (File bundle)) result engine.new.value }
+    ensures { Changes engine.old.value (change_request change app.now locale.now (File bundle))
+        result engine.new.value }
 {
     match named(app, locale, bundle) {
         Ok(incoming) => put_alone(engine, change, incoming),
         // The engine refuses an invalid name before it reads the file.
         Err(bundle) => change_in(engine, alloc, change, app, locale, bundle.bytes(), false),
     }
-}
-
-fn change_to(
-    alloc: Global,
-    handle: &mut Handle,
-    change: Change,
-    app: &[u8],
-    locale: &[u8],
-    bundle: &mut BundleHandle,
-) -> u32
-    ensures there { IfSome (engine_of handle.old) (λ _. engine_of handle.new ≢ None) }
-    ensures unchanged { result ≢ 0 → engine_of handle.new ≡ engine_of handle.old }
-    ensures version { result ≡ 0 → RaisesVersion (engine_of handle.old) (engine_of handle.new) }
-    ensures handled { IfSome bundle.old.file (λ file. LeadsTo
-        (change_request change app.now locale.now (File file)) result
-        (engine_of handle.old) (engine_of handle.new)) }
-    ensures taken { bundle.new.file ≡ None }
-    ensures discarded { IfNone bundle.old.file (result ≡ 2) }
-    ensures closed { IfNone (engine_of handle.old) (result ≡ 2) }
-{
-    let Some(bundle) = take_bundle(alloc, bundle) else {
-        return CLOSED;
-    };
-    let Some(mut engine) = take(alloc, handle) else {
-        return CLOSED;
-    };
-    let result = put_in(
-        &mut engine,
-        alloc,
-        change,
-        app,
-        locale,
-        Box::into_inner(bundle),
-    );
-    *handle = Handle::of(engine);
-    result
 }
 
 /// Takes a prepared bundle out of its handle, and installs it. Its file isn't checked again.
@@ -275,7 +198,13 @@ pub extern "C" fn resb_install_bundle(
     ensures discarded { IfNone bundle.old.file (result ≡ 2) }
     ensures closed { IfNone (engine_of handle.old) (result ≡ 2) }
 {
-    change_to(alloc, handle, Change::Install, app, locale, bundle)
+    let Some(bundle) = take_bundle(alloc, bundle) else {
+        return CLOSED;
+    };
+    let bundle = Box::into_inner(bundle);
+    with_engine!(alloc, handle, engine => {
+        put_in(&mut engine, alloc, Change::Install, app, locale, bundle)
+    })
 }
 
 /// Takes a prepared bundle out of its handle, and replaces an installed bundle by it.
@@ -297,20 +226,23 @@ pub extern "C" fn resb_replace_bundle(
     ensures discarded { IfNone bundle.old.file (result ≡ 2) }
     ensures closed { IfNone (engine_of handle.old) (result ≡ 2) }
 {
-    change_to(alloc, handle, Change::Replace, app, locale, bundle)
+    let Some(bundle) = take_bundle(alloc, bundle) else {
+        return CLOSED;
+    };
+    let bundle = Box::into_inner(bundle);
+    with_engine!(alloc, handle, engine => {
+        put_in(&mut engine, alloc, Change::Replace, app, locale, bundle)
+    })
 }
 
-fn remove_in(engine: &mut Arc<Engine>, alloc: Global, app: &[u8], locale: &[u8]) -> u32
-    ensures unchanged { result ≢ 0 → engine.new.value ≡ engine.old.value }
-    ensures version { result ≡ 0
-        → engine.new.value.version ≡ next_version engine.old.value.version }
-    ensures handled { result ≢ 1 → result ≢ 4 → HandlesAs engine.old.value
-        (requests.Remove app.now locale.now) result engine.new.value }
+fn remove_in(engine: &mut Arc<Engine>, app: &[u8], locale: &[u8]) -> u32
+    ensures { Changes engine.old.value (requests.Remove app.now locale.now) result
+        engine.new.value }
 {
-    let (Ok(app), Ok(locale)) = (list_of(alloc, app), list_of(alloc, locale)) else {
-        return MEMORY;
-    };
-    handle_alone(engine, alloc, Request::Remove { app, locale })
+    match Arc::get_mut(engine) {
+        Some(engine) => reply_number(&engine.remove(app, locale)),
+        None => SHARED,
+    }
 }
 
 /// Removes a bundle of an application.
@@ -323,10 +255,5 @@ pub extern "C" fn resb_remove(alloc: Global, handle: &mut Handle, app: &[u8], lo
         (engine_of handle.old) (engine_of handle.new) }
     ensures closed { IfNone (engine_of handle.old) (result ≡ 2) }
 {
-    let Some(mut engine) = take(alloc, handle) else {
-        return CLOSED;
-    };
-    let result = remove_in(&mut engine, alloc, app, locale);
-    *handle = Handle::of(engine);
-    result
+    with_engine!(alloc, handle, engine => remove_in(&mut engine, app, locale))
 }

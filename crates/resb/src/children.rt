@@ -6,11 +6,12 @@ ghost use Rattle.rb_handle.specs.Stored.{engine_of};
 ghost use Rattle.resb.specs.Children.{CopiesChildren, children_of, listed, shown, shown_child};
 ghost use Rattle.resb.specs.Children.{shown_entry, shown_item, size_of};
 ghost use Rattle.resb.specs.Looks.{answer_in};
+ghost use Rattle.resb.specs.inner.Query.{answer_to};
 
 use crate::found::{Found, start_of};
-use crate::held::take;
-use crate::looks::keep_open;
-use crate::numbers::{CLOSED, NO_ROOM, OTHER_KIND, look_number};
+use crate::held::with_engine;
+use crate::looks::{Query, keep_open};
+use crate::numbers::{NO_ROOM, OTHER_KIND, look_number};
 use rb_engine::Engine;
 use rb_handle::Handle;
 use rb_views::{Array, Item, Table};
@@ -39,10 +40,7 @@ fn items_of(item: Item<'_>) -> Option<Items<'_>>
     if let Some(table) = item.table() {
         return Some(Items::Table(table));
     }
-    match item.array() {
-        Some(array) => Some(Items::Array(array)),
-        None => None,
-    }
+    Some(Items::Array(item.array()?))
 }
 
 fn count_of(items: Items<'_>) -> usize
@@ -65,31 +63,14 @@ fn child_of(key: &[u8], item: Item<'_>) -> Child
     }
 }
 
-#[tactic(auto, using(crate::proofs::Shown::entry_shown))]
-fn entry_at(table: Table<'_>, i: usize) -> Child
-    requires { i < length (entries_seen table) }
-    ensures { Some (shown_child result)
-        ≡ slice_get (map shown_entry (entries_seen table.entry)) i }
-{
-    child_of(table.key(i), table.item(i))
-}
-
-#[tactic(auto, using(crate::proofs::Shown::item_shown))]
-fn item_at(array: Array<'_>, i: usize) -> Child
-    requires { i < length (trees_seen array) }
-    ensures { Some (shown_child result)
-        ≡ slice_get (map shown_item (trees_seen array.entry)) i }
-{
-    child_of(&[], array.item(i))
-}
-
+#[tactic(auto, using(crate::proofs::Shown::entry_shown, crate::proofs::Shown::item_shown))]
 fn child_at(items: Items<'_>, i: usize) -> Child
     requires { i < size_of items }
     ensures { Some (shown_child result) ≡ slice_get (listed items.entry) i }
 {
     match items {
-        Items::Table(table) => entry_at(table, i),
-        Items::Array(array) => item_at(array, i),
+        Items::Table(table) => child_of(table.key(i), table.item(i)),
+        Items::Array(array) => child_of(&[], array.item(i)),
     }
 }
 
@@ -103,20 +84,13 @@ fn describe_all(items: Items<'_>, out: &mut [Child])
     }
 }
 
-fn children_in(
-    engine: &Engine,
-    app: &[u8],
-    locale: &[u8],
-    path: &[u8],
-    out: &mut [Child],
-    count: &mut usize,
-) -> u32
-    ensures children { CopiesChildren (answer_in engine.now app.now locale.now path.now) result
-        count.new (length out.old) (map shown_child (take count.new out.new)) }
+fn children_in(engine: &Engine, query: Query<'_>, out: &mut [Child], count: &mut usize) -> u32
+    ensures children { CopiesChildren (answer_to engine.now query.entry) result count.new
+        (length out.old) (map shown_child (take count.new out.new)) }
     ensures beyond { result ≡ 0 → drop count.new out.new ≡ drop count.new out.old }
     ensures unchanged { result ≢ 0 → out.new ≡ out.old }
 {
-    let item = match engine.look(app, locale, path) {
+    let item = match engine.look(query.app, query.locale, query.path) {
         Ok(it) => it.node,
         Err(fault) => return look_number(fault),
     };
@@ -151,11 +125,9 @@ pub extern "C" fn resb_children(
     ensures unchanged { result ≢ 0 → out.new ≡ out.old }
     ensures closed { IfNone (engine_of handle.old) (result ≡ 2) }
 {
-    let Some(mut engine) = take(alloc, handle) else {
-        return CLOSED;
-    };
-    keep_open(&mut engine, app, locale);
-    let result = children_in(&engine, app, locale, path, out, count);
-    *handle = Handle::of(engine);
-    result
+    let query = Query { app, locale, path };
+    with_engine!(alloc, handle, engine => {
+        keep_open(&mut engine, query);
+        children_in(&engine, query, out, count)
+    })
 }

@@ -3,9 +3,9 @@ ghost use Rattle.std.specs.Prelude.{◌≡◌, ◌≢◌, IfNone, IfSome, length
 ghost use Rattle.rb_handle.specs.Stored.{engine_of};
 ghost use Rattle.resb.specs.Exports.{Exports};
 
-use crate::held::take;
+use crate::held::with_engine;
 use crate::lists::copy_bytes;
-use crate::numbers::{BAD_LOCALE, CLOSED, app_number};
+use crate::numbers::{BAD_LOCALE, app_number};
 use rb_engine::{App, Engine};
 use rb_handle::Handle;
 use rb_locales::Name;
@@ -49,10 +49,5 @@ pub extern "C" fn resb_export(
     ensures unchanged { result ≢ 0 → out.new ≡ out.old }
     ensures closed { IfNone (engine_of handle.old) (result ≡ 2) }
 {
-    let Some(engine) = take(alloc, handle) else {
-        return CLOSED;
-    };
-    let result = export_in(&engine, app, locale, out, len);
-    *handle = Handle::of(engine);
-    result
+    with_engine!(alloc, handle, engine => export_in(&engine, app, locale, out, len))
 }

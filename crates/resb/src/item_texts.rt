@@ -1,6 +1,6 @@
 //! Items as JSON: those that lookups find, and those with everything that they inherit.
-ghost use Rattle.std.specs.Prelude.{◌≡◌, ◌≢◌, ◌⊎◌, ◌≤◌, IfErr, IfNone, IfOk, IfSome, Ok, length, take};
-ghost use Rattle.std.specs.Prelude.{false};
+ghost use Rattle.std.specs.Prelude.{◌≡◌, ◌≢◌, ◌⊎◌, ◌≤◌, IfErr, IfNone, IfOk, IfSome, Ok, Some, length};
+ghost use Rattle.std.specs.Prelude.{false, take};
 ghost use Rattle.serde_json.specs.Written.{compact_text};
 ghost use Rattle.rb_tree.specs.Path.{IsPath, segments};
 ghost use Rattle.rb_json.specs.Item.{found_data};
@@ -17,12 +17,14 @@ ghost use Rattle.rb_handle.specs.Stored.{engine_of};
 ghost use Rattle.resb.specs.Copied.{CopiesBytes};
 ghost use Rattle.resb.specs.ItemTexts.{CopiesItem, CopiesItemWithin, CopiesTree, CopiesTreeOf};
 ghost use Rattle.resb.specs.Looks.{answer_in, takes_more_in};
+ghost use Rattle.resb.specs.inner.Query.{answer_to, exceeds};
 
-use crate::held::take;
+use crate::held::with_engine;
 use crate::lists::copy_bytes;
+use crate::looks::Query;
 use crate::numbers::{
-    BAD_LOCALE, CLOSED, MEMORY, NO_ROOM, REPLY_TOO_LONG, TOO_MANY_STEPS, TREE_TOO_LARGE,
-    app_number, look_number,
+    BAD_LOCALE, MEMORY, NO_ROOM, REPLY_TOO_LONG, TOO_MANY_STEPS, TREE_TOO_LARGE, app_number,
+    look_number,
 };
 use rb_engine::{App, AppShelves, Engine};
 use rb_fallback::Found;
@@ -32,22 +34,7 @@ use rb_json::{Buffer, put_found};
 use rb_locales::Name;
 use rb_replies::found_len;
 use rb_views::Item;
-use std::alloc::{AllocError, Global};
-
-/// Makes the text of an item that a lookup found, which has this many bytes.
-fn item_text(alloc: Global, found: &Found<Item<'_>>, len: usize) -> Result<Vec<u8>, AllocError>
-    ensures { IfOk result (λ text. text.items ≡ compact_text
-        (found_data found.now.actual found.now.valid (tree_seen found.now.node))) }
-{
-    let mut text = Buffer::from_vec(Vec::with_capacity(alloc, len)?);
-    put_found(
-        &mut text,
-        found.actual.as_bytes(),
-        found.valid.as_bytes(),
-        found.node,
-    );
-    text.into_bytes()
-}
+use std::alloc::Global;
 
 /// Copies an item of this many bytes. Takes no memory for one that is longer than `out`.
 fn copy_found(
@@ -70,7 +57,17 @@ fn copy_found(
         *len = count;
         return NO_ROOM;
     }
-    match item_text(alloc, found, count) {
+    let Ok(space) = Vec::with_capacity(alloc, count) else {
+        return MEMORY;
+    };
+    let mut text = Buffer::from_vec(space);
+    put_found(
+        &mut text,
+        found.actual.as_bytes(),
+        found.valid.as_bytes(),
+        found.node,
+    );
+    match text.into_bytes() {
         Ok(text) => copy_bytes(&text, out, len),
         Err(_) => MEMORY,
     }
@@ -80,24 +77,20 @@ fn copy_found(
 fn copy_item(
     engine: &Engine,
     alloc: Global,
-    app: &[u8],
-    locale: &[u8],
-    path: &[u8],
+    query: Query<'_>,
     steps: u64,
     bytes: u64,
     out: &mut [u8],
     len: &mut usize,
 ) -> u32
-    ensures within { result ≢ 30
-        → takes_more_in engine.now steps app.now locale.now path.now ≡ false }
-    ensures item { takes_more_in engine.now steps app.now locale.now path.now ≡ false
-        → result ≢ 1 → CopiesItemWithin bytes
-        (answer_in engine.now app.now locale.now path.now) result
-        len.new (length out.old) (take len.new out.new) }
+    ensures within { result ≢ 30 → exceeds engine.now (Some steps) query.entry ≡ false }
+    ensures item { exceeds engine.now (Some steps) query.entry ≡ false → result ≢ 1
+        → CopiesItemWithin bytes (answer_to engine.now query.entry) result len.new
+        (length out.old) (take len.new out.new) }
     ensures unchanged { result ≢ 0 → out.new ≡ out.old }
     ensures same_len { result ≢ 0 → result ≢ 5 → len.new ≡ len.old }
 {
-    let found = match engine.look_within(app, locale, path, steps) {
+    let found = match engine.look_within(query.app, query.locale, query.path, steps) {
         Ok(Ok(found)) => found,
         Ok(Err(fault)) => return look_number(fault),
         Err(_) => return TOO_MANY_STEPS,
@@ -106,31 +99,6 @@ fn copy_item(
         Some(count) => copy_found(alloc, &found, count, out, len),
         None => REPLY_TOO_LONG,
     }
-}
-
-/// Copies the item that a lookup finds. No item has as many bytes as memory.
-fn copy_whole_item(
-    engine: &Engine,
-    alloc: Global,
-    app: &[u8],
-    locale: &[u8],
-    path: &[u8],
-    steps: u64,
-    out: &mut [u8],
-    len: &mut usize,
-) -> u32
-    ensures within { result ≢ 30
-        → takes_more_in engine.now steps app.now locale.now path.now ≡ false }
-    ensures item { takes_more_in engine.now steps app.now locale.now path.now ≡ false
-        → result ≢ 1 → CopiesItem (answer_in engine.now app.now locale.now path.now) result
-        len.new (length out.old) (take len.new out.new) }
-    ensures unchanged { result ≢ 0 → out.new ≡ out.old }
-{
-    let number = copy_item(engine, alloc, app, locale, path, steps, u64::MAX, out, len);
-    if number == REPLY_TOO_LONG {
-        return MEMORY;
-    }
-    number
 }
 
 /// Looks up like `resb_look_within`, and copies the item that it finds as JSON. For a short `out` it
@@ -156,12 +124,12 @@ pub extern "C" fn resb_item_json(
     ensures unchanged { result ≢ 0 → out.new ≡ out.old }
     ensures closed { IfNone (engine_of handle.old) (result ≡ 2) }
 {
-    let Some(engine) = take(alloc, handle) else {
-        return CLOSED;
-    };
-    let result = copy_whole_item(&engine, alloc, app, locale, path, steps, out, len);
-    *handle = Handle::of(engine);
-    result
+    let bytes = u64::MAX;
+    match resb_item_json_within(alloc, handle, app, locale, path, steps, bytes, out, len) {
+        // No item has as many bytes as memory.
+        REPLY_TOO_LONG => MEMORY,
+        number => number,
+    }
 }
 
 /// Looks up like `resb_item_json`, or returns the number of `ReplyTooLong` if the item has more than
@@ -189,12 +157,10 @@ pub extern "C" fn resb_item_json_within(
     ensures same_len { result ≢ 0 → result ≢ 5 → len.new ≡ len.old }
     ensures closed { IfNone (engine_of handle.old) (result ≡ 2) }
 {
-    let Some(engine) = take(alloc, handle) else {
-        return CLOSED;
-    };
-    let result = copy_item(&engine, alloc, app, locale, path, steps, bytes, out, len);
-    *handle = Handle::of(engine);
-    result
+    let query = Query { app, locale, path };
+    with_engine!(alloc, handle, engine => {
+        copy_item(&engine, alloc, query, steps, bytes, out, len)
+    })
 }
 
 /// Makes the tree of an item that a lookup finds, or returns the number of the tree's own error.
@@ -203,28 +169,23 @@ fn tree_of(
     shelves: AppShelves<'_>,
     name: &Name,
     path: &[u8],
-    steps: u64,
-    bytes: u64,
+    limits: TreeLimits,
 ) -> Result<Vec<u8>, u32>
     ensures tree { IfOk result (λ tree. (hit : Hit) → IsPath path.now
         → look_up (bundles_lent shelves.entry.own) (bundles_lent shelves.entry.icudata)
         (parent_of shelves.entry.parents.now) name.now (segments path.now) ≡ Ok hit
         → IsTreeOf (bundles_lent shelves.entry.own) (parent_of shelves.entry.parents.now) name.now
         path.now (λ written. tree.items ≡ written) hit) }
-    ensures bytes { IfOk result (λ tree. length tree.items ≤ bytes) }
+    ensures bytes { IfOk result (λ tree. length tree.items ≤ limits.bytes) }
     ensures error { IfErr result (λ n. (n ≡ 1) ⊎ ((n ≡ 20) ⊎ (n ≡ 30))) }
 {
-    let limits = TreeLimits {
-        steps: Some(steps),
-        bytes,
-    };
     let AppShelves {
         own,
         icudata,
         parents,
     } = shelves;
     match tree_text(alloc, own, icudata, parents, name, path, limits) {
-        Ok(tree) if tree.len() as u64 <= bytes => Ok(tree),
+        Ok(tree) if tree.len() as u64 <= limits.bytes => Ok(tree),
         Ok(_) => Err(TREE_TOO_LARGE),
         Err(TreeError::TooManySteps) => Err(TOO_MANY_STEPS),
         Err(TreeError::TreeTooLarge) => Err(TREE_TOO_LARGE),
@@ -233,88 +194,63 @@ fn tree_of(
     }
 }
 
-fn copy_tree_of(
+/// Copies the tree of an item that a lookup by these names finds.
+fn copy_named(
+    engine: &Engine,
     alloc: Global,
-    shelves: AppShelves<'_>,
-    name: &Name,
-    path: &[u8],
-    steps: u64,
-    bytes: u64,
+    query: Query<'_>,
+    limits: TreeLimits,
     out: &mut [u8],
     len: &mut usize,
 ) -> u32
-    ensures tree { result ≢ 1 → (hit : Hit) → IsPath path.now
-        → look_up (bundles_lent shelves.entry.own) (bundles_lent shelves.entry.icudata)
-        (parent_of shelves.entry.parents.now) name.now (segments path.now) ≡ Ok hit
-        → CopiesTreeOf (bundles_lent shelves.entry.own) (parent_of shelves.entry.parents.now)
-        name.now path.now hit result len.new (length out.old) (take len.new out.new) }
-    ensures bytes { result ≡ 0 → len.new ≤ bytes }
+    ensures tree { result ≢ 1 → (hit : Hit) (p : Place)
+        → place_of query.entry.app.now query.entry.locale.now ≡ Ok p → IsPath query.entry.path.now
+        → look_up (bundle_at (list_of p.app engine.now.packages))
+        (bundle_at (icudata_of engine.now.packages)) (parent_in engine.now.parents) p.name
+        (segments query.entry.path.now) ≡ Ok hit
+        → CopiesTreeOf (bundle_at (list_of p.app engine.now.packages))
+        (parent_in engine.now.parents) p.name query.entry.path.now hit result len.new
+        (length out.old) (take len.new out.new) }
+    ensures bytes { result ≡ 0 → len.new ≤ limits.bytes }
     ensures unchanged { result ≢ 0 → out.new ≡ out.old }
     ensures same_len { result ≢ 0 → result ≢ 5 → len.new ≡ len.old }
 {
-    match tree_of(alloc, shelves, name, path, steps, bytes) {
+    let app = match App::read(query.app) {
+        Ok(app) => app,
+        Err(fault) => return app_number(fault),
+    };
+    let Ok(name) = Name::read(query.locale) else {
+        return BAD_LOCALE;
+    };
+    match tree_of(alloc, engine.shelves(&app), &name, query.path, limits) {
         Ok(tree) => copy_bytes(&tree, out, len),
         Err(number) => number,
     }
 }
 
-/// Copies the tree of an item that a lookup by these names finds.
-fn copy_named(
-    engine: &Engine,
-    alloc: Global,
-    app: &[u8],
-    locale: &[u8],
-    path: &[u8],
-    steps: u64,
-    bytes: u64,
-    out: &mut [u8],
-    len: &mut usize,
-) -> u32
-    ensures tree { result ≢ 1 → (hit : Hit) (p : Place) → place_of app.now locale.now ≡ Ok p
-        → IsPath path.now → look_up (bundle_at (list_of p.app engine.now.packages))
-        (bundle_at (icudata_of engine.now.packages)) (parent_in engine.now.parents) p.name
-        (segments path.now) ≡ Ok hit
-        → CopiesTreeOf (bundle_at (list_of p.app engine.now.packages))
-        (parent_in engine.now.parents) p.name path.now hit result len.new
-        (length out.old) (take len.new out.new) }
-    ensures bytes { result ≡ 0 → len.new ≤ bytes }
-    ensures unchanged { result ≢ 0 → out.new ≡ out.old }
-    ensures same_len { result ≢ 0 → result ≢ 5 → len.new ≡ len.old }
-{
-    let app = match App::read(app) {
-        Ok(app) => app,
-        Err(fault) => return app_number(fault),
-    };
-    let Ok(name) = Name::read(locale) else {
-        return BAD_LOCALE;
-    };
-    let shelves = engine.shelves(&app);
-    copy_tree_of(alloc, shelves, &name, path, steps, bytes, out, len)
-}
-
 fn copy_tree(
     engine: &Engine,
     alloc: Global,
-    app: &[u8],
-    locale: &[u8],
-    path: &[u8],
+    query: Query<'_>,
     steps: u64,
     bytes: u64,
     out: &mut [u8],
     len: &mut usize,
 ) -> u32
-    ensures within { result ≢ 30
-        → takes_more_in engine.now steps app.now locale.now path.now ≡ false }
-    ensures tree { takes_more_in engine.now steps app.now locale.now path.now ≡ false
-        → result ≢ 1 → CopiesTree engine.now app.now locale.now path.now
-        (answer_in engine.now app.now locale.now path.now) result
-        len.new (length out.old) (take len.new out.new) }
+    ensures within { result ≢ 30 → exceeds engine.now (Some steps) query.entry ≡ false }
+    ensures tree { exceeds engine.now (Some steps) query.entry ≡ false → result ≢ 1
+        → CopiesTree engine.now query.entry.app.now query.entry.locale.now query.entry.path.now
+        (answer_to engine.now query.entry) result len.new (length out.old) (take len.new out.new) }
     ensures bytes { result ≡ 0 → len.new ≤ bytes }
     ensures unchanged { result ≢ 0 → out.new ≡ out.old }
     ensures same_len { result ≢ 0 → result ≢ 5 → len.new ≡ len.old }
 {
-    match engine.look_within(app, locale, path, steps) {
-        Ok(Ok(_)) => copy_named(engine, alloc, app, locale, path, steps, bytes, out, len),
+    let limits = TreeLimits {
+        steps: Some(steps),
+        bytes,
+    };
+    match engine.look_within(query.app, query.locale, query.path, steps) {
+        Ok(Ok(_)) => copy_named(engine, alloc, query, limits, out, len),
         Ok(Err(fault)) => look_number(fault),
         Err(_) => TOO_MANY_STEPS,
     }
@@ -372,10 +308,8 @@ pub extern "C" fn resb_tree_json_within(
     ensures same_len { result ≢ 0 → result ≢ 5 → len.new ≡ len.old }
     ensures closed { IfNone (engine_of handle.old) (result ≡ 2) }
 {
-    let Some(engine) = take(alloc, handle) else {
-        return CLOSED;
-    };
-    let result = copy_tree(&engine, alloc, app, locale, path, steps, bytes, out, len);
-    *handle = Handle::of(engine);
-    result
+    let query = Query { app, locale, path };
+    with_engine!(alloc, handle, engine => {
+        copy_tree(&engine, alloc, query, steps, bytes, out, len)
+    })
 }

@@ -5,8 +5,9 @@ ghost use Rattle.rb_tree.specs.Parts.{Fits};
 ghost use Rattle.rb_tree.specs.View.{view_of};
 ghost use Rattle.resb.specs.BundleForms.{IsFileOfJson};
 
-use crate::numbers::{MEMORY, OPEN, json_number};
-use crate::prepared::{checked, take_bundle};
+use crate::held::fill;
+use crate::numbers::{MEMORY, json_number};
+use crate::prepared::checked;
 use rb_handle::BundleHandle;
 use rb_json_reader::read_tree;
 use rb_tree::Tree;
@@ -37,14 +38,9 @@ fn read(alloc: Global, json: &[u8], line: &mut u64) -> Result<Box<Bundle>, u32>
             return Err(json_number(fault.kind));
         }
     };
-    let Ok(file) = file_of(alloc, &tree) else {
-        return Err(MEMORY);
-    };
+    let file = file_of(alloc, &tree).map_err(|_| MEMORY)?;
     // The file is valid, so checking it fails only for memory.
-    match checked(alloc, file) {
-        Ok(bundle) => Ok(bundle),
-        Err(_) => Err(MEMORY),
-    }
+    checked(alloc, file)
 }
 
 /// Reads a bundle from JSON, like `resb_prepare` from a text.
@@ -62,15 +58,5 @@ pub extern "C" fn resb_prepare_json(
     ensures busy { IfSome handle.old.file (λ _. result ≡ 3) }
 {
     *line = 0;
-    if let Some(bundle) = take_bundle(alloc, handle) {
-        *handle = BundleHandle::of(bundle);
-        return OPEN;
-    }
-    match read(alloc, json, line) {
-        Ok(bundle) => {
-            *handle = BundleHandle::of(bundle);
-            0
-        }
-        Err(number) => number,
-    }
+    fill!(take_bundle, BundleHandle, alloc, handle => read(alloc, json, line))
 }

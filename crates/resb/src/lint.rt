@@ -8,7 +8,7 @@ ghost use Rattle.rb_lint.specs.declared.finding.Severity.TheVariants as Severiti
 ghost use Rattle.resb.specs.Lint.{AreFindings, HasText, Shows};
 
 use crate::numbers::{BAD_TEXT, MEMORY, NO_ROOM, text_number};
-use crate::origins::{put_front, put_zero};
+use crate::origins::zero_ended;
 use rb_lint::{Levels, Message, Report, Settings, Severity, find_all};
 use std::alloc::{AllocError, Global};
 
@@ -51,11 +51,7 @@ fn field_of<const N: usize>(text: &str) -> [u8; N]
     requires { 0 < N }
     ensures { HasText result }
 {
-    let front = front_of(text, N);
-    let mut field = [0; N];
-    put_front(&mut field, front);
-    put_zero(&mut field, front.len());
-    field
+    zero_ended(front_of(text, N))
 }
 
 /// Returns the number of an error, or 0 for a warning.

@@ -2,10 +2,11 @@ ghost use Rattle.std.specs.Prelude.{◌≡◌, ◌≢◌, ◌⊎◌, ◌<◌, If
 ghost use Rattle.rb_handle.specs.Stored.{engine_of};
 ghost use Rattle.resb.specs.Lists.{zero_ended, Lists, CopiesKey};
 ghost use Rattle.resb.specs.Looks.{answer_in};
+ghost use Rattle.resb.specs.inner.Query.{answer_to};
 
-use crate::held::take;
-use crate::looks::keep_open;
-use crate::numbers::{CLOSED, MEMORY, NO_ENTRY, NO_ROOM, OTHER_KIND, look_number, reply_number};
+use crate::held::with_engine;
+use crate::looks::{Query, keep_open};
+use crate::numbers::{MEMORY, NO_ENTRY, NO_ROOM, OTHER_KIND, look_number, reply_number};
 use rb_engine::{Engine, Reply};
 use rb_handle::Handle;
 use rb_locales::Name;
@@ -69,28 +70,15 @@ pub extern "C" fn resb_list(
     ensures unchanged { result ≢ 0 → out.new ≡ out.old }
     ensures closed { IfNone (engine_of handle.old) (result ≡ 2) }
 {
-    let Some(engine) = take(alloc, handle) else {
-        return CLOSED;
-    };
-    let result = list_in(&engine, alloc, app, out, len);
-    *handle = Handle::of(engine);
-    result
+    with_engine!(alloc, handle, engine => list_in(&engine, alloc, app, out, len))
 }
 
-fn key_in(
-    engine: &Engine,
-    app: &[u8],
-    locale: &[u8],
-    path: &[u8],
-    index: usize,
-    out: &mut [u8],
-    len: &mut usize,
-) -> u32
-    ensures key { CopiesKey (answer_in engine.now app.now locale.now path.now) index result len.new
+fn key_in(engine: &Engine, query: Query<'_>, index: usize, out: &mut [u8], len: &mut usize) -> u32
+    ensures key { CopiesKey (answer_to engine.now query.entry) index result len.new
         (length out.old) (take len.new out.new) }
     ensures unchanged { result ≢ 0 → out.new ≡ out.old }
 {
-    let item = match engine.look(app, locale, path) {
+    let item = match engine.look(query.app, query.locale, query.path) {
         Ok(it) => it.node,
         Err(fault) => return look_number(fault),
     };
@@ -123,11 +111,9 @@ pub extern "C" fn resb_key(
     ensures unchanged { result ≢ 0 → out.new ≡ out.old }
     ensures closed { IfNone (engine_of handle.old) (result ≡ 2) }
 {
-    let Some(mut engine) = take(alloc, handle) else {
-        return CLOSED;
-    };
-    keep_open(&mut engine, app, locale);
-    let result = key_in(&engine, app, locale, path, index, out, len);
-    *handle = Handle::of(engine);
-    result
+    let query = Query { app, locale, path };
+    with_engine!(alloc, handle, engine => {
+        keep_open(&mut engine, query);
+        key_in(&engine, query, index, out, len)
+    })
 }

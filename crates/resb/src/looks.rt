@@ -1,33 +1,44 @@
-ghost use Rattle.std.specs.Prelude.{◌≡◌, ◌≢◌, ◌≤◌, IfNone, IfSome, length, take, true, false};
-ghost use Rattle.rb_views.specs.Seen.{units_seen};
+ghost use Rattle.std.specs.Prelude.{◌≡◌, ◌≢◌, ◌≤◌, IfNone, IfOk, IfSome, OnErr, OnOk, length};
+ghost use Rattle.std.specs.Prelude.{take, true, false};
+ghost use Rattle.rb_views.specs.Seen.{tree_seen, units_seen};
+ghost use Rattle.rb_engine.specs.LookResponse.{look_response};
 ghost use Rattle.rb_handle.specs.Stored.{engine_of};
-ghost use Rattle.resb.specs.Looks.{answer_in, exceeds_in, takes_more_in, Describes, Copies};
+ghost use Rattle.resb.specs.Looks.{answer_in, takes_more_in, Describes, Copies};
+ghost use Rattle.resb.specs.inner.Query.{answer_to, exceeds};
 
 use crate::found::Found;
-use crate::held::take;
-use crate::numbers::{CLOSED, NO_ROOM, OTHER_KIND, TOO_MANY_STEPS, look_number};
+use crate::held::with_engine;
+use crate::numbers::{NO_ROOM, OTHER_KIND, TOO_MANY_STEPS, look_number};
 use rb_engine::{Engine, TooManySteps};
 use rb_handle::Handle;
 use rb_views::Units;
 use std::alloc::Global;
 use std::sync::Arc;
 
+/// The names that a lookup begins with.
+#[derive(Clone, Copy)]
+pub(crate) struct Query<'a> {
+    pub(crate) app: &'a [u8],
+    pub(crate) locale: &'a [u8],
+    pub(crate) path: &'a [u8],
+}
+
 /// Keeps a locale open for the next lookups, if no other handle has the engine.
-pub(crate) fn keep_open(engine: &mut Arc<Engine>, app: &[u8], locale: &[u8])
+pub(crate) fn keep_open(engine: &mut Arc<Engine>, query: Query<'_>)
     ensures { engine.new.value ≡ engine.old.value }
 {
     if let Some(engine) = Arc::get_mut(engine) {
-        engine.keep_open(app, locale);
+        engine.keep_open(query.app, query.locale);
     }
 }
 
-fn look_unlimited(engine: &Engine, app: &[u8], locale: &[u8], path: &[u8], found: &mut Found) -> u32
+fn look_unlimited(engine: &Engine, query: Query<'_>, found: &mut Found) -> u32
     ensures few { result ≢ 30 }
-    ensures answer { Describes (answer_in engine.now app.now locale.now path.now) result
+    ensures answer { Describes (answer_to engine.now query.entry) result
         found.new.kind found.new.count found.new.number }
     ensures unchanged { result ≢ 0 → found.new ≡ found.old }
 {
-    match engine.look(app, locale, path) {
+    match engine.look(query.app, query.locale, query.path) {
         Ok(it) => {
             *found = Found::of(it.node);
             0
@@ -36,74 +47,43 @@ fn look_unlimited(engine: &Engine, app: &[u8], locale: &[u8], path: &[u8], found
     }
 }
 
-fn look_within(
-    engine: &Engine,
-    app: &[u8],
-    locale: &[u8],
-    path: &[u8],
-    steps: u64,
-    found: &mut Found,
-) -> u32
-    ensures within { result ≢ 30
-        → takes_more_in engine.now steps app.now locale.now path.now ≡ false }
-    ensures more { result ≡ 30
-        → takes_more_in engine.now steps app.now locale.now path.now ≡ true }
-    ensures answer { result ≢ 30 → Describes (answer_in engine.now app.now locale.now path.now)
-        result found.new.kind found.new.count found.new.number }
-    ensures unchanged { result ≢ 0 → found.new ≡ found.old }
-{
-    match engine.look_within(app, locale, path, steps) {
-        Ok(Ok(it)) => {
-            *found = Found::of(it.node);
-            0
-        }
-        Ok(Err(fault)) => look_number(fault),
-        Err(_) => TOO_MANY_STEPS,
-    }
-}
-
 /// Looks up by names, in at most `left` steps; `None` is no limit.
-fn look_in(
-    engine: &Engine,
-    app: &[u8],
-    locale: &[u8],
-    path: &[u8],
-    left: Option<u64>,
-    found: &mut Found,
-) -> u32
-    ensures more { result ≡ 30 → exceeds_in engine.now left app.now locale.now path.now ≡ true }
-    ensures within { result ≢ 30
-        → exceeds_in engine.now left app.now locale.now path.now ≡ false }
-    ensures answer { result ≢ 30 → Describes (answer_in engine.now app.now locale.now path.now)
-        result found.new.kind found.new.count found.new.number }
+fn look_in(engine: &Engine, query: Query<'_>, left: Option<u64>, found: &mut Found) -> u32
+    ensures more { result ≡ 30 → exceeds engine.now left query.entry ≡ true }
+    ensures within { result ≢ 30 → exceeds engine.now left query.entry ≡ false }
+    ensures answer { result ≢ 30 → Describes (answer_to engine.now query.entry) result
+        found.new.kind found.new.count found.new.number }
     ensures unchanged { result ≢ 0 → found.new ≡ found.old }
 {
     match left {
-        Some(steps) => look_within(engine, app, locale, path, steps, found),
-        None => look_unlimited(engine, app, locale, path, found),
+        Some(steps) => match engine.look_within(query.app, query.locale, query.path, steps) {
+            Ok(Ok(it)) => {
+                *found = Found::of(it.node);
+                0
+            }
+            Ok(Err(fault)) => look_number(fault),
+            Err(TooManySteps) => TOO_MANY_STEPS,
+        },
+        None => look_unlimited(engine, query, found),
     }
 }
 
 /// Looks up like `look_in` if the engine keeps the locale open under just these names.
 fn look_kept_in(
     engine: &Engine,
-    app: &[u8],
-    locale: &[u8],
-    path: &[u8],
+    query: Query<'_>,
     left: Option<u64>,
     found: &mut Found,
 ) -> Option<u32>
-    ensures within { IfSome result (λ number. number ≢ 30
-        → exceeds_in engine.now left app.now locale.now path.now ≡ false) }
-    ensures more { IfSome result (λ number. number ≡ 30
-        → exceeds_in engine.now left app.now locale.now path.now ≡ true) }
+    ensures within { IfSome result
+        (λ number. number ≢ 30 → exceeds engine.now left query.entry ≡ false) }
+    ensures more { IfSome result (λ number. number ≡ 30 → exceeds engine.now left query.entry ≡ true) }
     ensures answer { IfSome result (λ number. number ≢ 30 → Describes
-        (answer_in engine.now app.now locale.now path.now) number
-        found.new.kind found.new.count found.new.number) }
+        (answer_to engine.now query.entry) number found.new.kind found.new.count found.new.number) }
     ensures unchanged { IfSome result (λ number. number ≢ 0 → found.new ≡ found.old) }
     ensures none { IfNone result (found.new ≡ found.old) }
 {
-    match engine.find_kept(app, locale, path, left)? {
+    match engine.find_kept(query.app, query.locale, query.path, left)? {
         Ok(Ok(item)) => {
             *found = Found::of(item);
             Some(0)
@@ -116,27 +96,22 @@ fn look_kept_in(
 /// Looks up from the locale that the engine keeps open, or keeps it open first.
 fn look_keeping(
     engine: &mut Arc<Engine>,
-    app: &[u8],
-    locale: &[u8],
-    path: &[u8],
+    query: Query<'_>,
     left: Option<u64>,
     found: &mut Found,
 ) -> u32
     ensures stays { engine.new.value ≡ engine.old.value }
-    ensures within { result ≢ 30
-        → exceeds_in engine.old.value left app.now locale.now path.now ≡ false }
-    ensures more { result ≡ 30
-        → exceeds_in engine.old.value left app.now locale.now path.now ≡ true }
-    ensures answer { result ≢ 30
-        → Describes (answer_in engine.old.value app.now locale.now path.now) result
+    ensures within { result ≢ 30 → exceeds engine.old.value left query.entry ≡ false }
+    ensures more { result ≡ 30 → exceeds engine.old.value left query.entry ≡ true }
+    ensures answer { result ≢ 30 → Describes (answer_to engine.old.value query.entry) result
         found.new.kind found.new.count found.new.number }
     ensures unchanged { result ≢ 0 → found.new ≡ found.old }
 {
-    if let Some(number) = look_kept_in(engine, app, locale, path, left, found) {
+    if let Some(number) = look_kept_in(engine, query, left, found) {
         return number;
     }
-    keep_open(engine, app, locale);
-    look_in(engine, app, locale, path, left, found)
+    keep_open(engine, query);
+    look_in(engine, query, left, found)
 }
 
 /// Looks up the item at a path from a locale, and describes it.
@@ -156,12 +131,8 @@ pub extern "C" fn resb_look(
     ensures unchanged { result ≢ 0 → found.new ≡ found.old }
     ensures closed { IfNone (engine_of handle.old) (result ≡ 2) }
 {
-    let Some(mut engine) = take(alloc, handle) else {
-        return CLOSED;
-    };
-    let result = look_keeping(&mut engine, app, locale, path, None, found);
-    *handle = Handle::of(engine);
-    result
+    let query = Query { app, locale, path };
+    with_engine!(alloc, handle, engine => look_keeping(&mut engine, query, None, found))
 }
 
 /// Looks up like `resb_look`, or returns the number of `TooManySteps` if the lookup takes more than
@@ -187,15 +158,11 @@ pub extern "C" fn resb_look_within(
     ensures unchanged { result ≢ 0 → found.new ≡ found.old }
     ensures closed { IfNone (engine_of handle.old) (result ≡ 2) }
 {
-    let Some(mut engine) = take(alloc, handle) else {
-        return CLOSED;
-    };
-    let result = look_keeping(&mut engine, app, locale, path, Some(steps), found);
-    *handle = Handle::of(engine);
-    result
+    let query = Query { app, locale, path };
+    with_engine!(alloc, handle, engine => look_keeping(&mut engine, query, Some(steps), found))
 }
 
-fn copy_units(units: Units<'_>, out: &mut [u16])
+pub(crate) fn copy_units(units: Units<'_>, out: &mut [u16])
     requires { length (units_seen units) ≤ length out.old }
     ensures { take (length (units_seen units.entry)) out.new ≡ units_seen units.entry }
 {
@@ -204,19 +171,12 @@ fn copy_units(units: Units<'_>, out: &mut [u16])
     }
 }
 
-fn copy_in(
-    engine: &Engine,
-    app: &[u8],
-    locale: &[u8],
-    path: &[u8],
-    out: &mut [u16],
-    len: &mut usize,
-) -> u32
-    ensures answer { Copies (answer_in engine.now app.now locale.now path.now) result len.new
+fn copy_in(engine: &Engine, query: Query<'_>, out: &mut [u16], len: &mut usize) -> u32
+    ensures answer { Copies (answer_to engine.now query.entry) result len.new
         (length out.old) (take len.new out.new) }
     ensures unchanged { result ≢ 0 → out.new ≡ out.old }
 {
-    let item = match engine.look(app, locale, path) {
+    let item = match engine.look(query.app, query.locale, query.path) {
         Ok(it) => it.node,
         Err(fault) => return look_number(fault),
     };
@@ -250,11 +210,9 @@ pub extern "C" fn resb_text(
     ensures unchanged { result ≢ 0 → out.new ≡ out.old }
     ensures closed { IfNone (engine_of handle.old) (result ≡ 2) }
 {
-    let Some(mut engine) = take(alloc, handle) else {
-        return CLOSED;
-    };
-    keep_open(&mut engine, app, locale);
-    let result = copy_in(&engine, app, locale, path, out, len);
-    *handle = Handle::of(engine);
-    result
+    let query = Query { app, locale, path };
+    with_engine!(alloc, handle, engine => {
+        keep_open(&mut engine, query);
+        copy_in(&engine, query, out, len)
+    })
 }

@@ -1,11 +1,11 @@
-ghost use Rattle.std.specs.Prelude.{◌≡◌, ◌≢◌, None, IfNone, IfSome};
+ghost use Rattle.std.specs.Prelude.{◌≡◌, ◌≢◌, None, Some, IfNone, IfSome};
 ghost use Rattle.rb_handle.specs.Stored.{engine_of};
 ghost use Rattle.resb.specs.Open.{IsEmpty};
 ghost use Rattle.resb.specs.Start.{IsStarted, IsRefused};
 
 use crate::entry::Entry;
-use crate::held::take;
-use crate::numbers::{CLOSED, MEMORY, OPEN};
+use crate::held::{fill, take, with_engine};
+use crate::numbers::{MEMORY, OPEN};
 use crate::start::start;
 use rb_engine::Engine;
 use rb_handle::Handle;
@@ -67,17 +67,7 @@ pub extern "C" fn resb_open(alloc: Global, handle: &mut Handle, seed: &[u8]) -> 
     ensures busy { IfSome (engine_of handle.old) (λ _. result ≡ 3) }
     ensures memory { IfNone (engine_of handle.old) (result ≢ 0 → result ≡ 1) }
 {
-    if let Some(engine) = take(alloc, handle) {
-        *handle = Handle::of(engine);
-        return OPEN;
-    }
-    match new_engine(alloc, seed) {
-        Some(engine) => {
-            *handle = Handle::of(engine);
-            0
-        }
-        None => MEMORY,
-    }
+    fill!(take, Handle, alloc, handle => new_engine(alloc, seed).ok_or(MEMORY))
 }
 
 /// Opens an engine with the bundles of ICUDATA, and with the explicit parents of a bundle text. An
@@ -118,6 +108,23 @@ pub extern "C" fn resb_open_with(
     }
 }
 
+/// Puts a new engine into a handle. What the handle had is closed.
+pub(crate) fn put(alloc: Global, other: &mut Handle, engine: Option<Box<Arc<Engine>>>) -> u32
+    ensures put { IfSome engine
+        (λ b. (result ≡ 0) × (engine_of other.new ≡ Some b.value.value)) }
+    ensures none { IfNone engine
+        ((result ≡ 1) × (engine_of other.new ≡ engine_of other.old)) }
+{
+    match engine {
+        Some(engine) => {
+            drop(take(alloc, other));
+            *other = Handle::of(engine);
+            0
+        }
+        None => MEMORY,
+    }
+}
+
 /// Makes `other` one more handle of the same engine. What `other` had is closed.
 #[unsafe(no_mangle)]
 pub extern "C" fn resb_share(alloc: Global, handle: &mut Handle, other: &mut Handle) -> u32
@@ -128,19 +135,7 @@ pub extern "C" fn resb_share(alloc: Global, handle: &mut Handle, other: &mut Han
     ensures memory { result ≢ 0 → IfSome (engine_of handle.old) (λ _. result ≡ 1) }
     ensures closed { IfNone (engine_of handle.old) (result ≡ 2) }
 {
-    let Some(engine) = take(alloc, handle) else {
-        return CLOSED;
-    };
-    let again = another(alloc, &engine);
-    *handle = Handle::of(engine);
-    match again {
-        Some(again) => {
-            drop(take(alloc, other));
-            *other = Handle::of(again);
-            0
-        }
-        None => MEMORY,
-    }
+    with_engine!(alloc, handle, engine => put(alloc, other, another(alloc, &engine)))
 }
 
 fn another(alloc: Global, engine: &Arc<Engine>) -> Option<Box<Arc<Engine>>>

@@ -7,8 +7,8 @@ ghost use Rattle.resb.specs.Looks.{answer_in, exceeds_in, takes_more_in, Describ
 ghost use Rattle.resb.specs.OpenLocales.{RefusesWith};
 
 use crate::found::Found;
-use crate::held::take;
-use crate::numbers::{CLOSED, STALE, TOO_MANY_STEPS, look_number};
+use crate::held::with_engine;
+use crate::numbers::{STALE, TOO_MANY_STEPS, look_number};
 use rb_engine::{Engine, OpenLocale, Stale, TooManySteps};
 use rb_handle::Handle;
 use std::alloc::Global;
@@ -51,12 +51,7 @@ pub extern "C" fn resb_open_locale(
     ensures unchanged { result ≢ 0 → opened.new ≡ opened.old }
     ensures closed { IfNone (engine_of handle.old) (result ≡ 2) }
 {
-    let Some(engine) = take(alloc, handle) else {
-        return CLOSED;
-    };
-    let result = open_in(&engine, app, locale, opened);
-    *handle = Handle::of(engine);
-    result
+    with_engine!(alloc, handle, engine => open_in(&engine, app, locale, opened))
 }
 
 /// Looks up from an open locale, in at most `left` steps; `None` is no limit.
@@ -117,12 +112,7 @@ pub extern "C" fn resb_look_at(
     ensures unchanged { result ≢ 0 → found.new ≡ found.old }
     ensures closed { IfNone (engine_of handle.old) (result ≡ 2) }
 {
-    let Some(engine) = take(alloc, handle) else {
-        return CLOSED;
-    };
-    let result = look_at(&engine, opened, path, None, found);
-    *handle = Handle::of(engine);
-    result
+    with_engine!(alloc, handle, engine => look_at(&engine, opened, path, None, found))
 }
 
 /// Looks up like `resb_look_within` from a locale that was opened before, or returns the number of
@@ -156,10 +146,5 @@ pub extern "C" fn resb_look_at_within(
     ensures unchanged { result ≢ 0 → found.new ≡ found.old }
     ensures closed { IfNone (engine_of handle.old) (result ≡ 2) }
 {
-    let Some(engine) = take(alloc, handle) else {
-        return CLOSED;
-    };
-    let result = look_at(&engine, opened, path, Some(steps), found);
-    *handle = Handle::of(engine);
-    result
+    with_engine!(alloc, handle, engine => look_at(&engine, opened, path, Some(steps), found))
 }

@@ -5,12 +5,13 @@ ghost use Rattle.rb_engine.specs.OpenLocale.{IsOpenLocale};
 ghost use Rattle.rb_engine.specs.Version.{is_current};
 ghost use Rattle.rb_handle.specs.Stored.{engine_of};
 ghost use Rattle.resb.specs.Looks.{answer_in, Describes};
+ghost use Rattle.resb.specs.inner.Query.{answer_to};
 ghost use Rattle.resb.specs.Origins.{ComesFrom, IsNameIn};
 
 use crate::found::Found;
-use crate::held::take;
-use crate::looks::keep_open;
-use crate::numbers::{CLOSED, STALE, look_number};
+use crate::held::with_engine;
+use crate::looks::{Query, keep_open};
+use crate::numbers::{STALE, look_number};
 use rb_engine::{Engine, OpenLocale};
 use rb_handle::Handle;
 use rb_locales::Name;
@@ -28,14 +29,14 @@ pub struct Origin {
     pub valid: [u8; NAME_SIZE],
 }
 
-pub(crate) fn put_front(field: &mut [u8], bytes: &[u8])
+fn put_front(field: &mut [u8], bytes: &[u8])
     requires { length bytes.now ≤ length field.old }
     ensures { take (length bytes.now) field.new ≡ bytes.now }
 {
     field[..bytes.len()].copy_from_slice(bytes);
 }
 
-pub(crate) fn put_zero(field: &mut [u8], at: usize)
+fn put_zero(field: &mut [u8], at: usize)
     requires { at < length field.old }
     ensures front { take at field.new ≡ take at field.old }
     ensures zero { slice_get field.new at ≡ Some 0 }
@@ -43,12 +44,12 @@ pub(crate) fn put_zero(field: &mut [u8], at: usize)
     field[at] = 0;
 }
 
-/// Returns a name with a zero byte after it.
-fn zero_ended(name: &Name) -> [u8; NAME_SIZE]
-    ensures { IsNameIn result name.now }
+/// Returns a field with bytes and a zero byte after them.
+pub(crate) fn zero_ended<const N: usize>(bytes: &[u8]) -> [u8; N]
+    requires { length bytes.now < N }
+    ensures { IsNameIn result bytes.now }
 {
-    let bytes = name.as_bytes();
-    let mut field = [0; NAME_SIZE];
+    let mut field = [0; N];
     put_front(&mut field, bytes);
     put_zero(&mut field, bytes.len());
     field
@@ -60,28 +61,20 @@ impl Origin {
         ensures valid { IsNameIn result.valid valid.now }
     {
         Origin {
-            actual: zero_ended(actual),
-            valid: zero_ended(valid),
+            actual: zero_ended(actual.as_bytes()),
+            valid: zero_ended(valid.as_bytes()),
         }
     }
 }
 
-fn look_in(
-    engine: &Engine,
-    app: &[u8],
-    locale: &[u8],
-    path: &[u8],
-    found: &mut Found,
-    origin: &mut Origin,
-) -> u32
-    ensures answer { Describes (answer_in engine.now app.now locale.now path.now) result
+fn look_in(engine: &Engine, query: Query<'_>, found: &mut Found, origin: &mut Origin) -> u32
+    ensures answer { Describes (answer_to engine.now query.entry) result
         found.new.kind found.new.count found.new.number }
-    ensures origin { ComesFrom (answer_in engine.now app.now locale.now path.now)
-        origin.new.actual origin.new.valid }
+    ensures origin { ComesFrom (answer_to engine.now query.entry) origin.new.actual origin.new.valid }
     ensures unchanged { result ≢ 0 → found.new ≡ found.old }
     ensures same_origin { result ≢ 0 → origin.new ≡ origin.old }
 {
-    match engine.look(app, locale, path) {
+    match engine.look(query.app, query.locale, query.path) {
         Ok(it) => {
             *found = Found::of(it.node);
             *origin = Origin::of(&it.actual, &it.valid);
@@ -113,13 +106,11 @@ pub extern "C" fn resb_look_origin(
     ensures same_origin { result ≢ 0 → origin.new ≡ origin.old }
     ensures closed { IfNone (engine_of handle.old) (result ≡ 2) }
 {
-    let Some(mut engine) = take(alloc, handle) else {
-        return CLOSED;
-    };
-    keep_open(&mut engine, app, locale);
-    let result = look_in(&engine, app, locale, path, found, origin);
-    *handle = Handle::of(engine);
-    result
+    let query = Query { app, locale, path };
+    with_engine!(alloc, handle, engine => {
+        keep_open(&mut engine, query);
+        look_in(&engine, query, found, origin)
+    })
 }
 
 fn look_at(
@@ -179,10 +170,5 @@ pub extern "C" fn resb_look_origin_at(
     ensures same_origin { result ≢ 0 → origin.new ≡ origin.old }
     ensures closed { IfNone (engine_of handle.old) (result ≡ 2) }
 {
-    let Some(engine) = take(alloc, handle) else {
-        return CLOSED;
-    };
-    let result = look_at(&engine, opened, path, found, origin);
-    *handle = Handle::of(engine);
-    result
+    with_engine!(alloc, handle, engine => look_at(&engine, opened, path, found, origin))
 }

@@ -9,21 +9,13 @@ ghost use Rattle.resb.specs.Changes.{payload_of};
 ghost use Rattle.resb.specs.Numbers.{IsFileError};
 ghost use Rattle.resb.specs.Prepared.{IsPayloadError, IsPrepared};
 
-use crate::numbers::{CLOSED, MEMORY, OPEN, file_number, text_number};
+use crate::held::{fill, take_bundle, with_bundle};
+use crate::numbers::{MEMORY, file_number, text_number};
 use rb_compiler::compile_bundle;
 use rb_handle::BundleHandle;
 use rb_lexer::{SourceFault, SourceKind};
 use rb_validator::{Bundle, accept};
 use std::alloc::Global;
-use std::mem;
-
-/// Takes the bundle out of a handle, which is discarded until it is put back.
-pub(crate) fn take_bundle(alloc: Global, handle: &mut BundleHandle) -> Option<Box<Bundle>>
-    ensures bundle { option_map boxed result ≡ handle.old.file }
-    ensures discarded { handle.new.file ≡ None }
-{
-    mem::replace(handle, BundleHandle::discarded(alloc)).into_bundle()
-}
 
 /// Checks a file, or returns the number of its first error.
 pub(crate) fn checked(alloc: Global, file: Vec<u8>) -> Result<Box<Bundle>, u32>
@@ -32,23 +24,15 @@ pub(crate) fn checked(alloc: Global, file: Vec<u8>) -> Result<Box<Bundle>, u32>
     ensures refused { IfErr result (IsFileError file.items) }
     ensures error { IfErr result (λ n. n ≢ 0) }
 {
-    match accept(alloc, file) {
-        Ok(bundle) => match Box::new(alloc, bundle) {
-            Ok(bundle) => Ok(bundle),
-            Err(_) => Err(MEMORY),
-        },
-        Err((fault, _)) => Err(file_number(fault)),
-    }
+    let bundle = accept(alloc, file).map_err(|(fault, _)| file_number(fault))?;
+    Box::new(alloc, bundle).map_err(|_| MEMORY)
 }
 
 fn compiled(alloc: Global, text: &[u8]) -> Result<Box<Bundle>, SourceFault>
     ensures bundle { IfOk result (λ b. IsCompiled text.now b.value) }
     ensures refused { IfErr result (IsRefusal text.now) }
 {
-    let bundle = match compile_bundle(alloc, text) {
-        Ok(bundle) => bundle,
-        Err(fault) => return Err(fault),
-    };
+    let bundle = compile_bundle(alloc, text)?;
     match Box::new(alloc, bundle) {
         Ok(bundle) => Ok(bundle),
         Err(_) => Err(SourceFault {
@@ -74,10 +58,8 @@ fn read(alloc: Global, bytes: &[u8], is_text: bool, line: &mut u64) -> Result<Bo
             }
         };
     }
-    match bytes.to_vec(alloc) {
-        Ok(file) => checked(alloc, file),
-        Err(_) => Err(MEMORY),
-    }
+    let file = bytes.to_vec(alloc).map_err(|_| MEMORY)?;
+    checked(alloc, file)
 }
 
 /// Reads a bundle from a text or a file without an engine, and stores it in a handle. Returns 0 or
@@ -100,23 +82,15 @@ pub extern "C" fn resb_prepare(
         (result ≢ 0 → IsPayloadError (payload_of is_text bytes.now) result line.new) }
 {
     *line = 0;
-    if let Some(bundle) = take_bundle(alloc, handle) {
-        *handle = BundleHandle::of(bundle);
-        return OPEN;
-    }
-    match read(alloc, bytes, is_text, line) {
-        Ok(bundle) => {
-            *handle = BundleHandle::of(bundle);
-            0
-        }
-        Err(number) => number,
-    }
+    fill!(take_bundle, BundleHandle, alloc, handle => read(alloc, bytes, is_text, line))
 }
 
-fn copy_of(alloc: Global, bundle: &Bundle) -> Option<Box<Bundle>>
-    ensures { IfSome result (λ b. b.value ≡ bundle.now) }
+fn copy_of(alloc: Global, bundle: &Bundle) -> Result<Box<Bundle>, u32>
+    ensures copy { IfOk result (λ b. b.value ≡ bundle.now) }
+    ensures memory { IfErr result (λ n. n ≡ 1) }
 {
-    Box::new(alloc, bundle.clone().ok()?).ok()
+    let copy = bundle.clone().map_err(|_| MEMORY)?;
+    Box::new(alloc, copy).map_err(|_| MEMORY)
 }
 
 fn copy_to(alloc: Global, bundle: &Bundle, other: &mut BundleHandle) -> u32
@@ -126,17 +100,7 @@ fn copy_to(alloc: Global, bundle: &Bundle, other: &mut BundleHandle) -> u32
     ensures busy { IfSome other.old.file (λ _. result ≡ 3) }
     ensures memory { IfNone other.old.file (result ≢ 0 → result ≡ 1) }
 {
-    if let Some(bundle) = take_bundle(alloc, other) {
-        *other = BundleHandle::of(bundle);
-        return OPEN;
-    }
-    match copy_of(alloc, bundle) {
-        Some(copy) => {
-            *other = BundleHandle::of(copy);
-            0
-        }
-        None => MEMORY,
-    }
+    fill!(take_bundle, BundleHandle, alloc, other => copy_of(alloc, bundle))
 }
 
 /// Makes another handle, which has no bundle, one more of the same bundle.
@@ -156,12 +120,7 @@ pub extern "C" fn resb_copy_bundle(
     ensures memory { IfSome handle.old.file (λ _. IfNone other.old.file
         (result ≢ 0 → result ≡ 1)) }
 {
-    let Some(bundle) = take_bundle(alloc, handle) else {
-        return CLOSED;
-    };
-    let result = copy_to(alloc, &bundle, other);
-    *handle = BundleHandle::of(bundle);
-    result
+    with_bundle!(alloc, handle, bundle => copy_to(alloc, &bundle, other))
 }
 
 /// Discards the bundle of a handle. A handle without one stays without one.

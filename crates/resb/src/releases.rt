@@ -10,62 +10,14 @@ ghost use Rattle.resb.specs.Releases.{Takes, change_number, change_of, draft_num
 ghost use Rattle.resb.specs.Releases.{with_change};
 
 use crate::edit::Edit;
-use crate::held::take;
-use crate::numbers::{BAD_LOCALE, CLOSED, MEMORY, SHARED, app_number, draft_number};
-use crate::prepared::take_bundle;
+use crate::held::{take_bundle, with_engine};
+use crate::numbers::{BAD_LOCALE, MEMORY, SHARED, app_number, draft_number};
 use rb_engine::{App, Draft, Engine};
 use rb_handle::Handle;
 use rb_locales::Name;
 use rb_validator::Bundle;
 use std::alloc::Global;
 use std::sync::Arc;
-
-fn draft_put(draft: &mut Draft, name: Name, bundle: Bundle) -> u32
-    ensures taken { result ≡ 0 → draft_number (put_fault name draft.old) ≡ 0 }
-    ensures draft { result ≡ 0 → draft.new ≡ with_change (Some name) (Some bundle) draft.old }
-    ensures refused { result ≢ 0 → result ≢ 1 → result ≡ draft_number (put_fault name draft.old) }
-    ensures app { draft.new.app ≡ draft.old.app }
-    ensures unshared { result ≢ 4 }
-{
-    match draft.put(name, bundle) {
-        Ok(()) => 0,
-        Err(fault) => draft_number(fault),
-    }
-}
-
-fn draft_removal(draft: &mut Draft, name: Name) -> u32
-    ensures taken { result ≡ 0 → draft_number (removal_fault name draft.old) ≡ 0 }
-    ensures draft { result ≡ 0 → draft.new ≡ with_change (Some name) None draft.old }
-    ensures refused { result ≢ 0 → result ≢ 1
-        → result ≡ draft_number (removal_fault name draft.old) }
-    ensures app { draft.new.app ≡ draft.old.app }
-    ensures unshared { result ≢ 4 }
-{
-    match draft.remove(name) {
-        Ok(()) => 0,
-        Err(fault) => draft_number(fault),
-    }
-}
-
-/// Adds a change to a draft.
-fn draft_change(draft: &mut Draft, locale: &[u8], bundle: Option<Box<Bundle>>) -> u32
-    ensures taken { result ≡ 0
-        → change_number draft.old (name_of locale.now) (option_map boxed bundle) ≡ 0 }
-    ensures draft { result ≡ 0
-        → draft.new ≡ with_change (name_of locale.now) (option_map boxed bundle) draft.old }
-    ensures refused { result ≢ 0 → result ≢ 1
-        → result ≡ change_number draft.old (name_of locale.now) (option_map boxed bundle) }
-    ensures app { draft.new.app ≡ draft.old.app }
-    ensures unshared { result ≢ 4 }
-{
-    let Ok(name) = Name::read(locale) else {
-        return BAD_LOCALE;
-    };
-    match bundle {
-        Some(bundle) => draft_put(draft, name, Box::into_inner(bundle)),
-        None => draft_removal(draft, name),
-    }
-}
 
 /// Takes the bundle out of an edit, and adds the change to a draft.
 fn draft_edit(alloc: Global, draft: &mut Draft, edit: &mut Edit<'_>) -> u32
@@ -81,7 +33,19 @@ fn draft_edit(alloc: Global, draft: &mut Draft, edit: &mut Edit<'_>) -> u32
     ensures locale { edit.new.locale.now ≡ edit.old.locale.now }
 {
     let bundle = take_bundle(alloc, &mut edit.bundle);
-    draft_change(draft, edit.locale, bundle)
+    let Ok(name) = Name::read(edit.locale) else {
+        return BAD_LOCALE;
+    };
+    match bundle {
+        Some(bundle) => match draft.put(name, Box::into_inner(bundle)) {
+            Ok(()) => 0,
+            Err(fault) => draft_number(fault),
+        },
+        None => match draft.remove(name) {
+            Ok(()) => 0,
+            Err(fault) => draft_number(fault),
+        },
+    }
 }
 
 /// Adds changes to a draft, up to the first that is refused, whose index it writes.
@@ -104,41 +68,8 @@ fn draft_all(alloc: Global, draft: &mut Draft, edits: &mut [Edit<'_>], place: &m
     0
 }
 
-fn release_in(
-    engine: &mut Engine,
-    alloc: Global,
-    app: &[u8],
-    edits: &mut [Edit<'_>],
-    place: &mut usize,
-) -> u32
-    ensures released { result ≡ 0
-        → IsReleased engine.old app.now (map change_of edits.old) engine.new }
-    ensures refused { result ≢ 0 → result ≢ 1
-        → IsUnreleased engine.old (app_of app.now) (map change_of edits.old) result place.new }
-    ensures unchanged { result ≢ 0 → engine.new ≡ engine.old }
-    ensures unshared { result ≢ 4 }
-    ensures bundles { result ≡ 0 → HaveNoBundles edits.new }
-    ensures locales { locales_of edits.new ≡ locales_of edits.old }
-{
-    let app = match App::read(app) {
-        Ok(app) => app,
-        Err(fault) => return app_number(fault),
-    };
-    let Ok(mut draft) = engine.draft(alloc, &app) else {
-        return MEMORY;
-    };
-    let number = draft_all(alloc, &mut draft, edits, place);
-    if number != 0 {
-        return number;
-    }
-    match engine.release(draft) {
-        Ok(()) => 0,
-        Err(_) => MEMORY,
-    }
-}
-
 /// Makes changes if no other handle has the engine.
-fn release_alone(
+fn release_in(
     engine: &mut Arc<Engine>,
     alloc: Global,
     app: &[u8],
@@ -154,9 +85,23 @@ fn release_alone(
     ensures bundles { result ≡ 0 → HaveNoBundles edits.new }
     ensures locales { locales_of edits.new ≡ locales_of edits.old }
 {
-    match Arc::get_mut(engine) {
-        Some(engine) => release_in(engine, alloc, app, edits, place),
-        None => SHARED,
+    let Some(engine) = Arc::get_mut(engine) else {
+        return SHARED;
+    };
+    let app = match App::read(app) {
+        Ok(app) => app,
+        Err(fault) => return app_number(fault),
+    };
+    let Ok(mut draft) = engine.draft(alloc, &app) else {
+        return MEMORY;
+    };
+    let number = draft_all(alloc, &mut draft, edits, place);
+    if number != 0 {
+        return number;
+    }
+    match engine.release(draft) {
+        Ok(()) => 0,
+        Err(_) => MEMORY,
     }
 }
 
@@ -183,10 +128,5 @@ pub extern "C" fn resb_release(
     ensures closed { IfNone (engine_of handle.old) (result ≡ 2) }
 {
     *place = 0;
-    let Some(mut engine) = take(alloc, handle) else {
-        return CLOSED;
-    };
-    let result = release_alone(&mut engine, alloc, app, edits, place);
-    *handle = Handle::of(engine);
-    result
+    with_engine!(alloc, handle, engine => release_in(&mut engine, alloc, app, edits, place))
 }

@@ -3,9 +3,8 @@ ghost use Rattle.std.specs.Prelude.{◌≡◌, ◌≢◌, None, IfNone, IfSome};
 ghost use Rattle.rb_handle.specs.Stored.{engine_of};
 ghost use Rattle.resb.specs.Snapshots.{IsSnapshot};
 
-use crate::held::take;
-use crate::numbers::{CLOSED, MEMORY};
-use crate::open::{seeded, shareable};
+use crate::held::with_engine;
+use crate::open::{put, seeded, shareable};
 use rb_engine::Engine;
 use rb_handle::Handle;
 use std::alloc::Global;
@@ -37,17 +36,7 @@ pub extern "C" fn resb_snapshot(
     ensures memory { result ≢ 0 → IfSome (engine_of handle.old) (λ _. result ≡ 1) }
     ensures closed { IfNone (engine_of handle.old) (result ≡ 2) }
 {
-    let Some(engine) = take(alloc, handle) else {
-        return CLOSED;
-    };
-    let snapshot = snapshot_of(alloc, &engine, seed);
-    *handle = Handle::of(engine);
-    match snapshot {
-        Some(snapshot) => {
-            drop(take(alloc, other));
-            *other = Handle::of(snapshot);
-            0
-        }
-        None => MEMORY,
-    }
+    with_engine!(alloc, handle, engine => {
+        put(alloc, other, snapshot_of(alloc, &engine, seed))
+    })
 }

@@ -79,16 +79,9 @@ pub(crate) fn start(
 {
     let entries = entries_of(alloc, icudata)?;
     let parents = parents_of(alloc, parents)?;
-    let Some(state) = seeded(seed) else {
-        return Err(StartError::Memory);
-    };
-    match Engine::start(alloc, state, entries, parents) {
-        Ok(engine) => match shareable(alloc, engine) {
-            Some(engine) => Ok(engine),
-            None => Err(StartError::Memory),
-        },
-        Err(fault) => Err(StartError::Entries(fault)),
-    }
+    let state = seeded(seed).ok_or(StartError::Memory)?;
+    let engine = Engine::start(alloc, state, entries, parents).map_err(StartError::Entries)?;
+    shareable(alloc, engine).ok_or(StartError::Memory)
 }
 
 impl StartError {

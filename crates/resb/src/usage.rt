@@ -4,8 +4,8 @@ ghost use Rattle.rb_handle.specs.Stored.{engine_of};
 ghost use Rattle.rb_packages.specs.Usage.{apps_of};
 ghost use Rattle.resb.specs.Usage.{Uses};
 
-use crate::held::take;
-use crate::numbers::{CLOSED, app_number};
+use crate::held::with_engine;
+use crate::numbers::app_number;
 use rb_engine::{App, Engine};
 use rb_handle::Handle;
 use std::alloc::Global;
@@ -42,12 +42,7 @@ pub extern "C" fn resb_usage(
     ensures same_bundles { result ≢ 0 → bundles.new ≡ bundles.old }
     ensures closed { IfNone (engine_of handle.old) (result ≡ 2) }
 {
-    let Some(engine) = take(alloc, handle) else {
-        return CLOSED;
-    };
-    let result = usage_in(&engine, app, bytes, bundles);
-    *handle = Handle::of(engine);
-    result
+    with_engine!(alloc, handle, engine => usage_in(&engine, app, bytes, bundles))
 }
 
 /// Writes the number of applications that have bundles.
@@ -58,10 +53,8 @@ pub extern "C" fn resb_apps(alloc: Global, handle: &mut Handle, apps: &mut u64) 
         × (apps.new ≡ apps_of e.packages)) }
     ensures closed { IfNone (engine_of handle.old) ((result ≡ 2) × (apps.new ≡ apps.old)) }
 {
-    let Some(engine) = take(alloc, handle) else {
-        return CLOSED;
-    };
-    *apps = engine.apps();
-    *handle = Handle::of(engine);
-    0
+    with_engine!(alloc, handle, engine => {
+        *apps = engine.apps();
+        0
+    })
 }

@@ -5,11 +5,12 @@ ghost use Rattle.std.specs.Char.Utf16.{utf16_lossy_chars};
 ghost use Rattle.rb_views.specs.Seen.{units_seen};
 ghost use Rattle.rb_handle.specs.Stored.{engine_of};
 ghost use Rattle.resb.specs.Looks.{CopiesUtf8, answer_in};
+ghost use Rattle.resb.specs.inner.Query.{answer_to};
 
-use crate::held::take;
+use crate::held::with_engine;
 use crate::lists::copy_bytes;
-use crate::looks::keep_open;
-use crate::numbers::{CLOSED, MEMORY, OTHER_KIND, look_number};
+use crate::looks::{Query, copy_units, keep_open};
+use crate::numbers::{MEMORY, OTHER_KIND, look_number};
 use rb_engine::Engine;
 use rb_handle::Handle;
 use rb_views::Units;
@@ -20,27 +21,23 @@ pub(crate) fn utf8_of(alloc: Global, units: Units<'_>) -> Result<String, AllocEr
     ensures { IfOk result (λ text. string_bytes text
         ≡ encode_utf8_all (utf16_lossy_chars (units_seen units.entry))) }
 {
-    let mut copy = Vec::with_capacity(alloc, units.len())?;
-    for i in 0..units.len() {
-        copy.push(units.at(i))?;
-    }
+    let mut copy = vec![in alloc; 0; units.len()]?;
+    copy_units(units, &mut copy);
     String::from_utf16_lossy(alloc, &copy)
 }
 
 fn copy_utf8(
     engine: &Engine,
     alloc: Global,
-    app: &[u8],
-    locale: &[u8],
-    path: &[u8],
+    query: Query<'_>,
     out: &mut [u8],
     len: &mut usize,
 ) -> u32
-    ensures answer { result ≢ 1 → CopiesUtf8 (answer_in engine.now app.now locale.now path.now)
-        result len.new (length out.old) (take len.new out.new) }
+    ensures answer { result ≢ 1 → CopiesUtf8 (answer_to engine.now query.entry) result len.new
+        (length out.old) (take len.new out.new) }
     ensures unchanged { result ≢ 0 → out.new ≡ out.old }
 {
-    let item = match engine.look(app, locale, path) {
+    let item = match engine.look(query.app, query.locale, query.path) {
         Ok(it) => it.node,
         Err(fault) => return look_number(fault),
     };
@@ -72,11 +69,9 @@ pub extern "C" fn resb_text_utf8(
     ensures unchanged { result ≢ 0 → out.new ≡ out.old }
     ensures closed { IfNone (engine_of handle.old) (result ≡ 2) }
 {
-    let Some(mut engine) = take(alloc, handle) else {
-        return CLOSED;
-    };
-    keep_open(&mut engine, app, locale);
-    let result = copy_utf8(&engine, alloc, app, locale, path, out, len);
-    *handle = Handle::of(engine);
-    result
+    let query = Query { app, locale, path };
+    with_engine!(alloc, handle, engine => {
+        keep_open(&mut engine, query);
+        copy_utf8(&engine, alloc, query, out, len)
+    })
 }

@@ -15,6 +15,6 @@ returns-in-Ok-Ok-clause-tree c within some =
     let count = c.copy_named.new.len in
     let room = length c.args.out.now in
     let copy = take count c.copy_named.new.out in
-    subst (λ (r : Response). CopiesTree kept c.args.app.now c.args.locale.now c.args.path.now r c.copy_named.result count room copy) came
-    (found_tree kept c.args.app.now c.args.locale.now c.args.path.now hit found.valid c.copy_named.result count room copy came
+    subst (λ (r : Response). CopiesTree kept c.args.query.app.now c.args.query.locale.now c.args.query.path.now r c.copy_named.result count room copy) came
+    (found_tree kept c.args.query.app.now c.args.query.locale.now c.args.query.path.now hit found.valid c.copy_named.result count room copy came
     (c.copy_named.ensures.tree some hit))
