@@ -20,20 +20,12 @@ use rb_views::{Item, Units, root};
 use std::alloc::{AllocError, Global};
 use std::collections::BTreeSet;
 
-fn cut(text: &str) -> Option<(&str, &str)>
-    ensures { MatchOption result (position_or_len is_slash text.now ≡ length text.now)
-        (λ p. (p.0.now ≡ before_first is_slash text.now)
-        × (p.1.now ≡ after_first is_slash text.now)) }
-{
-    text.split_once('/')
-}
-
 /// Returns what comes before the first slash of a text, and what comes after it.
 fn at_slash(text: &str) -> (&str, &str)
     ensures before { result.0.now ≡ before_first is_slash text.now }
     ensures after { result.1.now ≡ after_first is_slash text.now }
 {
-    match cut(text) {
+    match text.split_once('/') {
         Some(parts) => parts,
         None => (text, ""),
     }

@@ -1,10 +1,6 @@
 //! Prepared bundles as files, as texts and as JSON.
-ghost use Rattle.std.specs.Prelude.{◌≡◌, ◌≢◌, ◌⊎◌, IfErr, IfNone, IfOk, IfSome, length, take};
-ghost use Rattle.std.specs.Prelude.{false, true};
-ghost use Rattle.serde_json.specs.Written.{compact_text};
+ghost use Rattle.std.specs.Prelude.{◌≡◌, ◌≢◌, IfNone, IfOk, IfSome, length, take};
 ghost use Rattle.rb_format.specs.File.{source_tree_of, tree_of};
-ghost use Rattle.rb_json.specs.Printed.{is_within as fits_json};
-ghost use Rattle.rb_json.specs.Value.{value_of};
 ghost use Rattle.rb_locales.specs.Locale.{name as name_of};
 ghost use Rattle.rb_printer.specs.Whole.{IsBundleText};
 ghost use Rattle.resb.specs.BundleForms.{CopiesJson, CopiesTextOf};

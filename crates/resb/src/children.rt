@@ -1,17 +1,17 @@
 //! The items of a table or an array, described by one lookup.
-ghost use Rattle.std.specs.Prelude.{◌≡◌, ◌≢◌, ◌<◌, ◌≤◌, IfNone, IfSome, Some, length, map};
+ghost use Rattle.std.specs.Prelude.{◌≡◌, ◌≢◌, ◌<◌, IfNone, IfSome, Some, length, map};
 ghost use Rattle.std.specs.Prelude.{drop, option_map, slice_get, take};
-ghost use Rattle.rb_views.specs.Seen.{entries_seen, tree_seen, trees_seen};
+ghost use Rattle.rb_views.specs.Seen.{tree_seen};
 ghost use Rattle.rb_handle.specs.Stored.{engine_of};
 ghost use Rattle.resb.specs.Children.{CopiesChildren, children_of, listed, shown, shown_child};
-ghost use Rattle.resb.specs.Children.{shown_entry, shown_item, size_of};
+ghost use Rattle.resb.specs.Children.{size_of};
 ghost use Rattle.resb.specs.Looks.{answer_in};
 ghost use Rattle.resb.specs.inner.Query.{answer_to};
 
 use crate::found::{Found, start_of};
 use crate::held::with_engine;
 use crate::looks::{Query, keep_open};
-use crate::numbers::{NO_ROOM, OTHER_KIND, look_number};
+use crate::numbers::{NO_ROOM, OTHER_KIND, look_number, or_number};
 use rb_engine::Engine;
 use rb_handle::Handle;
 use rb_views::{Array, Item, Table};
@@ -90,10 +90,7 @@ fn children_in(engine: &Engine, query: Query<'_>, out: &mut [Child], count: &mut
     ensures beyond { result ≡ 0 → drop count.new out.new ≡ drop count.new out.old }
     ensures unchanged { result ≢ 0 → out.new ≡ out.old }
 {
-    let item = match engine.look(query.app, query.locale, query.path) {
-        Ok(it) => it.node,
-        Err(fault) => return look_number(fault),
-    };
+    let item = or_number!(engine.look(query.app, query.locale, query.path) => look_number).node;
     let Some(items) = items_of(item) else {
         return OTHER_KIND;
     };

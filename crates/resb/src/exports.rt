@@ -5,7 +5,7 @@ ghost use Rattle.resb.specs.Exports.{Exports};
 
 use crate::held::with_engine;
 use crate::lists::copy_bytes;
-use crate::numbers::{BAD_LOCALE, app_number};
+use crate::numbers::{BAD_LOCALE, app_number, or_number};
 use rb_engine::{App, Engine};
 use rb_handle::Handle;
 use rb_locales::Name;
@@ -19,10 +19,7 @@ fn export_in(engine: &Engine, app: &[u8], locale: &[u8], out: &mut [u8], len: &m
         (length out.old) (take len.new out.new) }
     ensures unchanged { result ≢ 0 → out.new ≡ out.old }
 {
-    let app = match App::read(app) {
-        Ok(app) => app,
-        Err(fault) => return app_number(fault),
-    };
+    let app = or_number!(App::read(app) => app_number);
     let Ok(name) = Name::read(locale) else {
         return BAD_LOCALE;
     };

@@ -24,7 +24,7 @@ use crate::lists::copy_bytes;
 use crate::looks::Query;
 use crate::numbers::{
     BAD_LOCALE, MEMORY, NO_ROOM, REPLY_TOO_LONG, TOO_MANY_STEPS, TREE_TOO_LARGE, app_number,
-    look_number,
+    look_number, or_number,
 };
 use rb_engine::{App, AppShelves, Engine};
 use rb_fallback::Found;
@@ -215,10 +215,7 @@ fn copy_named(
     ensures unchanged { result ≢ 0 → out.new ≡ out.old }
     ensures same_len { result ≢ 0 → result ≢ 5 → len.new ≡ len.old }
 {
-    let app = match App::read(query.app) {
-        Ok(app) => app,
-        Err(fault) => return app_number(fault),
-    };
+    let app = or_number!(App::read(query.app) => app_number);
     let Ok(name) = Name::read(query.locale) else {
         return BAD_LOCALE;
     };

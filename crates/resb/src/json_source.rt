@@ -1,5 +1,5 @@
 //! Bundles that are prepared from JSON.
-ghost use Rattle.std.specs.Prelude.{◌≡◌, ◌≢◌, None, IfErr, IfNone, IfOk, IfSome, false};
+ghost use Rattle.std.specs.Prelude.{◌≡◌, ◌≢◌, None, IfErr, IfOk, IfSome, false};
 ghost use Rattle.rb_format.specs.File.{Denotes};
 ghost use Rattle.rb_tree.specs.Parts.{Fits};
 ghost use Rattle.rb_tree.specs.View.{view_of};

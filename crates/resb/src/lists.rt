@@ -6,7 +6,7 @@ ghost use Rattle.resb.specs.inner.Query.{answer_to};
 
 use crate::held::with_engine;
 use crate::looks::{Query, keep_open};
-use crate::numbers::{MEMORY, NO_ENTRY, NO_ROOM, OTHER_KIND, look_number, reply_number};
+use crate::numbers::{MEMORY, NO_ENTRY, NO_ROOM, OTHER_KIND, look_number, or_number, reply_number};
 use rb_engine::{Engine, Reply};
 use rb_handle::Handle;
 use rb_locales::Name;
@@ -78,10 +78,7 @@ fn key_in(engine: &Engine, query: Query<'_>, index: usize, out: &mut [u8], len: 
         (length out.old) (take len.new out.new) }
     ensures unchanged { result ≢ 0 → out.new ≡ out.old }
 {
-    let item = match engine.look(query.app, query.locale, query.path) {
-        Ok(it) => it.node,
-        Err(fault) => return look_number(fault),
-    };
+    let item = or_number!(engine.look(query.app, query.locale, query.path) => look_number).node;
     let Some(table) = item.table() else {
         return OTHER_KIND;
     };

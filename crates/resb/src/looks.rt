@@ -1,14 +1,13 @@
-ghost use Rattle.std.specs.Prelude.{◌≡◌, ◌≢◌, ◌≤◌, IfNone, IfOk, IfSome, OnErr, OnOk, length};
+ghost use Rattle.std.specs.Prelude.{◌≡◌, ◌≢◌, ◌≤◌, IfNone, IfSome, length};
 ghost use Rattle.std.specs.Prelude.{take, true, false};
-ghost use Rattle.rb_views.specs.Seen.{tree_seen, units_seen};
-ghost use Rattle.rb_engine.specs.LookResponse.{look_response};
+ghost use Rattle.rb_views.specs.Seen.{units_seen};
 ghost use Rattle.rb_handle.specs.Stored.{engine_of};
 ghost use Rattle.resb.specs.Looks.{answer_in, takes_more_in, Describes, Copies};
 ghost use Rattle.resb.specs.inner.Query.{answer_to, exceeds};
 
 use crate::found::Found;
 use crate::held::with_engine;
-use crate::numbers::{NO_ROOM, OTHER_KIND, TOO_MANY_STEPS, look_number};
+use crate::numbers::{NO_ROOM, OTHER_KIND, TOO_MANY_STEPS, look_number, or_number};
 use rb_engine::{Engine, TooManySteps};
 use rb_handle::Handle;
 use rb_views::Units;
@@ -176,10 +175,7 @@ fn copy_in(engine: &Engine, query: Query<'_>, out: &mut [u16], len: &mut usize) 
         (length out.old) (take len.new out.new) }
     ensures unchanged { result ≢ 0 → out.new ≡ out.old }
 {
-    let item = match engine.look(query.app, query.locale, query.path) {
-        Ok(it) => it.node,
-        Err(fault) => return look_number(fault),
-    };
+    let item = or_number!(engine.look(query.app, query.locale, query.path) => look_number).node;
     let Some(units) = item.text() else {
         return OTHER_KIND;
     };

@@ -196,3 +196,15 @@ pub(crate) fn draft_number(fault: DraftFault) -> u32
         DraftFault::Memory => MEMORY,
     }
 }
+
+/// Evaluates to the value of a result, or returns the number of its error.
+macro_rules! or_number {
+    ($result:expr => $number:ident) => {
+        match $result {
+            Ok(value) => value,
+            Err(fault) => return $number(fault),
+        }
+    };
+}
+
+pub(crate) use or_number;

@@ -1,9 +1,7 @@
 //! Bundles that are read and checked outside any engine.
 ghost use Rattle.std.specs.Prelude.{◌≡◌, ◌≢◌, None, Some, IfErr, IfNone, IfOk, IfSome};
-ghost use Rattle.std.specs.Prelude.{option_map};
 ghost use Rattle.rb_compiler.specs.Compiled.{IsCompiled};
 ghost use Rattle.rb_format.specs.File.{Denotes, source_tree_of};
-ghost use Rattle.rb_handle.specs.Handle.{boxed};
 ghost use Rattle.rb_parser.specs.Source.{IsRefusal};
 ghost use Rattle.resb.specs.Changes.{payload_of};
 ghost use Rattle.resb.specs.Numbers.{IsFileError};

@@ -1,9 +1,6 @@
 //! Changes of one application's bundles, all of which are made or none.
-ghost use Rattle.std.specs.Prelude.{◌≡◌, ◌≢◌, None, Some, IfNone, IfSome, map, option_map};
-ghost use Rattle.rb_locales.specs.Locale.{name as name_of};
+ghost use Rattle.std.specs.Prelude.{◌≡◌, ◌≢◌, None, Some, IfNone, IfSome, map};
 ghost use Rattle.rb_packages.specs.App.{app_of};
-ghost use Rattle.rb_packages.specs.Release.{put_fault, removal_fault};
-ghost use Rattle.rb_handle.specs.Handle.{boxed};
 ghost use Rattle.rb_handle.specs.Stored.{engine_of};
 ghost use Rattle.resb.specs.Releases.{HaveNoBundles, IsFirstRefused, IsReleased, IsUnreleased};
 ghost use Rattle.resb.specs.Releases.{Takes, change_number, change_of, draft_number, locales_of};
@@ -11,7 +8,7 @@ ghost use Rattle.resb.specs.Releases.{with_change};
 
 use crate::edit::Edit;
 use crate::held::{take_bundle, with_engine};
-use crate::numbers::{BAD_LOCALE, MEMORY, SHARED, app_number, draft_number};
+use crate::numbers::{BAD_LOCALE, MEMORY, SHARED, app_number, draft_number, or_number};
 use rb_engine::{App, Draft, Engine};
 use rb_handle::Handle;
 use rb_locales::Name;
@@ -88,10 +85,7 @@ fn release_in(
     let Some(engine) = Arc::get_mut(engine) else {
         return SHARED;
     };
-    let app = match App::read(app) {
-        Ok(app) => app,
-        Err(fault) => return app_number(fault),
-    };
+    let app = or_number!(App::read(app) => app_number);
     let Ok(mut draft) = engine.draft(alloc, &app) else {
         return MEMORY;
     };

@@ -10,7 +10,7 @@ ghost use Rattle.resb.specs.inner.Query.{answer_to};
 use crate::held::with_engine;
 use crate::lists::copy_bytes;
 use crate::looks::{Query, copy_units, keep_open};
-use crate::numbers::{MEMORY, OTHER_KIND, look_number};
+use crate::numbers::{MEMORY, OTHER_KIND, look_number, or_number};
 use rb_engine::Engine;
 use rb_handle::Handle;
 use rb_views::Units;
@@ -37,10 +37,7 @@ fn copy_utf8(
         (length out.old) (take len.new out.new) }
     ensures unchanged { result ≢ 0 → out.new ≡ out.old }
 {
-    let item = match engine.look(query.app, query.locale, query.path) {
-        Ok(it) => it.node,
-        Err(fault) => return look_number(fault),
-    };
+    let item = or_number!(engine.look(query.app, query.locale, query.path) => look_number).node;
     let Some(units) = item.text() else {
         return OTHER_KIND;
     };

@@ -13,7 +13,7 @@ returns-in-Ok-tree_of-clause-tree c some hit p at good search =
     let tree = c.in-Ok-tree_of.tree.items in
     let room = length c.args.out.now in
     let copy = take c.copy_bytes.new.len c.copy_bytes.new.out in
-    named_copy c.args.engine.now c.args.query.app.now c.args.query.locale.now c.args.query.path.now c.in-Ok.app c.in-Ok-read.name
+    named_copy c.args.engine.now c.args.query.app.now c.args.query.locale.now c.args.query.path.now c.in-Ok.value c.in-Ok-read.name
     (files_in shelves.own) (files_in shelves.icudata) (family_pairs shelves.parents.now) hit c.copy_bytes.result c.copy_bytes.new.len room copy
     (sym c.in-Ok.ensures) (sym c.in-Ok-read.ensures.name) lent.own lent.icudata lent.parents
     (λ path found. inr (inr (
