@@ -1,5 +1,4 @@
 pub mod AliasNames
-pub mod Copies
 pub mod Findings
 pub mod FoundItems
 pub mod LooksBelow

@@ -1,5 +1,6 @@
 ghost use Rattle.std.specs.Prelude.{◌≡◌, ◌≢◌, ◌⊎◌, ◌<◌, IfOk, IfNone, IfSome, length, take};
 ghost use Rattle.rb_handle.specs.Stored.{engine_of};
+ghost use Rattle.resb.specs.Copied.{CopiesBytes};
 ghost use Rattle.resb.specs.Lists.{zero_ended, Lists, CopiesKey};
 ghost use Rattle.resb.specs.Looks.{answer_in};
 ghost use Rattle.resb.specs.inner.Query.{answer_to};
@@ -26,10 +27,8 @@ fn joined(alloc: Global, names: &[Name]) -> Result<Vec<u8>, AllocError>
 
 /// Copies bytes to the front of a buffer, or writes only their number if it is short.
 pub(crate) fn copy_bytes(bytes: &[u8], out: &mut [u8], len: &mut usize) -> u32
+    ensures copied { CopiesBytes bytes.now result len.new (length out.old) (take len.new out.new) }
     ensures count { len.new ≡ length bytes.now }
-    ensures number { (result ≡ 0) ⊎ (result ≡ 5) }
-    ensures copied { result ≡ 0 → take len.new out.new ≡ bytes.now }
-    ensures room { result ≡ 5 → length out.old < len.new }
     ensures unchanged { result ≢ 0 → out.new ≡ out.old }
 {
     *len = bytes.len();

@@ -1,19 +1,16 @@
 use Rattle.std.proofs.Common.{ℕ, List, inl, length, subst, take}
 use Rattle.rb_format.specs.File.{tree_of}
 use Rattle.resb.specs.AliasTargets.{IsTargetList}
-use Rattle.resb.proofs.Copies.{copies_bytes}
 use Rattle.resb.proofs.alias_targets.resb_alias_targets.Goals as goal
 
 pub returns-in-Ok-list_of-clause-list : goal.returns-in-Ok-list_of-clause-list
 returns-in-Ok-list_of-clause-list c =
-    let told = c.copy_bytes.ensures in
     let list = c.in-Ok-list_of.list.items in
     inl (
       c.in-Ok.ensures.good,
       (
         list,
         subst (λ (file : List ℕ). IsTargetList (tree_of file) list) c.in-Ok.ensures.bundle c.in-Ok-list_of.ensures,
-        copies_bytes list c.deref.result.now c.copy_bytes.result c.copy_bytes.new.len (length c.args.out.now)
-            (take c.copy_bytes.new.len c.copy_bytes.new.out) c.deref.ensures.value told.count told.number told.copied told.room,
+        rw c.deref.ensures.value at c.copy_bytes.ensures.copied,
       ),
     )

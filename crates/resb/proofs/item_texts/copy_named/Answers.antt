@@ -1,7 +1,6 @@
 use Rattle.std.proofs.Common.{inr, length, sym, take}
 use Rattle.rb_parents.specs.Family.{family_pairs}
 use Rattle.rb_packages.specs.Lent.{files_in}
-use Rattle.resb.proofs.Copies.{copies_bytes}
 use Rattle.resb.proofs.FoundItems.{named_copy}
 use Rattle.resb.proofs.item_texts.copy_named.Goals as goal
 
@@ -9,7 +8,6 @@ pub returns-in-Ok-tree_of-clause-tree : goal.returns-in-Ok-tree_of-clause-tree
 returns-in-Ok-tree_of-clause-tree c some hit p at good search =
     let shelves = c.shelves.result in
     let lent = c.shelves.ensures in
-    let told = c.copy_bytes.ensures in
     let tree = c.in-Ok-tree_of.tree.items in
     let room = length c.args.out.now in
     let copy = take c.copy_bytes.new.len c.copy_bytes.new.out in
@@ -19,6 +17,5 @@ returns-in-Ok-tree_of-clause-tree c some hit p at good search =
     (λ path found. inr (inr (
       tree,
       c.in-Ok-tree_of.ensures.tree hit path found,
-      copies_bytes tree c.deref.result.now c.copy_bytes.result c.copy_bytes.new.len room copy c.deref.ensures.value told.count told.number
-          told.copied told.room,
+      rw c.deref.ensures.value at c.copy_bytes.ensures.copied,
     ))) p at good search
