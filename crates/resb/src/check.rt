@@ -2,7 +2,7 @@ ghost use Rattle.std.specs.Prelude.{◌≡◌, ◌≢◌};
 ghost use Rattle.rb_format.specs.File.{Denotes, source_tree_of};
 ghost use Rattle.resb.specs.Numbers.{IsFileError};
 
-use crate::numbers::file_number;
+use crate::numbers::{file_number, or_number};
 use rb_validator::check;
 use std::alloc::Global;
 
@@ -12,8 +12,6 @@ pub extern "C" fn resb_check(alloc: Global, bytes: &[u8]) -> u32
     ensures bundle { result ≡ 0 → Denotes bytes.now (source_tree_of bytes.now) }
     ensures fault { result ≢ 0 → IsFileError bytes.now result }
 {
-    match check(alloc, bytes) {
-        Ok(()) => 0,
-        Err(fault) => file_number(fault),
-    }
+    or_number!(check(alloc, bytes) => file_number);
+    0
 }

@@ -147,9 +147,8 @@ pub extern "C" fn resb_lint(
         *count = 1;
         return NO_ROOM;
     };
-    let (findings, left_out) = match findings_of(alloc, text, name, limit) {
-        Ok(found) => found,
-        Err(_) => return MEMORY,
+    let Ok((findings, left_out)) = findings_of(alloc, text, name, limit) else {
+        return MEMORY;
     };
     out[..findings.len()].copy_from_slice(&findings);
     *count = findings.len();

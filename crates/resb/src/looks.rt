@@ -37,13 +37,9 @@ fn look_unlimited(engine: &Engine, query: Query<'_>, found: &mut Found) -> u32
         found.new.kind found.new.count found.new.number }
     ensures unchanged { result ≢ 0 → found.new ≡ found.old }
 {
-    match engine.look(query.app, query.locale, query.path) {
-        Ok(it) => {
-            *found = Found::of(it.node);
-            0
-        }
-        Err(fault) => look_number(fault),
-    }
+    let it = or_number!(engine.look(query.app, query.locale, query.path) => look_number);
+    *found = Found::of(it.node);
+    0
 }
 
 /// Looks up by names, in at most `left` steps; `None` is no limit.

@@ -8,7 +8,7 @@ ghost use Rattle.resb.specs.OpenLocales.{RefusesWith};
 
 use crate::found::Found;
 use crate::held::with_engine;
-use crate::numbers::{STALE, TOO_MANY_STEPS, look_number};
+use crate::numbers::{STALE, TOO_MANY_STEPS, look_number, or_number};
 use rb_engine::{Engine, OpenLocale, Stale, TooManySteps};
 use rb_handle::Handle;
 use std::alloc::Global;
@@ -20,13 +20,8 @@ fn open_in(engine: &Engine, app: &[u8], locale: &[u8], opened: &mut OpenLocale) 
     ensures refused { result ≢ 0 → RefusesWith engine.now app.now locale.now result }
     ensures unchanged { result ≢ 0 → opened.new ≡ opened.old }
 {
-    match engine.open_locale(app, locale) {
-        Ok(it) => {
-            *opened = it;
-            0
-        }
-        Err(fault) => look_number(fault),
-    }
+    *opened = or_number!(engine.open_locale(app, locale) => look_number);
+    0
 }
 
 /// Opens a locale of an application for lookups by `resb_look_at`, which read neither the names nor

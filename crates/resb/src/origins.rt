@@ -11,7 +11,7 @@ ghost use Rattle.resb.specs.Origins.{ComesFrom, IsNameIn};
 use crate::found::Found;
 use crate::held::with_engine;
 use crate::looks::{Query, keep_open};
-use crate::numbers::{STALE, look_number};
+use crate::numbers::{STALE, look_number, or_number};
 use rb_engine::{Engine, OpenLocale};
 use rb_handle::Handle;
 use rb_locales::Name;
@@ -74,14 +74,10 @@ fn look_in(engine: &Engine, query: Query<'_>, found: &mut Found, origin: &mut Or
     ensures unchanged { result ≢ 0 → found.new ≡ found.old }
     ensures same_origin { result ≢ 0 → origin.new ≡ origin.old }
 {
-    match engine.look(query.app, query.locale, query.path) {
-        Ok(it) => {
-            *found = Found::of(it.node);
-            *origin = Origin::of(&it.actual, &it.valid);
-            0
-        }
-        Err(fault) => look_number(fault),
-    }
+    let it = or_number!(engine.look(query.app, query.locale, query.path) => look_number);
+    *found = Found::of(it.node);
+    *origin = Origin::of(&it.actual, &it.valid);
+    0
 }
 
 /// Looks up like `resb_look`, and writes the names of the bundle that has the item and of the first

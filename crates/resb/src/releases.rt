@@ -34,15 +34,10 @@ fn draft_edit(alloc: Global, draft: &mut Draft, edit: &mut Edit<'_>) -> u32
         return BAD_LOCALE;
     };
     match bundle {
-        Some(bundle) => match draft.put(name, Box::into_inner(bundle)) {
-            Ok(()) => 0,
-            Err(fault) => draft_number(fault),
-        },
-        None => match draft.remove(name) {
-            Ok(()) => 0,
-            Err(fault) => draft_number(fault),
-        },
+        Some(bundle) => or_number!(draft.put(name, Box::into_inner(bundle)) => draft_number),
+        None => or_number!(draft.remove(name) => draft_number),
     }
+    0
 }
 
 /// Adds changes to a draft, up to the first that is refused, whose index it writes.

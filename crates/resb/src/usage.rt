@@ -5,7 +5,7 @@ ghost use Rattle.rb_packages.specs.Usage.{apps_of};
 ghost use Rattle.resb.specs.Usage.{Uses};
 
 use crate::held::with_engine;
-use crate::numbers::app_number;
+use crate::numbers::{app_number, or_number};
 use rb_engine::{App, Engine};
 use rb_handle::Handle;
 use std::alloc::Global;
@@ -15,15 +15,11 @@ fn usage_in(engine: &Engine, app: &[u8], bytes: &mut u64, bundles: &mut u64) -> 
     ensures same_bytes { result ≢ 0 → bytes.new ≡ bytes.old }
     ensures same_bundles { result ≢ 0 → bundles.new ≡ bundles.old }
 {
-    match App::read(app) {
-        Ok(app) => {
-            let usage = engine.usage(&app);
-            *bytes = usage.bytes;
-            *bundles = usage.bundles;
-            0
-        }
-        Err(fault) => app_number(fault),
-    }
+    let app = or_number!(App::read(app) => app_number);
+    let usage = engine.usage(&app);
+    *bytes = usage.bytes;
+    *bundles = usage.bundles;
+    0
 }
 
 /// Writes the total length of the files that an application stores, and the number of its bundles.

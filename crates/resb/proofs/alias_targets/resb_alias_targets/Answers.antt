@@ -1,4 +1,4 @@
-use Rattle.std.proofs.Common.{ℕ, List, inl, length, subst, take}
+use Rattle.std.proofs.Common.{ℕ, List, inl, subst}
 use Rattle.rb_format.specs.File.{tree_of}
 use Rattle.resb.specs.AliasTargets.{IsTargetList}
 use Rattle.resb.proofs.alias_targets.resb_alias_targets.Goals as goal
