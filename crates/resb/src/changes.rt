@@ -148,19 +148,6 @@ fn named(app: &[u8], locale: &[u8], bundle: Bundle) -> Result<IncomingBundle, Bu
     Ok(IncomingBundle::of(&app, &name, bundle))
 }
 
-/// Stores a bundle if no other handle has the engine.
-fn put_alone(engine: &mut Arc<Engine>, change: Change, incoming: IncomingBundle) -> u32
-    ensures { (app locale : List ℕ) → (payload : Payload)
-        → Reads app locale payload (Ok incoming)
-        → Changes engine.old.value (change_request change app locale payload) result
-        engine.new.value }
-{
-    match Arc::get_mut(engine) {
-        Some(engine) => reply_number(&engine.put(change, incoming)),
-        None => SHARED,
-    }
-}
-
 fn put_in(
     engine: &mut Arc<Engine>,
     alloc: Global,
@@ -173,7 +160,10 @@ fn put_in(
         result engine.new.value }
 {
     match named(app, locale, bundle) {
-        Ok(incoming) => put_alone(engine, change, incoming),
+        Ok(incoming) => match Arc::get_mut(engine) {
+            Some(engine) => reply_number(&engine.put(change, incoming)),
+            None => SHARED,
+        },
         // The engine refuses an invalid name before it reads the file.
         Err(bundle) => change_in(engine, alloc, change, app, locale, bundle.bytes(), false),
     }

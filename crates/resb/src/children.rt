@@ -9,8 +9,7 @@ ghost use Rattle.resb.specs.Looks.{answer_in};
 ghost use Rattle.resb.specs.inner.Query.{answer_to};
 
 use crate::found::{Found, start_of};
-use crate::held::with_engine;
-use crate::looks::{Query, keep_open};
+use crate::looks::{Query, with_open};
 use crate::numbers::{NO_ROOM, OTHER_KIND, look_number, or_number};
 use rb_engine::Engine;
 use rb_handle::Handle;
@@ -123,8 +122,5 @@ pub extern "C" fn resb_children(
     ensures closed { IfNone (engine_of handle.old) (result ≡ 2) }
 {
     let query = Query { app, locale, path };
-    with_engine!(alloc, handle, engine => {
-        keep_open(&mut engine, query);
-        children_in(&engine, query, out, count)
-    })
+    with_open!(alloc, handle, query, engine => children_in(&engine, query, out, count))
 }

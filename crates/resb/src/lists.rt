@@ -6,7 +6,7 @@ ghost use Rattle.resb.specs.Looks.{answer_in};
 ghost use Rattle.resb.specs.inner.Query.{answer_to};
 
 use crate::held::with_engine;
-use crate::looks::{Query, keep_open};
+use crate::looks::{Query, with_open};
 use crate::numbers::{MEMORY, NO_ENTRY, NO_ROOM, OTHER_KIND, look_number, or_number, reply_number};
 use rb_engine::{Engine, Reply};
 use rb_handle::Handle;
@@ -108,8 +108,5 @@ pub extern "C" fn resb_key(
     ensures closed { IfNone (engine_of handle.old) (result ≡ 2) }
 {
     let query = Query { app, locale, path };
-    with_engine!(alloc, handle, engine => {
-        keep_open(&mut engine, query);
-        key_in(&engine, query, index, out, len)
-    })
+    with_open!(alloc, handle, query, engine => key_in(&engine, query, index, out, len))
 }

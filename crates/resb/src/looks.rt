@@ -31,6 +31,18 @@ pub(crate) fn keep_open(engine: &mut Arc<Engine>, query: Query<'_>)
     }
 }
 
+/// Evaluates a result with the engine of a handle, which keeps the locale of a query open.
+macro_rules! with_open {
+    ($alloc:ident, $handle:ident, $query:ident, $engine:ident => $result:expr) => {
+        $crate::held::with_engine!($alloc, $handle, $engine => {
+            $crate::looks::keep_open(&mut $engine, $query);
+            $result
+        })
+    };
+}
+
+pub(crate) use with_open;
+
 fn look_unlimited(engine: &Engine, query: Query<'_>, found: &mut Found) -> u32
     ensures few { result ≢ 30 }
     ensures answer { Describes (answer_to engine.now query.entry) result
@@ -203,8 +215,5 @@ pub extern "C" fn resb_text(
     ensures closed { IfNone (engine_of handle.old) (result ≡ 2) }
 {
     let query = Query { app, locale, path };
-    with_engine!(alloc, handle, engine => {
-        keep_open(&mut engine, query);
-        copy_in(&engine, query, out, len)
-    })
+    with_open!(alloc, handle, query, engine => copy_in(&engine, query, out, len))
 }

@@ -10,7 +10,7 @@ ghost use Rattle.resb.specs.Origins.{ComesFrom, IsNameIn};
 
 use crate::found::Found;
 use crate::held::with_engine;
-use crate::looks::{Query, keep_open};
+use crate::looks::{Query, with_open};
 use crate::numbers::{STALE, look_number, or_number};
 use rb_engine::{Engine, OpenLocale};
 use rb_handle::Handle;
@@ -103,10 +103,7 @@ pub extern "C" fn resb_look_origin(
     ensures closed { IfNone (engine_of handle.old) (result ≡ 2) }
 {
     let query = Query { app, locale, path };
-    with_engine!(alloc, handle, engine => {
-        keep_open(&mut engine, query);
-        look_in(&engine, query, found, origin)
-    })
+    with_open!(alloc, handle, query, engine => look_in(&engine, query, found, origin))
 }
 
 fn look_at(

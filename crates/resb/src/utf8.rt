@@ -7,9 +7,8 @@ ghost use Rattle.rb_handle.specs.Stored.{engine_of};
 ghost use Rattle.resb.specs.Looks.{CopiesUtf8, answer_in};
 ghost use Rattle.resb.specs.inner.Query.{answer_to};
 
-use crate::held::with_engine;
 use crate::lists::copy_bytes;
-use crate::looks::{Query, copy_units, keep_open};
+use crate::looks::{Query, copy_units, with_open};
 use crate::numbers::{MEMORY, OTHER_KIND, look_number, or_number};
 use rb_engine::Engine;
 use rb_handle::Handle;
@@ -67,8 +66,5 @@ pub extern "C" fn resb_text_utf8(
     ensures closed { IfNone (engine_of handle.old) (result ≡ 2) }
 {
     let query = Query { app, locale, path };
-    with_engine!(alloc, handle, engine => {
-        keep_open(&mut engine, query);
-        copy_utf8(&engine, alloc, query, out, len)
-    })
+    with_open!(alloc, handle, query, engine => copy_utf8(&engine, alloc, query, out, len))
 }
