@@ -51,8 +51,8 @@ macro_rules! with_bundle {
     };
 }
 
-/// Evaluates what a handle without contents gets, and returns 0 or the number of the error. A handle
-/// with contents keeps them, which gives `OPEN`.
+/// Evaluates what a handle without contents gets, and returns 0 or the number of the error. A
+/// handle with contents keeps them, which gives `OPEN`.
 macro_rules! fill {
     ($take:ident, $kind:ident, $alloc:ident, $handle:ident => $made:expr) => {
         match $crate::held::$take($alloc, $handle) {

@@ -84,7 +84,8 @@ fn look_kept_in(
 ) -> Option<u32>
     ensures within { IfSome result
         (λ number. number ≢ 30 → exceeds engine.now left query.entry ≡ false) }
-    ensures more { IfSome result (λ number. number ≡ 30 → exceeds engine.now left query.entry ≡ true) }
+    ensures more { IfSome result
+        (λ number. number ≡ 30 → exceeds engine.now left query.entry ≡ true) }
     ensures answer { IfSome result (λ number. number ≢ 30 → Describes
         (answer_to engine.now query.entry) number found.new.kind found.new.count found.new.number) }
     ensures unchanged { IfSome result (λ number. number ≢ 0 → found.new ≡ found.old) }

@@ -70,7 +70,8 @@ impl Origin {
 fn look_in(engine: &Engine, query: Query<'_>, found: &mut Found, origin: &mut Origin) -> u32
     ensures answer { Describes (answer_to engine.now query.entry) result
         found.new.kind found.new.count found.new.number }
-    ensures origin { ComesFrom (answer_to engine.now query.entry) origin.new.actual origin.new.valid }
+    ensures origin { ComesFrom (answer_to engine.now query.entry)
+        origin.new.actual origin.new.valid }
     ensures unchanged { result ≢ 0 → found.new ≡ found.old }
     ensures same_origin { result ≢ 0 → origin.new ≡ origin.old }
 {

@@ -12,7 +12,6 @@ use crate::numbers::{BAD_LOCALE, MEMORY, SHARED, app_number, draft_number, or_nu
 use rb_engine::{App, Draft, Engine};
 use rb_handle::Handle;
 use rb_locales::Name;
-use rb_validator::Bundle;
 use std::alloc::Global;
 use std::sync::Arc;
 
