@@ -111,7 +111,7 @@ refuse_files() {
 }
 
 # each FEWEST leaves at least 30 blocks more than the calls allocate
-refuse memory 930 :30 30q rb_engine rb_fallback rb_packages rb_validator rb_format rb_locales rb_parents rb_views rb_tree
+refuse memory 1000 :30 30q rb_engine rb_fallback rb_packages rb_validator rb_format rb_locales rb_parents rb_views rb_tree
 [ "$(left 30q)" = "$(left 30)" ] || fails 'lookups, replacements or removals take memory'
 echo 'ok: lookups, replacements and removals take none'
 refuse_files 220
