@@ -19,7 +19,7 @@ use rb_replies::{
 };
 use std::alloc::{AllocError, Global};
 
-/// What a long line says.
+/// The content of a line that may be long.
 #[derive(Clone, Copy)]
 pub(crate) enum LongLine<'a> {
     /// A bundle's file.
