@@ -47,8 +47,7 @@ impl Builder {
         if self.pending.is_none() {
             return Ok(());
         }
-        if let Some(mut pending) = self.pending.take() {
-            pending.units.shrink_to_fit();
+        if let Some(pending) = self.pending.take() {
             self.tokens.push_back(Token {
                 what: Mark::Text(pending.units),
                 first: pending.first,

@@ -176,6 +176,5 @@ fn read_array(alloc: Global, cursor: &mut Cursor, depth: u64) -> Result<Tree, So
         cursor.take(Punctuation::Comma)?;
     }
     cursor.expect(Punctuation::Right)?;
-    trees.shrink_to_fit();
     Ok(Tree::Array(TreeList::from_vec(trees)))
 }

@@ -5,8 +5,8 @@ use Rattle.rb_tree.specs.declared.key.KeyBytes.TheVariants.{Short, Long}
 
 abbrev pub bytes_of : KeyBytes → List ℕ
 bytes_of (Short s) = take s.len s.bytes
-bytes_of (Long list) = list.value
+bytes_of (Long list) = list
 
 abbrev pub IsWithin : KeyBytes → Type 0
-IsWithin (Short s) = s.len ≤ 14
+IsWithin (Short s) = s.len ≤ 30
 IsWithin (Long list) = Unit {0}

@@ -10,10 +10,10 @@ use std::alloc::{AllocError, Global};
 use std::cmp::Ordering;
 use std::marker::Model;
 
-const IN_PLACE: usize = 14;
+const IN_PLACE: usize = 30;
 
-/// The bytes of a table's key, in 16 bytes. Short keys are stored inline: most keys are short, and a
-/// heap block for each would cost more than all other work on them.
+/// The bytes of a table's key. Short keys are stored inline: most keys are short, and a heap block
+/// for each would cost more than all other work on them.
 #[derive(Drop)]
 pub struct Key {
     bytes: KeyBytes,
@@ -22,7 +22,7 @@ pub struct Key {
 #[derive(Drop)]
 enum KeyBytes {
     Short(ShortBytes),
-    Long(Box<ByteList>),
+    Long(ByteList),
 }
 
 #[derive(Clone, Copy)]
@@ -55,21 +55,30 @@ impl Key {
         }
     }
 
-    /// Copies the bytes; allocates only for more than 14. `Err` means out of memory.
+    pub fn of(list: ByteList) -> Key
+        ensures { result ≡ list }
+    {
+        if list.as_slice().len() > IN_PLACE {
+            return Key {
+                bytes: KeyBytes::Long(list),
+            };
+        }
+        Key::short(list.as_slice())
+    }
+
+    /// Copies the bytes; allocates only for more than 30. `Err` means out of memory.
     pub fn copied(alloc: Global, bytes: &[u8]) -> Result<Key, AllocError>
         ensures { IfOk result (λ key. key ≡ bytes.now) }
     {
         if bytes.len() > IN_PLACE {
-            let list = ByteList::from_vec(bytes.to_vec(alloc)?);
-            return Ok(Key {
-                bytes: KeyBytes::Long(Box::new(alloc, list)?),
-            });
+            let bytes = bytes.to_vec(alloc)?;
+            return Ok(Key::of(ByteList::from_vec(bytes)));
         }
         Ok(Key::short(bytes))
     }
 
     fn short(list: &[u8]) -> Key
-        requires { length list.now ≤ 14 }
+        requires { length list.now ≤ 30 }
         ensures { result ≡ list.now }
     {
         let mut bytes = [0; IN_PLACE];

@@ -16,7 +16,6 @@ use Rattle.rb_parser.proofs.Loops.{entries_begin, entries_bad_key, entries_bad_b
 use Rattle.rb_parser.proofs.Loops.{elements_begin, elements_too_deep, elements_bad_body, elements_open, elements_done, elements_text, elements_body}
 use Rattle.rb_parser.proofs.Steps.{text_parts}
 use Rattle.rb_parser.proofs.Takes.{next_text, next_colon, next_left, next_body, next_other, no_body}
-use Rattle.rb_tree.specs.View.{views_of}
 use Rattle.rb_parser.proofs.parser.+body.Goals.{read_array-in-Text+else-depth-eq0+in_ok-text-in-Text+in_ok-add_tree-in-Text}
 use Rattle.rb_parser.proofs.parser.+body.Goals.{read_array-in-Left+in_ok-read_body-in-Left+in_ok-add_tree-in-Left}
 use Rattle.rb_parser.proofs.parser.+body.Goals as goal
@@ -193,7 +192,7 @@ pub read_array-returns-clause-exact : goal.read_array-returns-clause-exact
 read_array-returns-clause-exact t c =
     let x = elements_done c.elements.invariant c.expect.new.self.rest (next_other c.elements.cursor.rest (sym c.next.ensures ∙ c.in-Other.is))
     c.in_ok-expect.ensures.exact in
-    (x.0, x.1, (_, ap (λ v. Rattle.rb_tree.specs.Resource.array v) (c.from_vec.ensures ∙ ap views_of c.shrink_to_fit.ensures.items), x.2))
+    (x.0, x.1, (_, ap (λ v. Rattle.rb_tree.specs.Resource.array v) c.from_vec.ensures, x.2))
 
 pub read_array-elements-preserved : goal.read_array-elements-preserved
 read_array-elements-preserved t c =
